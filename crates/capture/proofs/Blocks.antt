@@ -24,9 +24,9 @@ module _ (order : Order) (code n : ℕ) where
   tells_later : (bytes value : List ℕ) (other m : ℕ) → IsOption order bytes other m
       → ((other ≡ code) × (m ≡ n) → ⊥) → Tells bytes value → Tells (drop (option_end m) bytes) value
   tells_later bytes value other m is differs (here found e) =
-      absurd (differs (sym is.code_ ∙ found.code_, sym is.length_ ∙ found.length_))
+      absurd (differs (sym is.code_is ∙ found.code_is, sym is.length_is ∙ found.length_is))
   tells_later bytes value other m is differs (later other' m' is' some differs' rest) =
-      subst (λ k. Tells (drop (option_end k) bytes) value) (sym is'.length_ ∙ is.length_) rest
+      subst (λ k. Tells (drop (option_end k) bytes) value) (sym is'.length_is ∙ is.length_is) rest
 
   -- what the code reads from the bytes after an option
   pub tells_behind : (bytes value : List ℕ) (other m most : ℕ) → IsOption order bytes other m → other ≢ 0
@@ -40,7 +40,7 @@ module _ (order : Order) (code n : ℕ) where
 
   pub option_of : (bytes : List ℕ) (other m : ℕ) → 4 ≤ length bytes → other ≡ number_in order (field 0 2) bytes
       → m ≡ number_in order (field 2 4) bytes → option_end m ≤ length bytes → IsOption order bytes other m
-  option_of bytes other m there c l whole = record { there = there; code_ = sym c; length_ = sym l; whole = whole }
+  option_of bytes other m there c l whole = record { there = there; code_is = sym c; length_is = sym l; whole = whole }
 
   -- no option, or another one that ends the list
   tells_none : (bytes value : List ℕ)
@@ -55,7 +55,7 @@ module _ (order : Order) (code n : ℕ) where
   pub cut_tells_none : (bytes value : List ℕ) (m : ℕ) → m ≡ number_in order (field 2 4) bytes
       → length bytes < option_end m → Tells bytes value → ⊥
   cut_tells_none bytes value m l short =
-      tells_none bytes value (λ other k is. let same : m ≡ k = l ∙ is.length_ in
+      tells_none bytes value (λ other k is. let same : m ≡ k = l ∙ is.length_is in
       absurd (omega (arith, same, short, is.whole)))
 
   pub end_tells_none : (bytes value : List ℕ) (other m : ℕ) → other ≡ number_in order (field 0 2) bytes
@@ -63,14 +63,14 @@ module _ (order : Order) (code n : ℕ) where
       → Tells bytes value → ⊥
   end_tells_none bytes value other m c l zero differs =
       tells_none bytes value (λ other' m' is. (
-        sym is.code_ ∙ sym c ∙ zero,
-        λ both. differs (c ∙ is.code_ ∙ both.0, l ∙ is.length_ ∙ both.1),
+        sym is.code_is ∙ sym c ∙ zero,
+        λ both. differs (c ∙ is.code_is ∙ both.0, l ∙ is.length_is ∙ both.1),
       ))
 
   one_told : (bytes v w : List ℕ) → Tells bytes v → Tells bytes w → v ≡ w
   one_told bytes v w (here found e) (here found' e') = e ∙ sym e'
   one_told bytes v w (here found e) (later other m is some differs rest) =
-      absurd (differs (sym is.code_ ∙ found.code_, sym is.length_ ∙ found.length_))
+      absurd (differs (sym is.code_is ∙ found.code_is, sym is.length_is ∙ found.length_is))
   one_told bytes v w (later other m is some differs rest) tells =
       one_told (drop (option_end m) bytes) v w rest (tells_later bytes w other m is differs tells)
 
@@ -99,21 +99,21 @@ pub is_interface : (order : Order) (bytes options : List ℕ) (link_type snap_le
     (record { link_type = link_type; snap_len = snap_len; resolution = resolution; offset = offset })
 is_interface order bytes options link_type snap_len resolution offset said whole l s e r o same = record {
   whole = whole;
-  link_type_ = l;
-  snap_len_ = s;
-  resolution_ = subst (λ l. HasResolution order l resolution) e r;
-  offset_ = subst (λ l. HasOffset order l offset) e (subst (HasOffset order options) (sym same) o);
+  link_type = l;
+  snap_len = s;
+  resolution = subst (λ l. HasResolution order l resolution) e r;
+  offset = subst (λ l. HasOffset order l offset) e (subst (HasOffset order options) (sym same) o);
 }
 
 pub one_interface : (order : Order) (bytes : List ℕ) (i j : Interface) → IsInterface order bytes i
     → IsInterface order bytes j → i ≡ j
 one_interface order bytes i j is is' =
     let options = part bytes 16 (length bytes - 4) in
-    let link : i.link_type ≡ j.link_type = is.link_type_ ∙ sym is'.link_type_ in
-    let snap : i.snap_len ≡ j.snap_len = is.snap_len_ ∙ sym is'.snap_len_ in
+    let link : i.link_type ≡ j.link_type = is.link_type ∙ sym is'.link_type in
+    let snap : i.snap_len ≡ j.snap_len = is.snap_len ∙ sym is'.snap_len in
     let same : i.resolution ≡ j.resolution =
-    one_resolution order options i.resolution j.resolution is.resolution_ is'.resolution_ in
-    let moves : i.offset ≡ j.offset = one_offset order options i.offset j.offset is.offset_ is'.offset_ in
+    one_resolution order options i.resolution j.resolution is.resolution is'.resolution in
+    let moves : i.offset ≡ j.offset = one_offset order options i.offset j.offset is.offset is'.offset in
     rw (link, snap, same, moves) refl
 
 -- ---- packets

@@ -103,7 +103,7 @@ pub reads_splits : (all octets : List ℕ) (left : Option (List ℕ)) (n : ℕ) 
 reads_splits all octets left n reads = record {
   rest = drop n all;
   split = sym (take-append-drop n all) ∙ ap (λ l. l ++ drop n all) (sym reads.front);
-  left_ = reads.rest;
+  left_is = reads.rest;
 }
 
 pub reads_length : (all octets : List ℕ) (left : Option (List ℕ)) (n k : ℕ) → Reads all left octets n → k ≤ n

@@ -5,7 +5,7 @@ use Rattle.std.specs.Option.{option_map}
 use Rattle.std.proofs.lemmas.List.{length-take, take-take}
 use Rattle.capture.specs.Capture.{most_octets}
 use Rattle.capture.specs.Packet.{packet_in}
-use Rattle.capture.specs.Pcap.{IsRecord, IsRecordHeader, RecordEnds, whole_, head_cut, cut, large}
+use Rattle.capture.specs.Pcap.{IsRecord, IsRecordHeader, RecordEnds, ends_whole, head_cut, cut, large}
 use Rattle.capture.specs.Reader.{Reads}
 use Rattle.capture.specs.Taken.{Splits}
 use Rattle.capture.specs.Time.{IsTime, value_of, time_value, fraction_of, digits_in}
@@ -25,11 +25,11 @@ use Rattle.capture.proofs.Filling.{no_byte, reads_splits}
 told_time : (o : Option Time) (nanoseconds digits : ℕ) → IsSomeAnd o (λ time. IsTime time nanoseconds digits)
     → option_map value_of o ≡ Some (time_value nanoseconds digits)
 told_time None nanoseconds digits is = absurd is
-told_time (Some time) nanoseconds digits is = rw (is.sum_, is.digits_) refl
+told_time (Some time) nanoseconds digits is = rw (is.sum, is.digits_are) refl
 
 module _ (h : FileHeader) (all : List ℕ) where
   head_ends : (ending : Ending) → RecordHeadEnds h.order (take 16 all) ending → RecordEnds most_octets h all ending
-  head_ends Whole none' = whole_ (no_byte all (omega (arith, ap length none', length-take 16 all)))
+  head_ends Whole none' = ends_whole (no_byte all (omega (arith, ap length none', length-take 16 all)))
   head_ends Cut short =
       head_cut (λ e. short.0 (ap (take 16) e)) (omega (arith, short.1, length-take 16 all))
   head_ends TooLarge many = large many.0 many.1 many.2
@@ -39,7 +39,7 @@ module _ (h : FileHeader) (all : List ℕ) where
   head_ends NotACapture no' = absurd no'
 
   pub record_ends : (ending : Ending) → UnitEnds 16 record_form h.order all ending → RecordEnds most_octets h all ending
-  record_ends ending (none e is) = subst (RecordEnds most_octets h all) (sym is) (whole_ e)
+  record_ends ending (none e is) = subst (RecordEnds most_octets h all) (sym is) (ends_whole e)
   record_ends ending (no_head ends) = head_ends ending ends
   record_ends ending (unit.cut r is short e) =
       subst (RecordEnds most_octets h all) (sym e) (cut r is.0 is.1 short)
@@ -60,9 +60,9 @@ module _ (h : FileHeader) (all : List ℕ) where
           is_head = subst (λ l. IsRecordHeader h.order l r) front read.0.0;
           whole = omega (arith, ap length reads.front, length-take (16 + r.captured_len) all, read.2);
           few = read.0.1;
-          time_ = told_time k.time _ _ time;
-          link_type_ = link;
-          original_len_ = original;
-          octets_ = rw (start, captured) refl;
+          time_is = told_time k.time _ _ time;
+          link_type = link;
+          original_len = original;
+          octets = rw (start, captured) refl;
         },
       )

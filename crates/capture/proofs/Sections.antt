@@ -81,11 +81,11 @@ module _ (section : Order) (interfaces : List Interface) (all : List ℕ) (left 
   front_splits = record {
     rest = drop h.total_len all;
     split = sym (take-append-drop h.total_len all);
-    left_ = behind;
+    left_is = behind;
   }
 
   front_head : IsHead section (take 12 (take h.total_len all)) h
-  front_head = subst (λ l. IsHead section l h) (sym (take-take 12 h.total_len all is.length_.least)) is
+  front_head = subst (λ l. IsHead section l h) (sym (take-take 12 h.total_len all is.length_is.least)) is
 
   pub block_whole : (octets : List ℕ) → octets ≡ take h.total_len all → IsRead h.kind
       → IsWholeBlock section octets h

@@ -86,51 +86,51 @@ file_ends old all octets front left start e other reads ending is =
 -- what is established from here on was established from the first on
 pub record SoFar (before now : State) (all : List ℕ) (left : Option (List ℕ)) : Type 0 where
   pub rest : List ℕ
-  pub left_ : left ≡ Some rest
+  pub left_is : left ≡ Some rest
   pub holds : (packets : List PacketValue) (ending : Ending) → Holds now rest packets ending
       → Holds before all packets ending
 
 pub so_far-init : (s : State) (left : Option (List ℕ)) → IfSome left (λ all. SoFar s s all left)
 so_far-init s None = tt
-so_far-init s (Some all) = record { rest = all; left_ = refl; holds = λ packets ending h. h }
+so_far-init s (Some all) = record { rest = all; left_is = refl; holds = λ packets ending h. h }
 
 behind : (mid : Option (List ℕ)) (rest : List ℕ) → mid ≡ Some rest → Reads rest mid [] 0
 behind mid rest e = record { front = refl; rest = e }
 
-module _ (first_ old new : State) (octets : List ℕ) (mid left : Option (List ℕ)) (s : Step)
+module _ (begin old new : State) (octets : List ℕ) (mid left : Option (List ℕ)) (s : Step)
     (gives : (all : List ℕ) → Reads all mid [] 0 → StepGives old all s octets new left) where
   given : (all : List ℕ) (t : Step) → s ≡ t → Reads all mid [] 0 → StepGives old all t octets new left
   given all t e none = subst (λ x. StepGives old all x octets new left) e (gives all none)
 
-  pub so_far-more : s ≡ step.Passed → (o : Option (List ℕ)) → IfSome o (λ all. SoFar first_ old all mid)
-      → IfSome o (λ all. SoFar first_ new all left)
+  pub so_far-more : s ≡ step.Passed → (o : Option (List ℕ)) → IfSome o (λ all. SoFar begin old all mid)
+      → IfSome o (λ all. SoFar begin new all left)
   so_far-more e None so = tt
   so_far-more e (Some all) so =
-      let is = given so.rest step.Passed e (behind mid so.rest so.left_) in
+      let is = given so.rest step.Passed e (behind mid so.rest so.left_is) in
       record {
         rest = is.1.rest;
-        left_ = is.1.left_;
+        left_is = is.1.left_is;
         holds = λ packets ending h. so.holds packets ending (passes is.0 is.1.rest new is.1.split is.2 h);
       }
 
   pub so_far-ended : (ending : Ending) → s ≡ step.Ended ending → (o : Option (List ℕ))
-      → IfSome o (λ all. SoFar first_ old all mid)
-      → IfSome o (λ all. GivesNext first_ all (next.Ended ending) [] (state (stage.End ending) []) left)
+      → IfSome o (λ all. SoFar begin old all mid)
+      → IfSome o (λ all. GivesNext begin all (next.Ended ending) [] (state (stage.End ending) []) left)
   so_far-ended ending e None so = tt
   so_far-ended ending e (Some all) so =
-      (so.holds [] ending (ends (given so.rest (step.Ended ending) e (behind mid so.rest so.left_))), refl)
+      (so.holds [] ending (ends (given so.rest (step.Ended ending) e (behind mid so.rest so.left_is))), refl)
 
-  pub so_far-packet : (k : Packet) → s ≡ step.Packet k → (r : Record) (now : State) (kept_ : List ℕ)
-      → packet_of r kept_ ≡ packet_in k octets → now ≡ new → (o : Option (List ℕ))
-      → IfSome o (λ all. SoFar first_ old all mid)
-      → IfSome o (λ all. GivesNext first_ all (next.Record r) kept_ now left)
-  so_far-packet k e r now kept_ same still None so = tt
-  so_far-packet k e r now kept_ same still (Some all) so =
-      let is = given so.rest (step.Packet k) e (behind mid so.rest so.left_) in (
+  pub so_far-packet : (k : Packet) → s ≡ step.Packet k → (r : Record) (now : State) (stored : List ℕ)
+      → packet_of r stored ≡ packet_in k octets → now ≡ new → (o : Option (List ℕ))
+      → IfSome o (λ all. SoFar begin old all mid)
+      → IfSome o (λ all. GivesNext begin all (next.Record r) stored now left)
+  so_far-packet k e r now stored same still None so = tt
+  so_far-packet k e r now stored same still (Some all) so =
+      let is = given so.rest (step.Packet k) e (behind mid so.rest so.left_is) in (
         is.0.rest,
-        is.0.left_,
-        λ packets ending h. so.holds (packet_of r kept_ ∷ packets) ending
-            (packet octets is.0.rest new (packet_of r kept_) is.0.split
+        is.0.left_is,
+        λ packets ending h. so.holds (packet_of r stored ∷ packets) ending
+            (packet octets is.0.rest new (packet_of r stored) is.0.split
             (subst (λ p. IsUnit old octets new (Some p)) (sym same) is.1)
             (subst (λ x. Holds x is.0.rest packets ending) still h)),
       )

@@ -164,10 +164,10 @@ GivesNext old bytes (next.Ended ending) octets new left = Holds old bytes [] end
 
 -- a record is in order: its number, its time where it has one, and its captured length
 pub record IsInOrder (r : Record) (octets : List ℕ) (old new : ℕ) : Type 0 where
-  pub number_ : r.number ≡ min (old + 1) (2 ^ 64 - 1)
-  pub count_ : new ≡ r.number
-  pub nanoseconds_ : IfSome r.time (λ t. t.nanoseconds < 1000000000)
-  pub captured_len_ : r.captured_len ≡ length octets
+  pub number : r.number ≡ min (old + 1) (2 ^ 64 - 1)
+  pub count_is : new ≡ r.number
+  pub nanoseconds : IfSome r.time (λ t. t.nanoseconds < 1000000000)
+  pub captured_len : r.captured_len ≡ length octets
 
 abbrev pub IfRecord : Next → (Record → Type 0) → Type 0
 IfRecord (next.Record r) P = P r

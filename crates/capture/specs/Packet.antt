@@ -24,4 +24,4 @@ packet_in p bytes = record {
 -- it is within the bytes, and its time, where it has one, is in order
 pub record IsPlace (p : Packet) (bytes : List ℕ) : Type 0 where
   pub within : p.start + p.captured_len ≤ length bytes
-  pub nanoseconds_ : IfSome p.time (λ t. t.nanoseconds < 1000000000)
+  pub nanoseconds : IfSome p.time (λ t. t.nanoseconds < 1000000000)

@@ -71,7 +71,7 @@ pub record IsFileHeader (bytes : List ℕ) (h : FileHeader) : Type 0 where
   pub magic : HasMagic bytes h.order h.precision
   pub major : number_in h.order major_field bytes ≡ 2
   pub minor : number_in h.order minor_field bytes ≡ 4
-  pub link_type_ : h.link_type ≡ number_in h.order link_type_field bytes % 65536
+  pub link_type : h.link_type ≡ number_in h.order link_type_field bytes % 65536
 
 -- what ends a capture whose bytes begin with no header: another magic number, fewer bytes, another version
 abbrev pub FileEnds : List ℕ → Ending → Type 0
@@ -98,10 +98,10 @@ original_len_field = field 12 16
 -- The grammar of a record's header.
 pub record IsRecordHeader (order : Order) (bytes : List ℕ) (r : RecordHeader) : Type 0 where
   pub whole : Reaches original_len_field bytes
-  pub seconds_ : r.seconds ≡ number_in order seconds_field bytes
-  pub fraction_ : r.fraction ≡ number_in order fraction_field bytes
-  pub captured_len_ : r.captured_len ≡ number_in order captured_len_field bytes
-  pub original_len_ : r.original_len ≡ number_in order original_len_field bytes
+  pub seconds : r.seconds ≡ number_in order seconds_field bytes
+  pub fraction : r.fraction ≡ number_in order fraction_field bytes
+  pub captured_len : r.captured_len ≡ number_in order captured_len_field bytes
+  pub original_len : r.original_len ≡ number_in order original_len_field bytes
 
 -- The grammar of a record of at most this many bytes, in a file with a header.
 pub record IsRecord (most : ℕ) (h : FileHeader) (bytes : List ℕ) (p : PacketValue) : Type 0 where
@@ -109,11 +109,11 @@ pub record IsRecord (most : ℕ) (h : FileHeader) (bytes : List ℕ) (p : Packet
   pub is_head : IsRecordHeader h.order (take 16 bytes) head
   pub whole : length bytes ≡ 16 + head.captured_len
   pub few : head.captured_len ≤ most
-  pub time_ : p.time ≡ Some (time_value (head.seconds * 1000000000 + fraction_of h.precision head.fraction)
+  pub time_is : p.time ≡ Some (time_value (head.seconds * 1000000000 + fraction_of h.precision head.fraction)
       (digits_in h.precision))
-  pub link_type_ : p.link_type ≡ h.link_type
-  pub original_len_ : p.original_len ≡ head.original_len
-  pub octets_ : p.octets ≡ part bytes 16 (16 + head.captured_len)
+  pub link_type : p.link_type ≡ h.link_type
+  pub original_len : p.original_len ≡ head.original_len
+  pub octets : p.octets ≡ part bytes 16 (16 + head.captured_len)
 
 -- the bytes begin with a whole record of at most this many bytes, by the length that its header tells
 pub record ShowsRecord (most : ℕ) (order : Order) (bytes : List ℕ) : Type 0 where
@@ -123,7 +123,7 @@ pub record ShowsRecord (most : ℕ) (order : Order) (bytes : List ℕ) : Type 0 
 
 -- what ends a file that goes on with these bytes, and so with no record of at most this many bytes
 pub data RecordEnds (most : ℕ) (h : FileHeader) (bytes : List ℕ) : Ending → Type 0 where
-  whole_ : bytes ≡ [] → RecordEnds most h bytes Whole
+  ends_whole : bytes ≡ [] → RecordEnds most h bytes Whole
   head_cut : bytes ≢ [] → length bytes < 16 → RecordEnds most h bytes Cut
   cut : (head : RecordHeader) → IsRecordHeader h.order (take 16 bytes) head → head.captured_len ≤ most
       → length bytes < 16 + head.captured_len → RecordEnds most h bytes Cut

@@ -107,10 +107,10 @@ pub record IsLength (n : ℕ) : Type 0 where
 -- The grammar of a head, in a section of an order.
 pub record IsHead (section : Order) (bytes : List ℕ) (h : Head) : Type 0 where
   pub whole : 12 ≤ length bytes
-  pub order_ : HasOrder section bytes h.order
-  pub kind_ : h.kind ≡ number_in section kind_field bytes
-  pub total_len_ : h.total_len ≡ number_in h.order total_len_field bytes
-  pub length_ : IsLength h.total_len
+  pub order : HasOrder section bytes h.order
+  pub kind_is : h.kind ≡ number_in section kind_field bytes
+  pub total_len : h.total_len ≡ number_in h.order total_len_field bytes
+  pub length_is : IsLength h.total_len
   pub small : IsRead h.kind → h.total_len ≤ 524288
 
 -- the refusal of other bytes, twelve or more: a section header has no byte order, or the length is not that of a block
@@ -169,8 +169,8 @@ option_end n = 4 + (n + 3) / 4 * 4
 -- the bytes begin with an option of a code, whose value has this many bytes
 pub record IsOption (order : Order) (bytes : List ℕ) (code n : ℕ) : Type 0 where
   pub there : 4 ≤ length bytes
-  pub code_ : number_in order (field 0 2) bytes ≡ code
-  pub length_ : number_in order (field 2 4) bytes ≡ n
+  pub code_is : number_in order (field 0 2) bytes ≡ code
+  pub length_is : number_in order (field 2 4) bytes ≡ n
   pub whole : option_end n ≤ length bytes
 
 -- The first option of a code, with a value of this many bytes, has this value; option 0 ends the list, and so does one
@@ -199,10 +199,10 @@ pub data HasOffset (order : Order) (options : List ℕ) (offset : ℤ) : Type 0 
 -- The grammar of an interface description.
 pub record IsInterface (order : Order) (bytes : List ℕ) (i : Interface) : Type 0 where
   pub whole : 20 ≤ length bytes
-  pub link_type_ : i.link_type ≡ number_in order link_type_field bytes
-  pub snap_len_ : i.snap_len ≡ number_in order snap_len_field bytes
-  pub resolution_ : HasResolution order (part bytes 16 (length bytes - 4)) i.resolution
-  pub offset_ : HasOffset order (part bytes 16 (length bytes - 4)) i.offset
+  pub link_type : i.link_type ≡ number_in order link_type_field bytes
+  pub snap_len : i.snap_len ≡ number_in order snap_len_field bytes
+  pub resolution : HasResolution order (part bytes 16 (length bytes - 4)) i.resolution
+  pub offset : HasOffset order (part bytes 16 (length bytes - 4)) i.offset
 
 -- ---- packets
 
@@ -225,12 +225,12 @@ pub record IsTimed (order : Order) (interfaces : List Interface) (place : ℕ) (
   pub interface : Interface
   pub described : slice_get interfaces place ≡ Some interface
   pub fits : 32 + number_in order captured_len_field bytes ≤ length bytes
-  pub time_ : p.time ≡ Some (time_value (moved interface.offset (nanoseconds_of interface.resolution
+  pub time_is : p.time ≡ Some (time_value (moved interface.offset (nanoseconds_of interface.resolution
       (number_in order ticks_high_field bytes * 4294967296 + number_in order ticks_low_field bytes)))
       (digits_of interface.resolution))
-  pub link_type_ : p.link_type ≡ interface.link_type
-  pub original_len_ : p.original_len ≡ number_in order original_len_field bytes
-  pub octets_ : p.octets ≡ part bytes 28 (28 + number_in order captured_len_field bytes)
+  pub link_type : p.link_type ≡ interface.link_type
+  pub original_len : p.original_len ≡ number_in order original_len_field bytes
+  pub octets : p.octets ≡ part bytes 28 (28 + number_in order captured_len_field bytes)
 
 -- the bytes that are kept of a packet, where an interface keeps this many, or all for 0
 abbrev pub kept_len : ℕ → ℕ → ℕ
@@ -242,10 +242,10 @@ pub record IsSimple (order : Order) (interfaces : List Interface) (bytes : List 
   pub interface : Interface
   pub described : slice_get interfaces 0 ≡ Some interface
   pub fits : 16 + kept_len interface.snap_len (number_in order (field 8 12) bytes) ≤ length bytes
-  pub time_ : p.time ≡ None
-  pub link_type_ : p.link_type ≡ interface.link_type
-  pub original_len_ : p.original_len ≡ number_in order (field 8 12) bytes
-  pub octets_ : p.octets ≡ part bytes 12 (12 + kept_len interface.snap_len (number_in order (field 8 12) bytes))
+  pub time_is : p.time ≡ None
+  pub link_type : p.link_type ≡ interface.link_type
+  pub original_len : p.original_len ≡ number_in order (field 8 12) bytes
+  pub octets : p.octets ≡ part bytes 12 (12 + kept_len interface.snap_len (number_in order (field 8 12) bytes))
 
 -- The grammar of a packet, by the kind of its block.
 pub data IsPacket (order : Order) (interfaces : List Interface) (bytes : List ℕ) (p : PacketValue) (kind : ℕ)
@@ -302,7 +302,7 @@ pub data RefusesPacket (order : Order) (interfaces : List Interface) (bytes : Li
 pub record BeginsPacket (section : Order) (bytes : List ℕ) : Type 0 where
   pub head : 12 ≤ length bytes
   pub kind : HoldsPacket (number_in section kind_field bytes)
-  pub length_ : IsLength (number_in section total_len_field bytes)
+  pub length_is : IsLength (number_in section total_len_field bytes)
   pub few : number_in section total_len_field bytes ≤ 524288
   pub whole : number_in section total_len_field bytes ≤ length bytes
 

@@ -12,9 +12,9 @@ pub record Takes (old new : Option (List ℕ)) (taken : List ℕ) (most : ℕ) :
   pub ended : length taken < most → OnSome old (IsAtEnd new)
 
 -- what was buffered of this many bytes was taken from what a reader had left; these are all where it has ended
-pub record TakesPart (old new : Option (List ℕ)) (before after_ : List ℕ) (missing : ℕ) (ended : Bool) : Type 0 where
+pub record TakesPart (old new : Option (List ℕ)) (before behind : List ℕ) (missing : ℕ) (ended : Bool) : Type 0 where
   pub taken : List ℕ
-  pub appended : after_ ≡ before ++ taken
+  pub appended : behind ≡ before ++ taken
   pub consumed : Consumes old new taken
   pub few : length taken ≤ missing
   pub all : ended ≡ true → length taken < missing → OnSome old (IsAtEnd new)

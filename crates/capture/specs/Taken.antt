@@ -20,7 +20,7 @@ use Rattle.capture.specs.declared.pcapng.Interface.{Interface}
 pub record Splits (all front : List ℕ) (left : Option (List ℕ)) : Type 0 where
   pub rest : List ℕ
   pub split : all ≡ front ++ rest
-  pub left_ : left ≡ Some rest
+  pub left_is : left ≡ Some rest
 
 -- of a packet that was read
 abbrev pub IfPacket : Step → (Packet → Type 0) → Type 0

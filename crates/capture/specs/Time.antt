@@ -21,9 +21,9 @@ value_of t = time_value (nanos_of t) t.digits
 
 -- a time of this many nanoseconds, told to this many digits
 pub record IsTime (t : Time) (nanoseconds digits : ℕ) : Type 0 where
-  pub sum_ : t.seconds * 1000000000 + t.nanoseconds ≡ nanoseconds
-  pub part_ : t.nanoseconds < 1000000000
-  pub digits_ : t.digits ≡ digits
+  pub sum : t.seconds * 1000000000 + t.nanoseconds ≡ nanoseconds
+  pub part : t.nanoseconds < 1000000000
+  pub digits_are : t.digits ≡ digits
 
 -- the time of these seconds and nanoseconds, without digits
 abbrev pub time_of : ℕ × ℕ → Time

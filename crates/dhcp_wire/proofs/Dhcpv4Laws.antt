@@ -112,13 +112,13 @@ pub emits : (v : Value) (old new : List ℕ) (result : Result (Unit {0}) Error)
     → Emitted (header_text v) (options_text (options_of v) ++ 255 ∷ []) 240 (options_of v) old result new
     → Emits v old result new
 emits v old new result all =
-    let fits_ = on_ok-room (AllShort (options_of v)) (length (text v) ≤ length old) result all.accepts.0 in
+    let enough = on_ok-room (AllShort (options_of v)) (length (text v) ≤ length old) result all.accepts.0 in
     record {
       accepts = counted v (length old) result all.accepts;
-      text_ = all.ok;
+      written = all.ok;
       exact = λ whole.
           on_ok_weaker result (λ same. same ∙ over-exact old (text v) (whole ∙ sym (text_len-whole v))) all.ok;
       refused = all.refused;
-      reads_back = λ c. on_ok-read v old new result fits_ c all.ok;
+      reads_back = λ c. on_ok-read v old new result enough c all.ok;
       round_trips = round_trips format dhcp_format v;
     }

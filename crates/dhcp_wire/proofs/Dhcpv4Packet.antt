@@ -65,10 +65,10 @@ behind h old rest mine n os (Ok x) e room is w =
     let t : List ℕ = options_text os ++ 255 ∷ [] in
     let two = w.accepts.0 refl in
     let far = two.1 in
-    let fits_ : length t + n ≤ length old = omega (arith, ap length is, length-drop n old) in
+    let enough : length t + n ≤ length old = omega (arith, ap length is, length-drop n old) in
     record {
       accepts = ((λ ok. (two.0, omega (arith, length-append h t, e))), (λ ok. refl));
-      ok = ap (λ (l : List ℕ). h ++ l) (w.ok ∙ ap (λ (l : List ℕ). over l t) is) ∙ laid h old t n e fits_;
+      ok = ap (λ (l : List ℕ). h ++ l) (w.ok ∙ ap (λ (l : List ℕ). over l t) is) ∙ laid h old t n e enough;
       refused = tt;
     }
 behind h old rest mine n os (Err x) e room is w =
@@ -103,12 +103,12 @@ pub laid_behind : (v : Value) (old part mine new : List ℕ) (w u x : Writer) (n
     → part ≡ take n (free_bytes u) → WritesOptions (options_of v) part result mine → length mine ≡ n
     → sheet x ≡ put (sheet u) mine → new ≡ x.buffer.now
     → Emitted (header_text v) (options_text (options_of v) ++ 255 ∷ []) 240 (options_of v) old result new
-laid_behind v old part mine new w u x n result room fresh puts all is written_ long behind_ left =
+laid_behind v old part mine new w u x n result room fresh puts all is wrote long tail left =
     let h : List ℕ = header_text v in
     let two = header-sheet v old w u room fresh puts in
     let rest : part ≡ drop 240 old = is ∙ take_all n (free_bytes u) (omega (arith, all)) ∙ two.1 in
     let whole : new ≡ h ++ mine =
-    left ∙ sym (whole-sheet x) ∙ ap (λ (s : Sheet). s.written ++ s.free) behind_
+    left ∙ sym (whole-sheet x) ∙ ap (λ (s : Sheet). s.written ++ s.free) tail
     ∙ put-all (sheet u) mine (long ∙ all) ∙ ap (λ (l : List ℕ). l ++ mine) two.0 in
     subst (λ (l : List ℕ). Emitted h (options_text (options_of v) ++ 255 ∷ []) 240 (options_of v) old result l)
-    (sym whole) (behind h old part mine 240 (options_of v) result (header_len-240 v) room rest written_)
+    (sym whole) (behind h old part mine 240 (options_of v) result (header_len-240 v) room rest wrote)

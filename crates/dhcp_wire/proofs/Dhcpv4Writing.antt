@@ -74,8 +74,8 @@ pub fields-written : (w u x : DhcpOptionWriter) (result : Result (Unit {0}) Erro
     → progress u (Ok tt) ≡ steps (progress w (Ok tt)) (slots_of v)
     → progress x result ≡ step_all (progress u (Ok tt)) v.additional_options
     → progress x result ≡ step_all (progress w (Ok tt)) (options_of v)
-fields-written w u x result v fields_ rest =
-    rest ∙ ap (λ (p : Progress). step_all p v.additional_options) fields_ ∙ sym (fields-then (progress w (Ok tt)) v)
+fields-written w u x result v wrote rest =
+    rest ∙ ap (λ (p : Progress). step_all p v.additional_options) wrote ∙ sym (fields-then (progress w (Ok tt)) v)
 
 fits_from : (room : ℕ) (o : OptionValue) → Fits room o → fits room o ≡ true
 fits_from room o h = let a = h.0 in let b = h.1 in grind (arith, nat_tests)
@@ -139,8 +139,8 @@ all_fit room (o ∷ os) = fits room o && all_fit (room - length (option_text o))
 
 record Ran (s f : List ℕ) (os : List OptionValue) (q : Progress) : Type 0 where
   going : q.going ≡ all_fit (length f) os
-  settled : q.settled_ ≡ s ++ texts_before (length f) os
-  free : q.free_ ≡ drop (length (texts_before (length f) os)) f
+  settled : q.settled ≡ s ++ texts_before (length f) os
+  free : q.free ≡ drop (length (texts_before (length f) os)) f
 
 text-fit : (room : ℕ) (o : OptionValue) (os : List OptionValue) → fits room o ≡ true
     → texts_before room (o ∷ os) ≡ option_text o ++ texts_before (room - length (option_text o)) os
@@ -175,10 +175,10 @@ run_more true s f o os e ih =
     record {
       going = ap (λ (p : Progress). p.going) goes ∙ ih.going ∙ ap (λ (n : ℕ). all_fit n os) room
           ∙ sym (ap (λ (b : Bool). b && all_fit (length f - length (option_text o)) os) e);
-      settled = ap (λ (p : Progress). p.settled_) goes ∙ ih.settled
+      settled = ap (λ (p : Progress). p.settled) goes ∙ ih.settled
           ∙ ap (λ (n : ℕ). (s ++ option_text o) ++ texts_before n os) room ∙ append_assoc s (option_text o) rest
           ∙ ap (λ (l : List ℕ). s ++ l) (sym (text-fit (length f) o os e));
-      free = ap (λ (p : Progress). p.free_) goes ∙ ih.free
+      free = ap (λ (p : Progress). p.free) goes ∙ ih.free
           ∙ ap (λ (n : ℕ). drop (length (texts_before n os)) (drop (2 + length o.body) f)) room
           ∙ drop-drop (length rest) (2 + length o.body) f
           ∙ ap (λ (n : ℕ). drop n f) (sym joined)
@@ -190,9 +190,9 @@ run_more false s f o os e ih =
     record {
       going = ap (λ (p : Progress). p.going) goes
           ∙ sym (ap (λ (b : Bool). b && all_fit (length f - length (option_text o)) os) e);
-      settled = ap (λ (p : Progress). p.settled_) goes ∙ sym (append-nil s)
+      settled = ap (λ (p : Progress). p.settled) goes ∙ sym (append-nil s)
           ∙ ap (λ (l : List ℕ). s ++ l) (sym (text-not (length f) o os e));
-      free = ap (λ (p : Progress). p.free_) goes
+      free = ap (λ (p : Progress). p.free) goes
           ∙ ap (λ (l : List ℕ). drop (length l) f) (sym (text-not (length f) o os e));
     }
 
@@ -233,22 +233,22 @@ both false b h = absurd (cc)
 
 record AllFit (room : ℕ) (os : List OptionValue) : Type 0 where
   short : AllShort os
-  room_ : length (options_text os) ≤ room
+  fits : length (options_text os) ≤ room
   texts : texts_before room os ≡ options_text os
 
 all_fit-means : (os : List OptionValue) (room : ℕ) → all_fit room os ≡ true → AllFit room os
 unfolding options_text texts_before
-all_fit-means [] room h = record { short = tt; room_ = omega arith; texts = refl }
+all_fit-means [] room h = record { short = tt; fits = omega arith; texts = refl }
 all_fit-means (o ∷ os) room h =
     let two = both (fits room o) (all_fit (room - length (option_text o)) os) h in
     let one = fits_means room o two.0 in
     let small = one.1 in
     let e = two.0 in
     let more = all_fit-means os (room - length (option_text o)) two.1 in
-    let fewer = more.room_ in
+    let fewer = more.fits in
     record {
       short = (one.0, more.short);
-      room_ = omega (arith, length-append (option_text o) (options_text os));
+      fits = omega (arith, length-append (option_text o) (options_text os));
       texts = text-fit room o os e ∙ ap (λ (l : List ℕ). option_text o ++ l) more.texts;
     }
 
@@ -271,8 +271,8 @@ pub refused-options : (os : List OptionValue) (s f old new : List ℕ) (e : Erro
 refused-options os s f old new e is left =
     let ran = run os [] old in
     let not : all_fit (length old) os ≡ false = sym ran.going ∙ ap (λ (p : Progress). p.going) (sym is) in
-    let one : s ≡ texts_before (length old) os = ap (λ (p : Progress). p.settled_) is ∙ ran.settled in
-    let two : f ≡ drop (length (texts_before (length old) os)) old = ap (λ (p : Progress). p.free_) is ∙ ran.free in
+    let one : s ≡ texts_before (length old) os = ap (λ (p : Progress). p.settled) is ∙ ran.settled in
+    let two : f ≡ drop (length (texts_before (length old) os)) old = ap (λ (p : Progress). p.free) is ∙ ran.free in
     record {
       accepts = (
         (λ h. absurd (cc)),
@@ -295,13 +295,13 @@ ended-options os s f t g old new (Ok x) is room one two refusal left =
     let ran = run os [] old in
     let yes : all_fit (length old) os ≡ true = sym ran.going ∙ ap (λ (p : Progress). p.going) (sym is) in
     let all = all_fit-means os (length old) yes in
-    let first : s ≡ options_text os = ap (λ (p : Progress). p.settled_) is ∙ ran.settled ∙ all.texts in
-    let last : f ≡ drop (length (options_text os)) old = ap (λ (p : Progress). p.free_) is ∙ ran.free
+    let first : s ≡ options_text os = ap (λ (p : Progress). p.settled) is ∙ ran.settled ∙ all.texts in
+    let last : f ≡ drop (length (options_text os)) old = ap (λ (p : Progress). p.free) is ∙ ran.free
     ∙ ap (λ (l : List ℕ). drop (length l) old) all.texts in
     let some : 0 < length f = room.0 refl in
     let more : drop 1 f ≡ drop (length (options_text os ++ 255 ∷ [])) old = ap (λ (l : List ℕ). drop 1 l) last
     ∙ drop-drop 1 (length (options_text os)) old ∙ ap (λ (n : ℕ). drop n old) (omega (arith, end_len os)) in
-    let fit = all.room_ in
+    let fit = all.fits in
     record {
       accepts = (
         (λ h. (
@@ -330,8 +330,8 @@ ended-options os s f t g old new (Err e) is room one two refusal left =
     let ran = run os [] old in
     let yes : all_fit (length old) os ≡ true = sym ran.going ∙ ap (λ (p : Progress). p.going) (sym is) in
     let all = all_fit-means os (length old) yes in
-    let first : s ≡ texts_before (length old) os = ap (λ (p : Progress). p.settled_) is ∙ ran.settled in
-    let last : f ≡ drop (length (texts_before (length old) os)) old = ap (λ (p : Progress). p.free_) is ∙ ran.free in
+    let first : s ≡ texts_before (length old) os = ap (λ (p : Progress). p.settled) is ∙ ran.settled in
+    let last : f ≡ drop (length (texts_before (length old) os)) old = ap (λ (p : Progress). p.free) is ∙ ran.free in
     record {
       accepts = (
         (λ h. absurd (cc)),

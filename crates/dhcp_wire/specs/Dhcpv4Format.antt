@@ -128,7 +128,7 @@ format = record {
 -- written. A canonical value is read back as its normal form, whatever follows the packet.
 pub record Emits (v : Value) (old : List ℕ) (result : Result (Unit {0}) Error) (new : List ℕ) : Type 0 where
   pub accepts : IsOk result ↔ CanEmit (length old) v
-  pub text_ : OnOk result (new ≡ over old (text v))
+  pub written : OnOk result (new ≡ over old (text v))
   pub exact : length old ≡ text_len v → OnOk result (new ≡ text v)
   pub refused : OnErr result (new ≡ over old (refused_text (length old) v))
   pub reads_back : IsCanonical v → OnOk result (IsPacket new (norm v))

@@ -32,23 +32,23 @@ counted_len v = 241 + slots_len (slots_of v)
 
 -- the bytes that are settled, the bytes that are free, and whether nothing was refused so far
 pub record Progress : Type 0 where
-  pub settled_ : List ℕ
-  pub free_ : List ℕ
+  pub settled : List ℕ
+  pub free : List ℕ
   pub going : Bool
 
 abbrev pub at : List ℕ → List ℕ → Bool → Progress
-at s f going = record { settled_ = s; free_ = f; going = going }
+at s f going = record { settled = s; free = f; going = going }
 
 unfoldable pub progress : DhcpOptionWriter → Result (Unit {0}) Error → Progress
 progress w result = at (settled w) (free w) (is_ok result)
 
 -- one more option, where none was refused
 abbrev pub fitted : Bool → Progress → OptionValue → Progress
-fitted true p o = at (p.settled_ ++ option_text o) (drop (2 + length o.body) p.free_) true
-fitted false p o = at p.settled_ p.free_ false
+fitted true p o = at (p.settled ++ option_text o) (drop (2 + length o.body) p.free) true
+fitted false p o = at p.settled p.free false
 
 abbrev pub going_on : Bool → Progress → OptionValue → Progress
-going_on true p o = fitted (fits (length p.free_) o) p o
+going_on true p o = fitted (fits (length p.free) o) p o
 going_on false p o = p
 
 unfoldable pub step : Progress → OptionValue → Progress

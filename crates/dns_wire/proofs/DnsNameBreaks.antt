@@ -198,7 +198,7 @@ route_breaks text message reason (targets, parts, r) =
       };
       rest = o.closes.rest;
       behind = o.closes.is;
-      here = subst (λ (n : ℕ). BreaksHere n o.closes.rest reason) o.open_ o.closes.here;
+      here = subst (λ (n : ℕ). BreaksHere n o.closes.rest reason) o.bytes_open o.closes.here;
     }
 
 pub route_names : (text message : List ℕ) → Some_route Ends text message → HasName text message

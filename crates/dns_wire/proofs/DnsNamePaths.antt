@@ -45,7 +45,7 @@ pub record Opened (C : List ℕ → List ℕ → List (List ℕ) → Type 0) (ab
   pub falls : IsFalling above targets
   pub leads : HaveParts (text ∷ windows message above targets) (map goes_on targets) firsts
   pub closes : C (last_window text message above targets) reach final
-  pub open_ : length reach ≡ open_below above targets
+  pub bytes_open : length reach ≡ open_below above targets
 
 pub opened : (C : List ℕ → List ℕ → List (List ℕ) → Type 0) (targets : List ℕ) (parts : List (List (List ℕ)))
     (above : ℕ) (text message : List ℕ) → above ≤ length message → Route C text (take above message) targets parts
@@ -58,7 +58,7 @@ opened C [] parts above text message b h = record {
   falls = tt;
   leads = tt;
   closes = h.2;
-  open_ = length-take-le above message b;
+  bytes_open = length-take-le above message b;
 }
 opened C (p ∷ ps) [] above text message b h = absurd h
 opened C (p ∷ ps) (labels ∷ more) above text message b h =
@@ -74,7 +74,7 @@ opened C (p ∷ ps) (labels ∷ more) above text message b h =
       falls = (l, r.falls);
       leads = (h.1, r.leads);
       closes = r.closes;
-      open_ = r.open_;
+      bytes_open = r.bytes_open;
     }
 
 -- what is after the first label where a text breaks

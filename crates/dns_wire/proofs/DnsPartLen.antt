@@ -124,7 +124,7 @@ torn_none text e len h = by h.labels h.part
 
 pub split_begins : (text name rest : List ℕ) → IsSplit text name rest → BeginsWithPart text (length name)
 split_begins text name rest h =
-    let p = h.name_ in
+    let p = h.name_is in
     record {
       labels = p.labels;
       stop = p.stop;
@@ -147,7 +147,7 @@ begins_split text len h =
     let is : text ≡ name ++ p.rest = p.whole ∙ sym (append_assoc (flat_map written h.labels) p.mark p.rest) in
     let long : length name ≡ len = omega (arith, h.count, ap length is, length-append name p.rest) in
     record {
-      name_ = record {
+      name_is = record {
         labels = h.labels;
         stop = h.stop;
         mark = p.mark;

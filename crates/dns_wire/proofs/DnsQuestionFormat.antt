@@ -57,12 +57,12 @@ question_reads q bytes rest c e =
     (big_bytes 2 (type_number q.kind) ++ (0 ∷ 1 ∷ [])) rest) in
     record {
       after = big_bytes 2 (type_number q.kind) ++ (0 ∷ 1 ∷ rest);
-      name_ = c.name_;
+      name_is = c.name_is;
       whole = is;
       reaches = omega arith;
-      kind_ = type_of-number q.kind c.proper ∙ ap type_of (type_back (type_number q.kind) (0 ∷ 1 ∷ rest) c.fits);
+      kind_is = type_of-number q.kind c.proper ∙ ap type_of (type_back (type_number q.kind) (0 ∷ 1 ∷ rest) c.fits);
       class = refl;
-      rest_ = refl;
+      rest_is = refl;
     }
 
 -- ---- one value
@@ -72,7 +72,7 @@ question_of n t = record { name = n; kind = t }
 
 pub question_split : (bytes : List ℕ) (v : QuestionValue) (rest : List ℕ) (h : IsQuestion bytes v rest)
     → IsSplit bytes v.name h.after
-question_split bytes v rest h = record { name_ = h.name_; whole = h.whole }
+question_split bytes v rest h = record { name_is = h.name_is; whole = h.whole }
 
 pub question_one : (bytes : List ℕ) (v w : QuestionValue) (rest other : List ℕ) → IsQuestion bytes v rest
     → IsQuestion bytes w other → (v ≡ w) × (rest ≡ other)
@@ -89,10 +89,10 @@ question_one bytes v w rest other h k =
     sym (drop_at v.name h.after (length v.name) refl)
     ∙ (ap (λ t. drop (length v.name) t) (sym h.whole ∙ k.whole) ∙ drop_at w.name k.after (length v.name) (sym long))
     in
-    let kinds : v.kind ≡ w.kind = h.kind_ ∙ (ap (λ t. type_of (number_of type_field t)) behind ∙ sym k.kind_) in (
+    let kinds : v.kind ≡ w.kind = h.kind_is ∙ (ap (λ t. type_of (number_of type_field t)) behind ∙ sym k.kind_is) in (
       ap (λ n. question_of n v.kind) names ∙ ap (λ t. question_of w.name t) kinds,
-      h.rest_
-          ∙ (ap (λ t. drop 4 t) behind ∙ sym k.rest_),
+      h.rest_is
+          ∙ (ap (λ t. drop 4 t) behind ∙ sym k.rest_is),
     )
 
 -- ---- what was read
@@ -100,12 +100,12 @@ question_one bytes v w rest other h k =
 pub question_accepted : (bytes : List ℕ) (v : QuestionValue) (rest : List ℕ) → IsBytes bytes → length bytes ≤ 65535
     → IsQuestion bytes v rest → IsCanonical v
 question_accepted bytes v rest are small h =
-    let read = type-read (number_of type_field h.after) h.kind_ in
+    let read = type-read (number_of type_field h.after) h.kind_is in
     let behind : IsBytes h.after =
     subst IsBytes (ap (λ t. drop (length v.name) t) h.whole ∙ drop_at v.name h.after (length v.name) refl)
     (IsBytes-drop (length v.name) bytes are) in
     record {
-      name_ = h.name_;
+      name_is = h.name_is;
       proper = read.0;
       fits = omega (arith, read.1, number_of-small 0 2 h.after refl behind);
       small = omega (arith, small, ap length h.whole, length-append v.name h.after, h.reaches);
@@ -143,7 +143,7 @@ question_same_text a b = same_text format question_format _ a b
 pub question_emits : (q : QuestionValue) (old new : List ℕ) → text_len q ≤ length old → new ≡ over old (text q)
     → Emits q old new
 question_emits q old new room e = record {
-  text_ = e;
+  written = e;
   exact = λ long. e ∙ over-exact old (text q) (long ∙ sym (length-question_text q));
   reads_back =
       λ c. question_reads q new (drop (text_len q) old) c

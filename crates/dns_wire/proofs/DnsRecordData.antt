@@ -19,7 +19,7 @@ address6-one t bytes a e is same (other u rest) h = absurd (h.1 e)
 
 pub record_split : (bytes : List ℕ) (r : RecordValue) (rest : List ℕ) (h : IsRecord bytes r rest)
     → IsSplit bytes r.name h.after
-record_split bytes r rest h = record { name_ = h.name_; whole = h.whole }
+record_split bytes r rest h = record { name_is = h.name_is; whole = h.whole }
 
 abbrev record_of : List ℕ → ℕ → DataValue → RecordValue
 record_of name ttl holds = record { name = name; ttl = ttl; holds = holds }

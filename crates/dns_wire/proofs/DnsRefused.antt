@@ -22,19 +22,19 @@ question_begins bytes name after s reaches class = (
   drop 4 after,
   record {
     after = after;
-    name_ = s.name_;
+    name_is = s.name_is;
     whole = s.whole;
     reaches = reaches;
-    kind_ = refl;
+    kind_is = refl;
     class = class;
-    rest_ = refl;
+    rest_is = refl;
   },
 )
 
 pub question_fixed : (bytes name after : List ℕ) → IsSplit bytes name after → BeginsWithQuestion bytes
     → Reaches class_field after × (number_of class_field after ≡ internet)
 question_fixed bytes name after s (value, rest, h) =
-    let e = (split_one bytes value.name name h.after after (record { name_ = h.name_; whole = h.whole }) s).1 in (
+    let e = (split_one bytes value.name name h.after after (record { name_is = h.name_is; whole = h.whole }) s).1 in (
       subst (λ (t : List ℕ). Reaches class_field t) e h.reaches,
       subst
           (λ (t : List ℕ). number_of class_field t ≡ internet) e h.class,
@@ -47,13 +47,13 @@ pub record_begins : (bytes name after : List ℕ) → IsSplit bytes name after �
 record_begins bytes name after s (ttl, holds, rest, h) = (
   record { name = name; ttl = ttl; holds = holds },
   rest,
-  record { after = after; name_ = s.name_; whole = s.whole; behind = h },
+  record { after = after; name_is = s.name_is; whole = s.whole; behind = h },
 )
 
 pub record_behind : (bytes name after : List ℕ) → IsSplit bytes name after → BeginsWithRecord bytes
     → GoesOnBehindName after
 record_behind bytes name after s (value, rest, h) =
-    let e = (split_one bytes value.name name h.after after (record { name_ = h.name_; whole = h.whole }) s).1 in
+    let e = (split_one bytes value.name name h.after after (record { name_is = h.name_is; whole = h.whole }) s).1 in
     (value.ttl, value.holds, rest, subst (λ (t : List ℕ). IsBehindName t value.ttl value.holds rest) e h.behind)
 
 pub record_refused : (bytes name after : List ℕ) → IsSplit bytes name after → (refusal : Refusal)

@@ -66,14 +66,14 @@ query_reads q c =
     rw (query_text q) (record {
       whole = omega arith;
       id = id_back q.transaction_id (big_bytes 2 word ++ counts) c.id;
-      flags_ = sym (ap flags_in is ∙ flags_in-word q.flags n c.known c.four_bits);
-      kind_ = opcode_of-number q.kind c.proper ∙ ap opcode_of
+      flags_are = sym (ap flags_in is ∙ flags_in-word q.flags n c.known c.four_bits);
+      kind_is = opcode_of-number q.kind c.proper ∙ ap opcode_of
           (sym (ap opcode_in is ∙ opcode_in-word q.flags n c.known c.four_bits));
       one_question = refl;
       no_answer = refl;
       no_authority = refl;
       no_additional = refl;
-      asks_ = question_reads q.asks (question.text q.asks) [] c.asks_ (sym (append-nil (question.text q.asks)));
+      asks = question_reads q.asks (question.text q.asks) [] c.asks (sym (append-nil (question.text q.asks)));
     })
 
 -- ---- one value, and what was read
@@ -84,9 +84,9 @@ query_of id k flags asks = record { transaction_id = id; kind = k; flags = flags
 query_one : (bytes : List ℕ) (v w : QueryValue) → IsQuery bytes v → IsQuery bytes w → v ≡ w
 query_one bytes v w h k =
     let ids : v.transaction_id ≡ w.transaction_id = h.id ∙ sym k.id in
-    let kinds : v.kind ≡ w.kind = h.kind_ ∙ sym k.kind_ in
-    let same : v.flags ≡ w.flags = h.flags_ ∙ sym k.flags_ in
-    let asks = (question_one (payload_in bytes) v.asks w.asks [] [] h.asks_ k.asks_).0 in
+    let kinds : v.kind ≡ w.kind = h.kind_is ∙ sym k.kind_is in
+    let same : v.flags ≡ w.flags = h.flags_are ∙ sym k.flags_are in
+    let asks = (question_one (payload_in bytes) v.asks w.asks [] [] h.asks k.asks).0 in
     ap (λ n. query_of n v.kind v.flags v.asks) ids
     ∙ (ap (λ t. query_of w.transaction_id t v.flags v.asks) kinds
     ∙ (ap (λ n. query_of w.transaction_id w.kind n v.asks) same
@@ -96,22 +96,22 @@ query_accepted : (bytes : List ℕ) (v : QueryValue) → IsBytes bytes → lengt
     → IsCanonical v
 query_accepted bytes v are small h =
     let word = number_of flags_field bytes in
-    let read = opcode-read (opcode_in word) h.kind_ in
+    let read = opcode-read (opcode_in word) h.kind_is in
     let asks = question_accepted (payload_in bytes) v.asks [] (IsBytes-drop 12 bytes are)
-    (omega (arith, length-drop 12 bytes)) h.asks_ in
+    (omega (arith, length-drop 12 bytes)) h.asks in
     record {
       id = omega (arith, h.id, number_of-small 0 2 bytes refl are);
       proper = read.0;
       four_bits = omega (arith, read.1);
-      known = subst IsKnown (sym h.flags_) (known-flags_in word);
-      asks_ = asks;
+      known = subst IsKnown (sym h.flags_are) (known-flags_in word);
+      asks = asks;
       small = omega (
         arith,
         small,
         h.whole,
-        h.asks_.reaches,
-        ap length h.asks_.whole,
-        length-append v.asks.name h.asks_.after,
+        h.asks.reaches,
+        ap length h.asks.whole,
+        length-append v.asks.name h.asks.after,
         length-drop 12 bytes,
       );
     }
@@ -135,7 +135,7 @@ query_same_text a b = same_text format query_format _ a b
 
 pub query_emits : (q : QueryValue) (old new : List ℕ) → new ≡ over old (text q) → Emits q old new
 query_emits q old new e = record {
-  text_ = e;
+  written = e;
   exact = alone;
   reads_back = λ c long. subst (λ bytes. IsQuery bytes q) (sym (alone long)) (query_reads q c);
   round_trips = round_trips format query_format q;

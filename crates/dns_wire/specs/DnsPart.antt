@@ -15,12 +15,12 @@ shown Torn = torn
 -- A pointer to this place leads to an open byte: what is left there, and the bytes before it, which are open then.
 pub record LeadsTo (reach : List ℕ) (target : ℕ) (left front : List ℕ) : Type 0 where
   pub inside : target < length reach
-  pub left_ : left ≡ drop target reach
-  pub front_ : front ≡ take target reach
+  pub left_is : left ≡ drop target reach
+  pub front_is : front ≡ take target reach
 
 -- a text is one part of a name, and then a rest
 pub record IsSplit (text name rest : List ℕ) : Type 0 where
-  pub name_ : IsOnePart name
+  pub name_is : IsOnePart name
   pub whole : text ≡ name ++ rest
 
 -- a text begins with a part of a given number of bytes

@@ -38,12 +38,12 @@ value_of question = record { name = question.name.now; kind = question.type_ }
 -- The grammar: these bytes are a name of one part, then a type and the class of the internet, and then a rest.
 pub record IsQuestion (bytes : List ℕ) (question : QuestionValue) (rest : List ℕ) : Type 0 where
   pub after : List ℕ
-  pub name_ : IsOnePart question.name
+  pub name_is : IsOnePart question.name
   pub whole : bytes ≡ question.name ++ after
   pub reaches : Reaches class_field after
-  pub kind_ : question.kind ≡ type_of (number_of type_field after)
+  pub kind_is : question.kind ≡ type_of (number_of type_field after)
   pub class : number_of class_field after ≡ internet
-  pub rest_ : rest ≡ drop 4 after
+  pub rest_is : rest ≡ drop 4 after
 
 -- the text
 abbrev pub question_fields : QuestionValue → List (List ℕ)
@@ -58,7 +58,7 @@ text_len question = length question.name + 4
 -- a value that its own text gives back: the name is one part, the type is a number of two bytes and is not the
 -- unknown type of a number that has a name, and a packet holds it
 pub record IsCanonical (question : QuestionValue) : Type 0 where
-  pub name_ : IsOnePart question.name
+  pub name_is : IsOnePart question.name
   pub proper : IsProper kind.Unknown type_rows question.kind
   pub fits : type_number question.kind < 2 ^ 16
   pub small : text_len question ≤ 65535
@@ -78,7 +78,7 @@ format = record {
 -- What writing over `old` leaves: the text of the question over the front. Where `old` has exactly the text's length,
 -- it is all that is left.
 pub record Emits (question : QuestionValue) (old new : List ℕ) : Type 0 where
-  pub text_ : new ≡ over old (text question)
+  pub written : new ≡ over old (text question)
   pub exact : length old ≡ text_len question → new ≡ text question
   pub reads_back : IsCanonical question → IsQuestion new question (drop (text_len question) old)
   pub round_trips : RoundTrips format question

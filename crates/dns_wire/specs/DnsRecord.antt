@@ -66,15 +66,15 @@ value_of r = record { name = r.name.now; ttl = r.ttl; holds = data_value r.«dat
 pub record IsBehindName (after : List ℕ) (ttl : ℕ) (holds : DataValue) (rest : List ℕ) : Type 0 where
   pub reaches : Reaches length_field after
   pub class : number_of class_field after ≡ internet
-  pub ttl_ : ttl ≡ number_of ttl_field after
+  pub ttl_is : ttl ≡ number_of ttl_field after
   pub fits : number_of length_field after ≤ length (drop 10 after)
-  pub data_ : IsData (type_of (number_of type_field after))
+  pub data_is : IsData (type_of (number_of type_field after))
       (take (number_of length_field after) (drop 10 after)) holds
-  pub rest_ : rest ≡ drop (number_of length_field after) (drop 10 after)
+  pub rest_is : rest ≡ drop (number_of length_field after) (drop 10 after)
 
 -- The grammar: these bytes are a name of one part, and what follows the name of this record.
 pub record IsRecord (bytes : List ℕ) (r : RecordValue) (rest : List ℕ) : Type 0 where
   pub after : List ℕ
-  pub name_ : IsOnePart r.name
+  pub name_is : IsOnePart r.name
   pub whole : bytes ≡ r.name ++ after
   pub behind : IsBehindName after r.ttl r.holds rest

@@ -58,13 +58,13 @@ pub record CanEmit (query : QueryValue) (old : List ℕ) : Type 0 where
 pub record IsQuery (bytes : List ℕ) (query : QueryValue) : Type 0 where
   pub whole : Reaches header bytes
   pub id : query.transaction_id ≡ number_of id_field bytes
-  pub flags_ : query.flags ≡ flags_in (number_of flags_field bytes)
-  pub kind_ : query.kind ≡ opcode_of (opcode_in (number_of flags_field bytes))
+  pub flags_are : query.flags ≡ flags_in (number_of flags_field bytes)
+  pub kind_is : query.kind ≡ opcode_of (opcode_in (number_of flags_field bytes))
   pub one_question : number_of question_count_field bytes ≡ 1
   pub no_answer : number_of answer_count_field bytes ≡ 0
   pub no_authority : number_of authority_count_field bytes ≡ 0
   pub no_additional : number_of additional_count_field bytes ≡ 0
-  pub asks_ : IsQuestion (payload_in bytes) query.asks []
+  pub asks : IsQuestion (payload_in bytes) query.asks []
 
 -- a value that its own text gives back
 pub record IsCanonical (query : QueryValue) : Type 0 where
@@ -72,7 +72,7 @@ pub record IsCanonical (query : QueryValue) : Type 0 where
   pub proper : IsProper opcode.Unknown opcode_rows query.kind
   pub four_bits : opcode_number query.kind < 16
   pub known : IsKnown query.flags
-  pub asks_ : question.IsCanonical query.asks
+  pub asks : question.IsCanonical query.asks
   pub small : text_len query ≤ 65535
 
 -- the format; each value is its normal form, and none is an exception
@@ -90,7 +90,7 @@ format = record {
 -- What writing over `old` leaves: the text of the query over the front. Where `old` has exactly the text's length, it
 -- is all that is left.
 pub record Emits (query : QueryValue) (old new : List ℕ) : Type 0 where
-  pub text_ : new ≡ over old (text query)
+  pub written : new ≡ over old (text query)
   pub exact : length old ≡ text_len query → new ≡ text query
   pub reads_back : IsCanonical query → length old ≡ text_len query → IsQuery new query
   pub round_trips : RoundTrips format query

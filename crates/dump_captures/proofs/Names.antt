@@ -6,7 +6,8 @@ use Rattle.std.proofs.lemmas.List.Sums.{fold-append, fold_push}
 use Rattle.std.specs.List.{fold}
 use Rattle.std.specs.Option.{ok_or}
 use Rattle.std.specs.Prelude.{bytes_eq}
-use Rattle.dump_captures.specs.Arguments.{chooses_none, first_named, is_named, kind_named, then_name, with_name, with_names}
+use Rattle.dump_captures.specs.Arguments.{chooses_none, first_named, is_named, kind_named, then_name, with_name}
+use Rattle.dump_captures.specs.Arguments.{with_names}
 use Rattle.dump_captures.specs.Kinds.{kind_place}
 use Rattle.dump_captures.specs.declared.kind.Kind.{Kind}
 use Rattle.dump_captures.specs.declared.options.Only.{Only}

@@ -47,19 +47,19 @@ so_far-init options (Some all) s n tally before start none =
 module _ (options : Options) (all : List ℕ) (left : Option (List ℕ)) (s : State) (n : ℕ) (first tally : TallyValue)
     (before now : Option (List ℕ)) (so_far : SoFar options all left s n first tally before now) where
   -- a packet more
-  so_far-packet : (r : Record) (octets rest : List ℕ) (new : State) (then_ : Option (List ℕ)) (outcome : Outcome)
+  so_far-packet : (r : Record) (octets rest : List ℕ) (new : State) (later : Option (List ℕ)) (outcome : Outcome)
       → r.number ≡ next_number n
       → ((packets : List PacketValue) (ending : Ending) → Holds new rest packets ending
       → Holds s so_far.rest (packet_of r octets ∷ packets) ending)
-      → GainsSome now then_ (λ text. PacketPrints options r.number (packet_of r octets) text outcome)
+      → GainsSome now later (λ text. PacketPrints options r.number (packet_of r octets) text outcome)
       → SoFar options all (Some rest) new r.number first (counted outcome r.link_type (length octets) tally) before
-      then_
-  so_far-packet r octets rest new then_ outcome number gives shows =
+      later
+  so_far-packet r octets rest new later outcome number gives shows =
       record {
         rest = rest;
         text = so_far.text ++ shows.0;
         left_is = refl;
-        gains = gains_both before now then_ so_far.text shows.0 so_far.gains shows.2;
+        gains = gains_both before now later so_far.text shows.0 so_far.gains shows.2;
         goes_on = λ packets ending more last holds prints.
             subst (λ text. CapturePrints options all first text last ending)
             (sym (append_assoc so_far.text shows.0 more))
@@ -67,20 +67,20 @@ module _ (options : Options) (all : List ℕ) (left : Option (List ℕ)) (s : St
             (shows.0, more, outcome, rw number at shows.1, rw number at prints, refl));
       }
 
-  so_far-more : (r : Record) (octets : List ℕ) (new : State) (count : ℕ) (left_ then_ : Option (List ℕ))
-      (outcome : Outcome) → IfSome left (λ bytes. GivesNext s bytes (next.Record r) octets new left_)
+  so_far-more : (r : Record) (octets : List ℕ) (new : State) (count : ℕ) (remaining later : Option (List ℕ))
+      (outcome : Outcome) → IfSome left (λ bytes. GivesNext s bytes (next.Record r) octets new remaining)
       → IsInOrder r octets n count
-      → GainsSome now then_ (λ text. PacketPrints options r.number (packet_of r octets) text outcome)
-      → SoFar options all left_ new count first (counted outcome r.link_type (length octets) tally) before then_
-  so_far-more r octets new count left_ then_ outcome gives order shows =
+      → GainsSome now later (λ text. PacketPrints options r.number (packet_of r octets) text outcome)
+      → SoFar options all remaining new count first (counted outcome r.link_type (length octets) tally) before later
+  so_far-more r octets new count remaining later outcome gives order shows =
       let given = rw so_far.left_is at gives in
-      rw (given.1, order.count_) (so_far-packet r octets given.0 new then_ outcome order.number_ given.2 shows)
+      rw (given.1, order.count_is) (so_far-packet r octets given.0 new later outcome order.number given.2 shows)
 
   -- the end
-  so_far-end : (ending : Ending) (octets : List ℕ) (new : State) (left_ : Option (List ℕ))
-      → IfSome left (λ bytes. GivesNext s bytes (next.Ended ending) octets new left_)
+  so_far-end : (ending : Ending) (octets : List ℕ) (new : State) (remaining : Option (List ℕ))
+      → IfSome left (λ bytes. GivesNext s bytes (next.Ended ending) octets new remaining)
       → GainsSome before now (λ text. CapturePrints options all first text tally ending)
-  so_far-end ending octets new left_ gives =
+  so_far-end ending octets new remaining gives =
       let given = rw so_far.left_is at gives in (
         so_far.text,
         rw (append-nil so_far.text) at (so_far.goes_on [] ending [] tally given.0 (refl, refl)),
@@ -91,32 +91,32 @@ module _ (options : Options) (all : List ℕ) (left : Option (List ℕ)) (s : St
 
 -- what was printed is written out, and then a packet more is read and printed
 pub run-more : (options : Options) (start left : Option (List ℕ)) (s : State) (n : ℕ) (first tally : TallyValue)
-    (before now flushed then_ left_ : Option (List ℕ)) (r : Record) (octets : List ℕ) (new : State) (count : ℕ)
+    (before now flushed later remaining : Option (List ℕ)) (r : Record) (octets : List ℕ) (new : State) (count : ℕ)
     (outcome : Outcome) (new_tally : TallyValue)
     → IfSome start (λ all. SoFar options all left s n first tally before now)
     → Gains now flushed []
-    → IfSome left (λ bytes. GivesNext s bytes (next.Record r) octets new left_)
+    → IfSome left (λ bytes. GivesNext s bytes (next.Record r) octets new remaining)
     → IsInOrder r octets n count
-    → GainsSome flushed then_ (λ text. PacketPrints options r.number (packet_of r octets) text outcome)
+    → GainsSome flushed later (λ text. PacketPrints options r.number (packet_of r octets) text outcome)
     → new_tally ≡ counted outcome r.link_type (length octets) tally
-    → IfSome start (λ all. SoFar options all left_ new count first new_tally before then_)
-run-more options None left s n first tally before now flushed then_ left_ r octets new count outcome new_tally so_far
+    → IfSome start (λ all. SoFar options all remaining new count first new_tally before later)
+run-more options None left s n first tally before now flushed later remaining r octets new count outcome new_tally so_far
     wrote gives order shows counts = tt
-run-more options (Some all) left s n first tally before now flushed then_ left_ r octets new count outcome new_tally
+run-more options (Some all) left s n first tally before now flushed later remaining r octets new count outcome new_tally
     so_far wrote gives order shows counts =
     rw counts
-    (so_far-more options all left s n first tally before now so_far r octets new count left_ then_ outcome gives order
-    (shows.0, shows.1, gains_both now flushed then_ [] shows.0 wrote shows.2))
+    (so_far-more options all left s n first tally before now so_far r octets new count remaining later outcome gives order
+    (shows.0, shows.1, gains_both now flushed later [] shows.0 wrote shows.2))
 
 pub run-end : (options : Options) (start left : Option (List ℕ)) (s : State) (n : ℕ) (first tally : TallyValue)
-    (before now flushed left_ : Option (List ℕ)) (ending : Ending) (octets : List ℕ) (new : State)
+    (before now flushed remaining : Option (List ℕ)) (ending : Ending) (octets : List ℕ) (new : State)
     → IfSome start (λ all. SoFar options all left s n first tally before now)
     → Gains now flushed []
-    → IfSome left (λ bytes. GivesNext s bytes (next.Ended ending) octets new left_)
+    → IfSome left (λ bytes. GivesNext s bytes (next.Ended ending) octets new remaining)
     → IfSome start (λ all. GainsSome before flushed (λ text. CapturePrints options all first text tally ending))
-run-end options None left s n first tally before now flushed left_ ending octets new so_far wrote gives = tt
-run-end options (Some all) left s n first tally before now flushed left_ ending octets new so_far wrote gives =
-    let prints = so_far-end options all left s n first tally before now so_far ending octets new left_ gives in (
+run-end options None left s n first tally before now flushed remaining ending octets new so_far wrote gives = tt
+run-end options (Some all) left s n first tally before now flushed remaining ending octets new so_far wrote gives =
+    let prints = so_far-end options all left s n first tally before now so_far ending octets new remaining gives in (
       prints.0,
       prints.1,
       rw (append-nil prints.0) at (gains_both before now flushed prints.0 [] prints.2 wrote),

@@ -111,10 +111,10 @@ end_text (Some unread) = refusal_text (refusal.Dns unread)
 
 pub record DnsPrints (is_multicast : Bool) (octets text : List ℕ) (why : Option Reason) : Type 0 where
   pub listed : List ℕ
-  pub unread_ : Option Unread
-  pub prints : MessagePrints margin is_multicast octets listed unread_
-  pub why_ : why ≡ option_map (λ u. reason_of false (refusal.Dns u)) unread_
-  pub text_ : text ≡ listed ++ end_text unread_
+  pub unread : Option Unread
+  pub prints : MessagePrints margin is_multicast octets listed unread
+  pub why_is : why ≡ option_map (λ u. reason_of false (refusal.Dns u)) unread
+  pub text_is : text ≡ listed ++ end_text unread
 
 -- ---- a control packet
 
@@ -145,5 +145,5 @@ pub record ListingPrints (h : HeadersValue) (text : List ℕ) (why : Option Reas
   pub options_text : List ℕ
   pub content_text : List ℕ
   pub options : OptionsPrint h.hop_by_hop options_text
-  pub content : ContentPrints h.kind h.content_ content_text why
-  pub text_ : text ≡ options_text ++ content_text
+  pub content : ContentPrints h.kind h.content content_text why
+  pub text_is : text ≡ options_text ++ content_text

@@ -49,7 +49,7 @@ pub record HeadersValue : Type 0 where
   pub ports : Option (ℕ × ℕ)
   pub hop_by_hop : Option (List ℕ)
   pub kind : Kind
-  pub content_ : ContentValue
+  pub content : ContentValue
 
 -- a frame of a link that is not read, a packet of another protocol, or a control packet
 pub data SightValue : Type 0 where
@@ -68,7 +68,7 @@ headers_of h = record {
   ports = h.ports;
   hop_by_hop = option_map (λ octets. octets.now) h.hop_by_hop;
   kind = h.kind;
-  content_ = content_of h.content;
+  content = content_of h.content;
 }
 
 abbrev pub sight_of : Sight → SightValue
@@ -94,7 +94,7 @@ datagram_headers tags d kind = record {
   ports = ports_in d.protocol d.payload;
   hop_by_hop = d.hop_by_hop;
   kind = kind;
-  content_ = content_by kind d.addresses d.payload;
+  content = content_by kind d.addresses d.payload;
 }
 
 abbrev pub sight_by : Option Kind → (Kind → HeadersValue) → SightValue
@@ -118,7 +118,7 @@ refused_headers tags addresses ports counted r kind = record {
   ports = ports;
   hop_by_hop = None;
   kind = kind;
-  content_ = refused counted r;
+  content = refused counted r;
 }
 
 -- only the VLAN tags are known

@@ -103,16 +103,16 @@ so_far-init (Some all) before =
 -- a line that is read and printed, and the end
 module _ (all : List ℕ) (left : Option (List ℕ)) (known : Bool) (before now : Option (List ℕ))
     (so_far : SoFar all left known before now) where
-  so_far-shape : (after_ then_ : Option (List ℕ)) (shape : Shape) (is : Bool) → IsFirst so_far.rest after_ shape
-      → is ≡ is_known shape → GainsSome now then_ (LinePrints shape) → SoFar all after_ (known && is) before then_
-  so_far-shape after_ then_ shape is read known_ shows =
+  so_far-shape : (behind last : Option (List ℕ)) (shape : Shape) (is : Bool) → IsFirst so_far.rest behind shape
+      → is ≡ is_known shape → GainsSome now last (LinePrints shape) → SoFar all behind (known && is) before last
+  so_far-shape behind last shape is read named shows =
       let first = rw (← read.1) at (shapes_of-first so_far.rest read.0) in
       record {
         rest = drop_through 10 so_far.rest;
         done = so_far.done ++ (shape ∷ []);
         left_is = read.2;
         cut = so_far.cut ∙ ap (λ shapes. so_far.done ++ shapes) first ∙ sym (append_assoc so_far.done (shape ∷ []) _);
-        known_is = rw (so_far.known_is, known_) (sym (are_known-more so_far.done shape));
+        known_is = rw (so_far.known_is, named) (sym (are_known-more so_far.done shape));
         printed = (
           so_far.printed.0 ++ shows.0,
           LinesPrint-more so_far.done shape _ _ so_far.printed.1 shows.1,
@@ -120,20 +120,20 @@ module _ (all : List ℕ) (left : Option (List ℕ)) (known : Bool) (before now 
         );
       }
 
-  so_far-more : (after_ then_ : Option (List ℕ)) (is : Bool)
-      → IfSome left (λ octets. ShowsFirst octets after_ now then_ (Some is))
-      → SoFar all after_ (known && is) before then_
-  so_far-more after_ then_ is next =
+  so_far-more : (behind last : Option (List ℕ)) (is : Bool)
+      → IfSome left (λ octets. ShowsFirst octets behind now last (Some is))
+      → SoFar all behind (known && is) before last
+  so_far-more behind last is next =
       let shown = rw so_far.left_is at next in
-      so_far-shape after_ then_ shown.0 is shown.1 shown.2 shown.3
+      so_far-shape behind last shown.0 is shown.1 shown.2 shown.3
 
-  so_far-end : (then_ : Option (List ℕ)) → IfSome left (λ octets. (octets ≡ []) × Gains now then_ [])
-      → (known ≡ are_known (shapes_of all)) × GainsSome before then_ (LinesPrint (shapes_of all))
-  so_far-end then_ next =
+  so_far-end : (last : Option (List ℕ)) → IfSome left (λ octets. (octets ≡ []) × Gains now last [])
+      → (known ≡ are_known (shapes_of all)) × GainsSome before last (LinesPrint (shapes_of all))
+  so_far-end last next =
       let none = rw so_far.left_is at next in
       let all_done : shapes_of all ≡ so_far.done =
       so_far.cut ∙ ap (λ rest. so_far.done ++ shapes_of rest) none.0 ∙ append-nil so_far.done in
-      let printed : GainsSome before then_ (LinesPrint so_far.done) = (
+      let printed : GainsSome before last (LinesPrint so_far.done) = (
         so_far.printed.0 ++ [],
         rw (append-nil so_far.printed.0) so_far.printed.1,
         gains_both _ _ _ _ _ so_far.printed.2 none.1,
@@ -141,26 +141,26 @@ module _ (all : List ℕ) (left : Option (List ℕ)) (known : Bool) (before now 
       (so_far.known_is ∙ ap are_known (sym all_done), rw all_done printed)
 
 -- a run where what there was may not be known
-pub run-more : (first left after_ before now then_ : Option (List ℕ)) (known is : Bool)
+pub run-more : (first left behind before now last : Option (List ℕ)) (known is : Bool)
     → IfSome first (λ all. SoFar all left known before now)
-    → IfSome left (λ octets. ShowsFirst octets after_ now then_ (Some is))
-    → IfSome first (λ all. SoFar all after_ (known && is) before then_)
-run-more None left after_ before now then_ known is so_far next = tt
-run-more (Some all) left after_ before now then_ known is so_far next =
-    so_far-more all left known before now so_far after_ then_ is next
+    → IfSome left (λ octets. ShowsFirst octets behind now last (Some is))
+    → IfSome first (λ all. SoFar all behind (known && is) before last)
+run-more None left behind before now last known is so_far next = tt
+run-more (Some all) left behind before now last known is so_far next =
+    so_far-more all left known before now so_far behind last is next
 
-pub run-known : (first left before now then_ : Option (List ℕ)) (known : Bool)
+pub run-known : (first left before now last : Option (List ℕ)) (known : Bool)
     → IfSome first (λ all. SoFar all left known before now)
-    → IfSome left (λ octets. (octets ≡ []) × Gains now then_ [])
+    → IfSome left (λ octets. (octets ≡ []) × Gains now last [])
     → IfSome first (λ all. known ≡ are_known (shapes_of all))
-run-known None left before now then_ known so_far next = tt
-run-known (Some all) left before now then_ known so_far next =
-    (so_far-end all left known before now so_far then_ next).0
+run-known None left before now last known so_far next = tt
+run-known (Some all) left before now last known so_far next =
+    (so_far-end all left known before now so_far last next).0
 
-pub run-printed : (first left before now then_ : Option (List ℕ)) (known : Bool)
+pub run-printed : (first left before now last : Option (List ℕ)) (known : Bool)
     → IfSome first (λ all. SoFar all left known before now)
-    → IfSome left (λ octets. (octets ≡ []) × Gains now then_ [])
-    → IfSome first (λ all. GainsSome before then_ (LinesPrint (shapes_of all)))
-run-printed None left before now then_ known so_far next = tt
-run-printed (Some all) left before now then_ known so_far next =
-    (so_far-end all left known before now so_far then_ next).1
+    → IfSome left (λ octets. (octets ≡ []) × Gains now last [])
+    → IfSome first (λ all. GainsSome before last (LinesPrint (shapes_of all)))
+run-printed None left before now last known so_far next = tt
+run-printed (Some all) left before now last known so_far next =
+    (so_far-end all left known before now so_far last next).1

@@ -48,10 +48,10 @@ NextLine octets left line false = octets ≡ []
 
 -- a part of a line was taken off what a reader had left: octets of the line, and after them its LF where it has ended,
 -- or nothing where nothing is left
-pub record TakesPart (old new : Option (List ℕ)) (before after_ : Line) (count : ℕ) (ended : Bool) : Type 0 where
+pub record TakesPart (old new : Option (List ℕ)) (before behind : Line) (count : ℕ) (ended : Bool) : Type 0 where
   pub text : List ℕ
   pub last : List ℕ
-  pub takes : Takes before after_ text
+  pub takes : Takes before behind text
   pub free : All (λ octet. octet ≢ 10) text
   pub consumed : Consumes old new (text ++ last)
   pub counted : count ≡ length (text ++ last)

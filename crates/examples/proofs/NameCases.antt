@@ -10,20 +10,20 @@ use Rattle.examples.specs.Resolver.{lowered, GivesLabel}
 pub record GiveSameName (left right : List Coming) : Type 0 where
   pub labels : List (List ℕ)
   pub others : List (List ℕ)
-  pub left_ : Gives left labels
-  pub right_ : Gives right others
+  pub left_is : Gives left labels
+  pub right_is : Gives right others
   pub same : lowered labels ≡ lowered others
 
 pub same_before : (old new other after : Walk) (result answer : Option (Result (Bor (List ℕ)) Error)) (bytes : List ℕ)
     → GivesFirst old result new → GivesFirst other answer after → answer_of result ≡ label bytes
     → GivesLabel (answer_of answer) bytes → GiveSameName new.ahead after.ahead
     → GiveSameName old.ahead other.ahead
-same_before old new other after result answer bytes gives also e (given, f, case_) same = record {
+same_before old new other after result answer bytes gives also e (given, f, same_case) same = record {
   labels = bytes ∷ same.labels;
   others = given ∷ same.others;
-  left_ = label_before old new result bytes same.labels gives e same.left_;
-  right_ = label_before other after answer given same.others also f same.right_;
-  same = ap (λ (l : List ℕ). l ∷ lowered same.labels) (sym case_)
+  left_is = label_before old new result bytes same.labels gives e same.left_is;
+  right_is = label_before other after answer given same.others also f same.right_is;
+  same = ap (λ (l : List ℕ). l ∷ lowered same.labels) (sym same_case)
       ∙ ap (λ (ls : List (List ℕ)). str_to_ascii_lowercase given ∷ ls) same.same;
 }
 
@@ -45,14 +45,14 @@ both_after old new other after result answer bytes (l ∷ labels) (o ∷ others)
     let is : l ≡ bytes = cc in
     let p = first_same (str_to_ascii_lowercase l) (str_to_ascii_lowercase o) (lowered labels) (lowered others) same in (
       (o, y.0, sym p.0 ∙ ap str_to_ascii_lowercase is),
-      record { labels = labels; others = others; left_ = x.1; right_ = y.1; same = p.1 },
+      record { labels = labels; others = others; left_is = x.1; right_is = y.1; same = p.1 },
     )
 
 pub same_after : (old new other after : Walk) (result answer : Option (Result (Bor (List ℕ)) Error)) (bytes : List ℕ)
     → GivesFirst old result new → GivesFirst other answer after → answer_of result ≡ label bytes
     → GiveSameName old.ahead other.ahead → GivesLabel (answer_of answer) bytes × GiveSameName new.ahead after.ahead
 same_after old new other after result answer bytes gives also e same =
-    both_after old new other after result answer bytes same.labels same.others gives also e same.left_ same.right_
+    both_after old new other after result answer bytes same.labels same.others gives also e same.left_is same.right_is
     same.same
 
 both_at_end : (old new other after : Walk) (result answer : Option (Result (Bor (List ℕ)) Error))
@@ -68,7 +68,8 @@ pub same_at_end : (old new other after : Walk) (result answer : Option (Result (
     → GivesFirst old result new → GivesFirst other answer after → answer_of result ≡ ending
     → GiveSameName old.ahead other.ahead → answer_of answer ≡ ending
 same_at_end old new other after result answer gives also e same =
-    both_at_end old new other after result answer same.labels same.others gives also e same.left_ same.right_ same.same
+    both_at_end old new other after result answer same.labels same.others gives also e same.left_is
+        same.right_is same.same
 
 pub none_at_both : (old new other after : Walk) (result answer : Option (Result (Bor (List ℕ)) Error))
     → GivesFirst old result new → GivesFirst other answer after → answer_of result ≡ ending
@@ -76,12 +77,12 @@ pub none_at_both : (old new other after : Walk) (result answer : Option (Result 
 none_at_both old new other after result answer gives also e f = record {
   labels = [];
   others = [];
-  left_ = none_at_end old new result gives e;
-  right_ = none_at_end other after answer also f;
+  left_is = none_at_end old new result gives e;
+  right_is = none_at_end other after answer also f;
   same = refl;
 }
 
 pub no_fault_in : (old new other : Walk) (result : Option (Result (Bor (List ℕ)) Error)) → GivesFirst old result new
     → answer_of result ≡ fault → GiveSameName old.ahead other.ahead → ⊥
 no_fault_in old new other result gives e same =
-    same_no_fault old new old.ahead result gives e (same.labels, same.left_, same.left_)
+    same_no_fault old new old.ahead result gives e (same.labels, same.left_is, same.left_is)

@@ -15,7 +15,7 @@ same_test false true P a b = a.1 (b.0 refl)
 pub says_one : (message : List ℕ) (asked : RecordType) (name : List ℕ) (r : RecordValue) (t u : TurnValue)
     → Says message asked name r t → Says message asked name r u → t ≡ u
 says_one message asked name r t u a b =
-    let e = same_test a.same b.same (AreSameName message r.name name) a.same_ b.same_ in
+    let e = same_test a.same b.same (AreSameName message r.name name) a.same_is b.same_is in
     a.is ∙ (ap (λ same. said_of same asked name r) e ∙ sym b.is)
 
 -- there is one record at the start of bytes
@@ -28,14 +28,14 @@ pub later_found : (message : List ℕ) (asked : RecordType) (address : AddressRe
     (r : RecordValue) (name : List ℕ) (left : ℕ) (rest : List ℕ) → now.left ≡ left + 1 → IsOnly now.bytes r rest
     → Says message asked now.name r (sought name) → Finds message asked address after now
     → Finds message asked address after (record { name = name; left = left; bytes = rest })
-later_found message asked address after now r name left rest e only says (here other f record_ also same) =
-    let one = only other after.bytes record_ in
+later_found message asked address after now r name left rest e only says (here other f is_record also same) =
+    let one = only other after.bytes is_record in
     let k = says_one message asked now.name r (sought name) (found address) says
     (subst (λ x. Says message asked now.name x (found address)) (sym one.0) also) in
     cc
 later_found message asked address after now r name left rest e only says
-    (later other name' left' rest' f record_ also g) =
-    let one = only other rest' record_ in
+    (later other name' left' rest' f is_record also g) =
+    let one = only other rest' is_record in
     let k = says_one message asked now.name r (sought name) (sought name') says
     (subst (λ x. Says message asked now.name x (sought name')) (sym one.0) also) in
     let names : name' ≡ name = cc in
@@ -47,10 +47,10 @@ later_found message asked address after now r name left rest e only says
 -- a search with no record finds nothing
 pub none_left : (message : List ℕ) (asked : RecordType) (address : AddressRecord) (after now : Search) → now.left ≡ 0
     → Finds message asked address after now → ⊥
-none_left message asked address after now e (here r f record_ says same) = absurd (omega arith)
-none_left message asked address after now e (later r name left rest f record_ says g) = absurd (omega arith)
+none_left message asked address after now e (here r f is_record says same) = absurd (omega arith)
+none_left message asked address after now e (later r name left rest f is_record says g) = absurd (omega arith)
 
 pub none_read : (message : List ℕ) (asked : RecordType) (address : AddressRecord) (after now : Search)
     → ((r : RecordValue) (rest : List ℕ) → IsRecord now.bytes r rest → ⊥) → Finds message asked address after now → ⊥
-none_read message asked address after now none (here r f record_ says same) = none r after.bytes record_
-none_read message asked address after now none (later r name left rest f record_ says g) = none r rest record_
+none_read message asked address after now none (here r f is_record says same) = none r after.bytes is_record
+none_read message asked address after now none (later r name left rest f is_record says g) = none r rest is_record

@@ -6,7 +6,8 @@ use Rattle.std.specs.List.{filter_map}
 use Rattle.std.proofs.Math.ListN.{get_or-append}
 use Rattle.std.proofs.lemmas.List.{take_at, drop_at}
 use Rattle.control_wire.specs.NdiscOption.{units_in}
-use Rattle.control_wire.specs.NdiscOptionRepr.{OptionValue, source, target, prefix_, redirected, mtu, unknown}
+use Rattle.control_wire.specs.NdiscOptionRepr.{OptionValue, source, target, prefix_information, redirected, mtu}
+use Rattle.control_wire.specs.NdiscOptionRepr.{unknown}
 use Rattle.control_wire.specs.NdiscOptionRepr.{BeginsWith}
 use Rattle.control_wire.specs.NdiscBlocks.{IsBlock, AreBlocks, ends, goes_on, skips, prefix_in}
 use Rattle.control_wire.specs.NdiscPrefixInformationType.{PrefixInformation}
@@ -37,10 +38,10 @@ some_block : (block rest : List ℕ) → IsBlock block → [] ≡ block ++ rest 
 some_block block rest b e =
     omega (arith, ap (λ (l : List ℕ). length l) e, length-append block rest, b.begins.whole.fixed)
 
-no_prefix : (v : OptionValue) → ((p : PrefixInformation) → v ≡ prefix_ p → ⊥) → prefix_in v ≡ None
+no_prefix : (v : OptionValue) → ((p : PrefixInformation) → v ≡ prefix_information p → ⊥) → prefix_in v ≡ None
 no_prefix (source a) none = refl
 no_prefix (target a) none = refl
-no_prefix (prefix_ p) none = absurd (none p refl)
+no_prefix (prefix_information p) none = absurd (none p refl)
 no_prefix (redirected h d) none = refl
 no_prefix (mtu n) none = refl
 no_prefix (unknown t n d) none = refl
@@ -53,13 +54,13 @@ pub record Told (bytes : List ℕ) (p : PrefixInformation) (prefixes : List Pref
 
 first_told : (bytes block rest : List ℕ) (p : PrefixInformation) (options : List OptionValue)
     → (prefixes : List PrefixInformation) → prefixes ≡ filter_map prefix_in options
-    → IsBlock block → bytes ≡ block ++ rest → BeginsWith block (prefix_ p)
-    → ((v : OptionValue) → BeginsWith block v → v ≡ prefix_ p)
+    → IsBlock block → bytes ≡ block ++ rest → BeginsWith block (prefix_information p)
+    → ((v : OptionValue) → BeginsWith block v → v ≡ prefix_information p)
     → AreBlocks bytes options → Told rest p prefixes
 first_told bytes block rest p options prefixes told b e reads alone ends = absurd (some_block block rest b e)
 first_told bytes block rest p options prefixes told b e reads alone (goes_on {options = os} c s v g l u i) =
     let same = same_parts c s block rest g b (sym i ∙ e) in
-    let first : v ≡ prefix_ p = alone v (subst (λ (x : List ℕ). BeginsWith x v) same.fronts l) in
+    let first : v ≡ prefix_information p = alone v (subst (λ (x : List ℕ). BeginsWith x v) same.fronts l) in
     record {
       more = filter_map prefix_in os;
       first = told ∙ ap (λ (x : OptionValue). filter_map prefix_in (x ∷ os)) first;
@@ -71,19 +72,20 @@ first_told bytes block rest p options prefixes told b e reads alone (goes_on {op
     }
 first_told bytes block rest p options prefixes told b e reads alone (skips c s g l u i) =
     let same = same_parts c s block rest g b (sym i ∙ e) in
-    absurd (l (prefix_ p) (subst (λ (x : List ℕ). BeginsWith x (prefix_ p)) (sym same.fronts) reads))
+    absurd (l (prefix_information p)
+        (subst (λ (x : List ℕ). BeginsWith x (prefix_information p)) (sym same.fronts) reads))
 
 -- a block with a prefix has the first prefix
 pub told_first : (bytes block rest : List ℕ) (p : PrefixInformation) (prefixes : List PrefixInformation)
-    → IsBlock block → bytes ≡ block ++ rest → BeginsWith block (prefix_ p)
-    → ((v : OptionValue) → BeginsWith block v → v ≡ prefix_ p)
+    → IsBlock block → bytes ≡ block ++ rest → BeginsWith block (prefix_information p)
+    → ((v : OptionValue) → BeginsWith block v → v ≡ prefix_information p)
     → TellPrefixes bytes prefixes → Told rest p prefixes
 told_first bytes block rest p prefixes b e reads alone t =
     first_told bytes block rest p t.options prefixes t.told b e reads alone t.tiling
 
 later_told : (bytes block rest : List ℕ) (options : List OptionValue) (prefixes : List PrefixInformation)
     → prefixes ≡ filter_map prefix_in options → IsBlock block → bytes ≡ block ++ rest
-    → ((p : PrefixInformation) → BeginsWith block (prefix_ p) → ⊥)
+    → ((p : PrefixInformation) → BeginsWith block (prefix_information p) → ⊥)
     → AreBlocks bytes options → TellPrefixes rest prefixes
 later_told bytes block rest options prefixes told b e none ends = absurd (some_block block rest b e)
 later_told bytes block rest options prefixes told b e none (goes_on {options = os} c s v g l u i) =
@@ -106,7 +108,7 @@ later_told bytes block rest options prefixes told b e none (skips {options = os}
 
 -- a block without a prefix is followed by all prefixes
 pub told_later : (bytes block rest : List ℕ) (prefixes : List PrefixInformation)
-    → IsBlock block → bytes ≡ block ++ rest → ((p : PrefixInformation) → BeginsWith block (prefix_ p) → ⊥)
+    → IsBlock block → bytes ≡ block ++ rest → ((p : PrefixInformation) → BeginsWith block (prefix_information p) → ⊥)
     → TellPrefixes bytes prefixes → TellPrefixes rest prefixes
 told_later bytes block rest prefixes b e none t =
     later_told bytes block rest t.options prefixes t.told b e none t.tiling

@@ -164,9 +164,9 @@ pub record Answers (bytes : List ℕ) (id : ℕ) (client : Ethernet) (told : Ans
   pub says : Value
   pub packet : IsPacket bytes says
   pub exchange : says.transaction_id ≡ id
-  pub client_ : says.client_hardware_address ≡ client
+  pub client_is : says.client_hardware_address ≡ client
   pub server : Ipv4Address
-  pub server_ : says.server_identifier ≡ Some server
+  pub server_is : says.server_identifier ≡ Some server
   pub router : Option Ipv4Address
-  pub router_ : option_map octets_of router ≡ last_of (said 3 first_in) packet.options
+  pub router_is : option_map octets_of router ≡ last_of (said 3 first_in) packet.options
   pub tells : Tells says.message_type (lease_of says server router) told

@@ -43,11 +43,11 @@ pub record IsQuery (querier asked : Ipv6Address) (hops : ℕ) (bytes : List ℕ)
   pub qqic : ℕ
   pub count : ℕ
   pub behind : List ℕ
-  pub hops_ : hops ≡ 1
+  pub hops_are : hops ≡ 1
   pub router : IsLinkLocal querier
   pub message : IsGoodMessageV6 querier asked bytes (mld (query code group flag qrv qqic count behind))
   pub whole : 16 * count ≤ length behind
-  pub sources_ : sources ≡ take (16 * count) behind
+  pub sources_are : sources ≡ take (16 * count) behind
 
 -- ---- answers
 
@@ -76,7 +76,7 @@ pub record IsResponse (querier asked : Ipv6Address) (hops : ℕ) (own : Ipv6Addr
   pub group : Ipv6Address
   pub sources : List ℕ
   pub due : MldValue
-  pub query_ : IsQuery querier asked hops bytes code group sources
+  pub query : IsQuery querier asked hops bytes code group sources
   pub is_due : IsDue listening group sources due
   pub delay : micros_of response.max_delay ≡ 1000 * delay_millis code
-  pub report_ : IsReport own due written
+  pub report : IsReport own due written

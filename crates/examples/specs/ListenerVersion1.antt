@@ -37,11 +37,11 @@ IsDone own group bytes = (routers : Ipv6Address) × IsAllRouters routers × IsMe
 -- answered within this time, which it counts in milliseconds (RFC 2710 section 3, RFC 3810 section 8.1)
 pub record IsQueryFor (querier asked : Ipv6Address) (hops : ℕ) (group : Ipv6Address) (bytes : List ℕ)
     (time : Duration) : Type 0 where
-  pub hops_ : hops ≡ 1
+  pub hops_are : hops ≡ 1
   pub router : IsLinkLocal querier
   pub whole : length bytes ≡ 24
   pub kind : byte_of type_field bytes ≡ 130
   pub code : byte_of code_field bytes ≡ 0
   pub good : IsGood bytes (message_sum querier asked 24)
   pub asks : (bytes_of mcast_addr_field bytes ≡ octets_of group) ⊎ (bytes_of mcast_addr_field bytes ≡ replicate 16 0)
-  pub time_ : micros_of time ≡ 1000 * number_of max_resp_code_field bytes
+  pub time_is : micros_of time ≡ 1000 * number_of max_resp_code_field bytes

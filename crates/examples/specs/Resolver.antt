@@ -47,8 +47,8 @@ lowered labels = map str_to_ascii_lowercase labels
 pub record AreSameName (message a b : List ℕ) : Type 0 where
   pub left : List (List ℕ)
   pub right : List (List ℕ)
-  pub left_ : IsName a message left
-  pub right_ : IsName b message right
+  pub left_is : IsName a message left
+  pub right_is : IsName b message right
   pub same : lowered left ≡ lowered right
 
 -- a walk gave a label that is this one, letters in either case
@@ -73,7 +73,7 @@ pub record Asks (message name : List ℕ) (asked : RecordType) (rest : List ℕ)
 
 -- A header is that of the response to a query: it has the query's number, and counts one question.
 pub record Responds (message : List ℕ) (id : ℕ) : Type 0 where
-  pub id_ : number_of id_field message ≡ id
+  pub id_is : number_of id_field message ≡ id
   pub response : IsTrue (responds (flags_in (number_of flags_field message)))
   pub standard : opcode_of (opcode_in (number_of flags_field message)) ≡ opcode.Query
   pub one_question : number_of question_count_field message ≡ 1
@@ -81,7 +81,7 @@ pub record Responds (message : List ℕ) (id : ℕ) : Type 0 where
 -- A message is the response to a query, and its question is the one that was asked.
 pub record IsResponse (message : List ℕ) (id : ℕ) (name : List ℕ) (asked : RecordType) (rest : List ℕ) : Type 0 where
   pub whole : Reaches header message
-  pub header_ : Responds message id
+  pub header : Responds message id
   pub asks : Asks message name asked rest
 
 -- the outcome of the query, and whether the response was cut to what a datagram takes (RFC 1035 section 4.1.1)
@@ -97,16 +97,16 @@ pub record AreAnswers (message : List ℕ) (id : ℕ) (name : List ℕ) (asked :
     : Type 0 where
   pub response : IsResponse message id name asked answers.bytes.now
   pub succeeded : outcome message ≡ rcode.NoError
-  pub message_ : answers.message.now ≡ message
-  pub name_ : answers.name.now ≡ name
-  pub type_ : answers.type_ ≡ asked
-  pub left_ : answers.left ≡ number_of answer_count_field message
+  pub message_is : answers.message.now ≡ message
+  pub name_is : answers.name.now ≡ name
+  pub type_is : answers.type_ ≡ asked
+  pub left_is : answers.left ≡ number_of answer_count_field message
 
 -- The message is the response to a query, and its outcome is a failure.
 pub record IsFailure (message : List ℕ) (id : ℕ) (name : List ℕ) (asked : RecordType) (code : Rcode) : Type 0 where
   pub rest : List ℕ
   pub response : IsResponse message id name asked rest
-  pub code_ : code ≡ outcome message
+  pub code_is : code ≡ outcome message
   pub failed : code ≢ rcode.NoError
 
 -- what a response tells: all answers, as many of them as fit, or how the query failed
@@ -133,7 +133,7 @@ pub data TurnValue : Type 0 where
   sought : List ℕ → TurnValue
 
 abbrev pub turn_of : Turn → TurnValue
-turn_of (Found record_) = found record_
+turn_of (Found one) = found one
 turn_of (Sought name) = sought name.now
 
 -- A record of the name gives its address, where it has the type that was asked for, or the name of which it is an
@@ -152,7 +152,7 @@ said_of true asked name r = said asked name r.ttl r.holds
 pub record Says (message : List ℕ) (asked : RecordType) (name : List ℕ) (r : RecordValue) (turn : TurnValue)
     : Type 0 where
   pub same : Bool
-  pub same_ : IsTrue same ↔ AreSameName message r.name name
+  pub same_is : IsTrue same ↔ AreSameName message r.name name
   pub is : turn ≡ said_of same asked name r
 
 -- A search finds an address, and this is left to read after it: the first record gives the address, or it gives the

@@ -83,7 +83,7 @@ IsErrorV6 bytes =
 pub record MayTellV6 (bytes : List ℕ) (source : Ipv6Address) : Type 0 where
   pub whole : ipv6.BeginsWhole bytes
   pub version : ipv6.version_in bytes ≡ 6
-  pub source_ : octets_of source ≡ bytes_of ipv6.src_addr_field bytes
+  pub source_is : octets_of source ≡ bytes_of ipv6.src_addr_field bytes
   pub specified : IsUnspecified source → ⊥
   pub unicast : IsMulticast source → ⊥
   pub no_error : IsErrorV6 bytes → ⊥

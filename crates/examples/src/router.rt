@@ -6,7 +6,7 @@ ghost use Rattle.control_wire.specs.Ethernet.{octets_of};
 ghost use Rattle.control_wire.specs.HardwareAddress.{ethernet_of};
 ghost use Rattle.control_wire.specs.Ndisc.{value_of as content_of};
 ghost use Rattle.control_wire.specs.NdiscBlocks.{IsBlock};
-ghost use Rattle.control_wire.specs.NdiscOptionRepr.{OptionValue, BeginsWith, prefix_};
+ghost use Rattle.control_wire.specs.NdiscOptionRepr.{OptionValue, BeginsWith, prefix_information};
 ghost use Rattle.control_wire.specs.NdiscPrefixInformationType.{PrefixInformation as PrefixValue};
 ghost use Rattle.examples.specs.Neighbor.{IsUnspecified};
 ghost use Rattle.examples.specs.Router.{IsSolicitation, RouterIn, TellsRouter, options_in, TellPrefixes};
@@ -161,11 +161,11 @@ fn split_block(octets: &[u8]) -> Option<(&[u8], &[u8])>
 
 // The prefix that a block tells.
 fn prefix_in(block: &[u8]) -> Option<PrefixInformation>
-    ensures sound { IfSome result (λ prefix. BeginsWith block.now (prefix_ prefix)) }
-    ensures complete { (prefix : PrefixValue) → BeginsWith block.now (prefix_ prefix)
+    ensures sound { IfSome result (λ prefix. BeginsWith block.now (prefix_information prefix)) }
+    ensures complete { (prefix : PrefixValue) → BeginsWith block.now (prefix_information prefix)
         → result ≡ Some prefix }
     ensures alone { IfSome result (λ prefix. (v : OptionValue) → BeginsWith block.now v
-        → v ≡ prefix_ prefix) }
+        → v ≡ prefix_information prefix) }
 {
     let option = match ndiscoption::Repr::parse(&NdiscOption::new_unchecked(block)) {
         Ok(option) => option,

@@ -5,18 +5,18 @@ use Rattle.wirebase.specs.declared.ip.IpProtocol.{IpProtocol}
 use Rattle.frame_wire.specs.Datagram.{EndsAt, options_of, Routes, Passes, past}
 
 -- headers that are passed from here on are passed from the first on
-pub record SoFar (first_ : IpProtocol) (all start : List ℕ) (p : IpProtocol) (rest destination : List ℕ) : Type 0 where
+pub record SoFar (begin : IpProtocol) (all start : List ℕ) (p : IpProtocol) (rest destination : List ℕ) : Type 0 where
   pub passes : (q : IpProtocol) (payload final : List ℕ) → Passes p rest destination q payload final
-      → Passes first_ all start q payload final
+      → Passes begin all start q payload final
 
 pub so_far-init : (p : IpProtocol) (all start : List ℕ) → SoFar p all start p all start
 so_far-init p all start = record { passes = λ q payload final h. h }
 
-pub so_far-more : (first_ : IpProtocol) (all start : List ℕ) (p : IpProtocol) (rest destination : List ℕ)
-    (q : IpProtocol) (behind next : List ℕ) (end : ℕ) → SoFar first_ all start p rest destination
+pub so_far-more : (begin : IpProtocol) (all start : List ℕ) (p : IpProtocol) (rest destination : List ℕ)
+    (q : IpProtocol) (behind next : List ℕ) (end : ℕ) → SoFar begin all start p rest destination
     → EndsAt p rest end → Routes p rest destination next → q ≡ protocol_of (slice_index rest 0)
-    → behind ≡ drop end rest → SoFar first_ all start q behind next
-so_far-more first_ all start p rest destination q behind next end so ends routes e b = record {
+    → behind ≡ drop end rest → SoFar begin all start q behind next
+so_far-more begin all start p rest destination q behind next end so ends routes e b = record {
   passes = λ u payload final h.
       so.passes u payload final (past end next ends routes
       (subst (λ l. Passes (protocol_of (slice_index rest 0)) l next u payload final) b

@@ -62,7 +62,7 @@ record IsContent (bytes : List ℕ) (v : UdpValue) : Type 0 where
   whole : BeginsWhole bytes
   source : v.ports.src_port ≡ number_of src_port_field bytes
   destination : v.ports.dst_port ≡ number_of dst_port_field bytes
-  payload_ : v.payload ≡ bytes_of (payload_field bytes) bytes
+  payload : v.payload ≡ bytes_of (payload_field bytes) bytes
 
 -- what is in the bytes of a datagram, and after them
 record Holds (bytes : List ℕ) (v : UdpValue) (checksum : ℕ) (rest : List ℕ) : Type 0 where
@@ -102,7 +102,7 @@ content v checksum rest source destination fits =
       };
       source = h.source source;
       destination = h.destination destination;
-      payload_ = sym (ap (λ (n : ℕ). take n (v.payload ++ rest)) few ∙ take_at v.payload rest _ refl);
+      payload = sym (ap (λ (n : ℕ). take n (v.payload ++ rest)) few ∙ take_at v.payload rest _ refl);
     }
 
 -- what follows a datagram follows its data
@@ -191,7 +191,7 @@ packet_read capabilities addresses v rest fills c =
         port = c.2;
         checksum = checked-by capabilities.udp addresses v rest c.3 fills;
       };
-      payload_ = m.payload_;
+      payload = m.payload;
     }
 
 -- ---- the format
@@ -205,19 +205,19 @@ same_value v w source destination payload =
 
 content-one : (bytes : List ℕ) (v w : UdpValue) → IsContent bytes v → IsContent bytes w → v ≡ w
 content-one bytes v w a b =
-    same_value v w (a.source ∙ sym b.source) (a.destination ∙ sym b.destination) (a.payload_ ∙ sym b.payload_)
+    same_value v w (a.source ∙ sym b.source) (a.destination ∙ sym b.destination) (a.payload ∙ sym b.payload)
 
 one_value : (capabilities : ChecksumCapabilities) (addresses : Addresses) (bytes : List ℕ) (v w : UdpValue)
     → Reads capabilities addresses bytes v → Reads capabilities addresses bytes w → v ≡ w
 one_value capabilities addresses bytes v w a b =
     same_value v w (a.datagram.source ∙ sym b.datagram.source) (a.datagram.destination ∙ sym b.datagram.destination)
-    (a.payload_ ∙ sym b.payload_)
+    (a.payload ∙ sym b.payload)
 
 accepted : (capabilities : ChecksumCapabilities) (addresses : Addresses) (bytes : List ℕ) (v : UdpValue)
     → IsBytes bytes → length bytes ≤ 65515 → Reads capabilities addresses bytes v → IsCanonical v
 accepted capabilities addresses bytes v are small m =
     let whole = m.datagram.whole in
-    let long = ap (λ (l : List ℕ). length l) m.payload_
+    let long = ap (λ (l : List ℕ). length l) m.payload
     ∙ length-part bytes 8 (len_in bytes) whole.order whole.total in (
       omega (arith, m.datagram.source, number_of-small 0 2 bytes refl are),
       omega (arith, m.datagram.destination, number_of-small 2 4 bytes refl are),
@@ -257,7 +257,7 @@ datagram_emits capabilities addresses v old new fits room left =
     let long : length packet ≡ text_len v = length-packet_text capabilities addresses v in
     let all : new ≡ packet ++ drop (length packet) old = left ∙ over-fits old packet (omega (arith, long)) in
     record {
-      text_ = left;
+      written = left;
       sealed =
           λ computed. subst (λ (l : List ℕ). IsSealed addresses l) (sym all)
           (sealed-by (is_computed capabilities.udp) addresses v (drop (length packet) old) fits computed);

@@ -82,12 +82,12 @@ module _ (addresses : Addresses) (bytes : List ℕ) (long : Reaches checksum_fie
   unfolding sealed sealed_datagram
   sealed-none left e none =
       let n : ℕ = checksum_of checksum_field bytes extra in
-      let zero_ : n ≡ 0 =
+      let empty : n ≡ 0 =
       sym (number-written bytes n long (omega arith)) ∙ ap (λ (l : List ℕ). number_of checksum_field l) (sym e)
       ∙ none in
       ap (λ (l : List ℕ). splice l 6 8 (big_bytes 2 65535)) e
       ∙ splice-splice bytes (big_bytes 2 n) (big_bytes 2 65535) 6 8 (omega arith) long refl
-      ∙ ap (λ (k : ℕ). splice bytes 6 8 (big_bytes 2 (never_zero k))) (sym zero_)
+      ∙ ap (λ (k : ℕ). splice bytes 6 8 (big_bytes 2 (never_zero k))) (sym empty)
 
   pub sealed-other : (left : List ℕ) → left ≡ sealed checksum_field bytes extra → number_of checksum_field left ≢ 0
       → left ≡ sealed_datagram addresses bytes

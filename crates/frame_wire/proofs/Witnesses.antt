@@ -35,7 +35,7 @@ pub typed_read : (octets : List ℕ) (place start kind : ℕ) (rest : List ℕ) 
 typed_read octets place start kind rest t v long e f is payload = (
   v,
   long,
-  record { typed = t; tagged_ = tagged_at octets place start kind rest t e f is; payload_ = payload },
+  record { typed = t; tagged = tagged_at octets place start kind rest t e f is; payload = payload },
 )
 
 pub typed_cut : (octets : List ℕ) (place start kind : ℕ) (rest : List ℕ) (t : TypedValue)

@@ -34,7 +34,7 @@ pub record IsOpen4 (bytes : List ℕ) (v : DatagramValue) : Type 0 where
   pub there : ipv4.header_len_in bytes ≤ length bytes
   pub unfragmented : IsFragment4 bytes → ⊥
   pub headed : IsHeaded4 bytes v
-  pub payload_ : v.payload ≡ drop (ipv4.header_len_in bytes) bytes
+  pub payload : v.payload ≡ drop (ipv4.header_len_in bytes) bytes
 
 -- The grammar: a whole datagram; one that lacks some bytes at its end, by its own length; or one that states none.
 pub data IsCaptured4 (bytes : List ℕ) (v : CapturedValue) : Type 0 where

@@ -53,12 +53,12 @@ IsFragment4 bytes = (ipv4.more_frags_in bytes ≡ 1) ⊎ (ipv4.frag_offset_in by
 pub record IsHeaded4 (bytes : List ℕ) (v : DatagramValue) : Type 0 where
   pub source : Ipv4Address
   pub destination : Ipv4Address
-  pub source_ : ipv4.octets_of source ≡ bytes_of ipv4.src_addr_field bytes
-  pub destination_ : ipv4.octets_of destination ≡ bytes_of ipv4.dst_addr_field bytes
-  pub addresses_ : v.addresses ≡ V4 source destination
-  pub protocol_ : v.protocol ≡ protocol_of (byte_of ipv4.protocol_field bytes)
-  pub hop_limit_ : v.hop_limit ≡ byte_of ipv4.time_to_live_field bytes
-  pub hop_by_hop_ : v.hop_by_hop ≡ None
+  pub source_is : ipv4.octets_of source ≡ bytes_of ipv4.src_addr_field bytes
+  pub destination_is : ipv4.octets_of destination ≡ bytes_of ipv4.dst_addr_field bytes
+  pub addresses : v.addresses ≡ V4 source destination
+  pub protocol : v.protocol ≡ protocol_of (byte_of ipv4.protocol_field bytes)
+  pub hop_limit : v.hop_limit ≡ byte_of ipv4.time_to_live_field bytes
+  pub hop_by_hop : v.hop_by_hop ≡ None
 
 -- The grammar: the bytes begin with a whole datagram by its own lengths, and what follows it is ignored.
 pub record IsDatagram4 (bytes : List ℕ) (v : DatagramValue) : Type 0 where
@@ -66,19 +66,19 @@ pub record IsDatagram4 (bytes : List ℕ) (v : DatagramValue) : Type 0 where
   pub total : ipv4.total_len_in bytes ≤ length bytes
   pub unfragmented : IsFragment4 bytes → ⊥
   pub headed : IsHeaded4 bytes v
-  pub payload_ : v.payload ≡ part bytes (ipv4.header_len_in bytes) (ipv4.total_len_in bytes)
+  pub payload : v.payload ≡ part bytes (ipv4.header_len_in bytes) (ipv4.total_len_in bytes)
 
 -- what the header tells of a datagram that is cut or a fragment
 pub record IsHead4 (bytes : List ℕ) (h : Head) : Type 0 where
   pub source : Ipv4Address
   pub destination : Ipv4Address
-  pub source_ : ipv4.octets_of source ≡ bytes_of ipv4.src_addr_field bytes
-  pub destination_ : ipv4.octets_of destination ≡ bytes_of ipv4.dst_addr_field bytes
-  pub addresses_ : h.addresses ≡ V4 source destination
-  pub protocol_ : h.protocol ≡ protocol_of (byte_of ipv4.protocol_field bytes)
-  pub ident_ : h.ident ≡ Some (number_of ipv4.ident_field bytes)
-  pub frag_offset_ : h.frag_offset ≡ ipv4.frag_offset_in bytes
-  pub more_frags_ : IsTrue h.more_frags ↔ (ipv4.more_frags_in bytes ≡ 1)
+  pub source_is : ipv4.octets_of source ≡ bytes_of ipv4.src_addr_field bytes
+  pub destination_is : ipv4.octets_of destination ≡ bytes_of ipv4.dst_addr_field bytes
+  pub addresses : h.addresses ≡ V4 source destination
+  pub protocol : h.protocol ≡ protocol_of (byte_of ipv4.protocol_field bytes)
+  pub ident : h.ident ≡ Some (number_of ipv4.ident_field bytes)
+  pub frag_offset : h.frag_offset ≡ ipv4.frag_offset_in bytes
+  pub more_frags : IsTrue h.more_frags ↔ (ipv4.more_frags_in bytes ≡ 1)
 
 -- the refusal of other bytes: the check that fails first
 abbrev pub Refuses4 : List ℕ → Refusal → Type 0
@@ -185,11 +185,11 @@ next_header_in bytes = protocol_of (byte_of ipv6.next_header_field bytes)
 pub record IsHeaded6 (bytes behind : List ℕ) (v : DatagramValue) : Type 0 where
   pub source : Ipv6Address
   pub destination : Ipv6Address
-  pub source_ : octets_of source ≡ bytes_of ipv6.src_addr_field bytes
-  pub addresses_ : v.addresses ≡ V6 source destination
-  pub hop_limit_ : v.hop_limit ≡ byte_of ipv6.hop_limit_field bytes
-  pub hop_by_hop_ : v.hop_by_hop ≡ options_of (next_header_in bytes) behind
-  pub passes_ : Passes (next_header_in bytes) behind (bytes_of ipv6.dst_addr_field bytes) v.protocol v.payload
+  pub source_is : octets_of source ≡ bytes_of ipv6.src_addr_field bytes
+  pub addresses : v.addresses ≡ V6 source destination
+  pub hop_limit : v.hop_limit ≡ byte_of ipv6.hop_limit_field bytes
+  pub hop_by_hop : v.hop_by_hop ≡ options_of (next_header_in bytes) behind
+  pub passes : Passes (next_header_in bytes) behind (bytes_of ipv6.dst_addr_field bytes) v.protocol v.payload
       (octets_of destination)
   pub passed : IsExtension v.protocol → ⊥
   pub unfragmented : v.protocol ≢ Ipv6Frag
@@ -204,13 +204,13 @@ pub record IsDatagram6 (bytes : List ℕ) (v : DatagramValue) : Type 0 where
 pub record IsHead6 (bytes : List ℕ) (h : Head) : Type 0 where
   pub source : Ipv6Address
   pub destination : Ipv6Address
-  pub source_ : octets_of source ≡ bytes_of ipv6.src_addr_field bytes
-  pub destination_ : octets_of destination ≡ bytes_of ipv6.dst_addr_field bytes
-  pub addresses_ : h.addresses ≡ V6 source destination
-  pub protocol_ : h.protocol ≡ next_header_in bytes
-  pub ident_ : h.ident ≡ None
-  pub frag_offset_ : h.frag_offset ≡ 0
-  pub more_frags_ : h.more_frags ≡ false
+  pub source_is : octets_of source ≡ bytes_of ipv6.src_addr_field bytes
+  pub destination_is : octets_of destination ≡ bytes_of ipv6.dst_addr_field bytes
+  pub addresses : h.addresses ≡ V6 source destination
+  pub protocol : h.protocol ≡ next_header_in bytes
+  pub ident : h.ident ≡ None
+  pub frag_offset : h.frag_offset ≡ 0
+  pub more_frags : h.more_frags ≡ false
 
 -- The headers lead to that of a fragment that is not atomic (RFC 8200 section 4.5): the protocol after it, a reserved
 -- byte, the offset in the upper 13 bits of two bytes, of which the lowest is set where more fragments follow, and the
@@ -219,22 +219,22 @@ pub record IsFragment6 (bytes behind : List ℕ) (h : Head) : Type 0 where
   pub source : Ipv6Address
   pub destination : Ipv6Address
   pub header : List ℕ
-  pub passes_ : Passes (next_header_in bytes) behind (bytes_of ipv6.dst_addr_field bytes) Ipv6Frag header
+  pub passes : Passes (next_header_in bytes) behind (bytes_of ipv6.dst_addr_field bytes) Ipv6Frag header
       (octets_of destination)
   pub whole : 8 ≤ length header
   pub no_atomic : HasAtomic header → ⊥
-  pub source_ : octets_of source ≡ bytes_of ipv6.src_addr_field bytes
-  pub addresses_ : h.addresses ≡ V6 source destination
-  pub protocol_ : h.protocol ≡ protocol_of (slice_index header 0)
-  pub ident_ : h.ident ≡ Some (number_of (field 4 8) header)
-  pub frag_offset_ : h.frag_offset ≡ 8 * (number_of (field 2 4) header / 8)
-  pub more_frags_ : IsTrue h.more_frags ↔ (number_of (field 2 4) header % 2 ≡ 1)
+  pub source_is : octets_of source ≡ bytes_of ipv6.src_addr_field bytes
+  pub addresses : h.addresses ≡ V6 source destination
+  pub protocol : h.protocol ≡ protocol_of (slice_index header 0)
+  pub ident : h.ident ≡ Some (number_of (field 4 8) header)
+  pub frag_offset : h.frag_offset ≡ 8 * (number_of (field 2 4) header / 8)
+  pub more_frags : IsTrue h.more_frags ↔ (number_of (field 2 4) header % 2 ≡ 1)
 
 -- a protocol and the bytes after it lead to a header of a protocol that is not whole
 pub record LeadsToTorn (p : IpProtocol) (bytes destination : List ℕ) (q : IpProtocol) : Type 0 where
   pub rest : List ℕ
   pub final : List ℕ
-  pub passes_ : Passes p bytes destination q rest final
+  pub passes : Passes p bytes destination q rest final
   pub torn : IsTornHeader q rest
 
 -- A jumbogram (RFC 2675 section 2): the payload length is 0, and a hop-by-hop header follows, which has the length in

@@ -89,8 +89,8 @@ pub data IsPayload (type : ℕ) (tags bytes : List ℕ) (v : FrameValue) : Type 
 -- a type, and the bytes after it
 pub record IsTypedFrame (type : ℕ) (bytes : List ℕ) (v : FrameValue) : Type 0 where
   pub typed : TypedValue
-  pub tagged_ : IsTagged type bytes typed.tags typed.type typed.payload
-  pub payload_ : IsPayload typed.type typed.tags typed.payload v
+  pub tagged : IsTagged type bytes typed.tags typed.type typed.payload
+  pub payload : IsPayload typed.type typed.tags typed.payload v
 
 -- ---- links of IP alone
 

@@ -13,6 +13,6 @@ abbrev pub HasHeader : Link → List ℕ → Type 0
 HasHeader link bytes = (link ≡ Ethernet) × (14 ≤ length bytes)
 
 pub record IsHeader (bytes : List ℕ) (h : EthernetHeader) : Type 0 where
-  pub destination_ : octets_of (ethernet_of h.destination) ≡ bytes_of (field 0 6) bytes
-  pub source_ : octets_of (ethernet_of h.source) ≡ bytes_of (field 6 12) bytes
-  pub kind_ : h.kind ≡ number_of (field 12 14) bytes
+  pub destination_is : octets_of (ethernet_of h.destination) ≡ bytes_of (field 0 6) bytes
+  pub source_is : octets_of (ethernet_of h.source) ≡ bytes_of (field 6 12) bytes
+  pub kind_is : h.kind ≡ number_of (field 12 14) bytes

@@ -58,7 +58,7 @@ packet_text capabilities addresses v =
 pub record Reads (capabilities : ChecksumCapabilities) (addresses : Addresses) (bytes : List ℕ) (v : UdpValue)
     : Type 0 where
   pub datagram : IsDatagram capabilities addresses bytes v.ports
-  pub payload_ : v.payload ≡ bytes_of (payload_field bytes) bytes
+  pub payload : v.payload ≡ bytes_of (payload_field bytes) bytes
 
 -- a value that its own text gives back: it has a destination port, and its length fits its field
 abbrev pub IsCanonical : UdpValue → Type 0
@@ -86,7 +86,7 @@ format capabilities addresses = record {
 -- canonical value is read back, whatever follows the datagram.
 pub record Emits (capabilities : ChecksumCapabilities) (addresses : Addresses) (v : UdpValue) (old new : List ℕ)
     : Type 0 where
-  pub text_ : new ≡ over old (packet_text capabilities addresses v)
+  pub written : new ≡ over old (packet_text capabilities addresses v)
   pub sealed : is_computed capabilities.udp ≡ true → IsSealed addresses new
   pub exact : length old ≡ text_len v → new ≡ packet_text capabilities addresses v
   pub reads_back : Fills capabilities addresses → IsCanonical v → Reads capabilities addresses new v

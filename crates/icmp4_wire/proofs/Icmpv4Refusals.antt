@@ -23,7 +23,7 @@ echo-code capabilities bytes unread h (inl kind) zero =
       record {
         whole = h.whole;
         good = h.good;
-        content = record { kind = kind; code = zero; identifier = refl; sequence = refl; data_ = refl };
+        content = record { kind = kind; code = zero; identifier = refl; sequence = refl; data_is = refl };
       },
     )
 echo-code capabilities bytes unread h (inr kind) zero =
@@ -32,7 +32,7 @@ echo-code capabilities bytes unread h (inr kind) zero =
       record {
         whole = h.whole;
         good = h.good;
-        content = record { kind = kind; code = zero; identifier = refl; sequence = refl; data_ = refl };
+        content = record { kind = kind; code = zero; identifier = refl; sequence = refl; data_is = refl };
       },
     )
 
@@ -68,7 +68,7 @@ whole-quote bytes q =
         destination = destination.1;
         protocol = refl;
         hops = refl;
-        data_ = refl;
+        data_is = refl;
         payload = refl;
       },
     )
@@ -77,23 +77,23 @@ pub no-quote : (capabilities : ChecksumCapabilities) (bytes : List ℕ) → (IsR
     → HasHeader capabilities bytes → IsErrorType (byte_of type_field bytes) → IsWholeQuote (data_in bytes) → ⊥
 no-quote capabilities bytes unread h (inl kind) q =
     let code : ℕ = byte_of code_field bytes in
-    let quote_ = whole-quote (data_in bytes) q in
+    let parts = whole-quote (data_in bytes) q in
     unread (
-      unreachable (unreachable_of code) quote_.0 quote_.1,
+      unreachable (unreachable_of code) parts.0 parts.1,
       record {
         whole = h.whole;
         good = h.good;
-        content = (code, record { kind = kind; reason = refl; quote_ = quote_.2 }, refl);
+        content = (code, record { kind = kind; reason = refl; quote = parts.2 }, refl);
       },
     )
 no-quote capabilities bytes unread h (inr kind) q =
     let code : ℕ = byte_of code_field bytes in
-    let quote_ = whole-quote (data_in bytes) q in
+    let parts = whole-quote (data_in bytes) q in
     unread (
-      time_exceeded (time_exceeded_of code) quote_.0 quote_.1,
+      time_exceeded (time_exceeded_of code) parts.0 parts.1,
       record {
         whole = h.whole;
         good = h.good;
-        content = (code, record { kind = kind; reason = refl; quote_ = quote_.2 }, refl);
+        content = (code, record { kind = kind; reason = refl; quote = parts.2 }, refl);
       },
     )

@@ -12,7 +12,7 @@ begins : (bytes : List ℕ) (t : ℕ) (group : Ipv4Address) → HasGroup bytes g
 begins bytes t group has is kind = record {
   whole = has.0;
   kind = kind;
-  code_ = refl;
+  code_is = refl;
   group_addr = has.1;
   is_group = is;
 }

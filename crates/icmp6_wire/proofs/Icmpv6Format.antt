@@ -64,11 +64,11 @@ content-canonical bytes (unreachable reason quoted d) are some small m =
     (byte_of code_field bytes) refl m.1 in (
       read.0,
       omega (arith, read.1, are 1),
-      header-read_canonical (data_in bytes) quoted (IsBytes-drop 8 bytes are) m.0.header_,
+      header-read_canonical (data_in bytes) quoted (IsBytes-drop 8 bytes are) m.0.header,
     )
 content-canonical bytes (too_big mtu quoted d) are some small m = (
   omega (arith, m.2, number_of-small4 4 8 bytes refl are),
-  header-read_canonical (data_in bytes) quoted (IsBytes-drop 8 bytes are) m.0.header_,
+  header-read_canonical (data_in bytes) quoted (IsBytes-drop 8 bytes are) m.0.header,
 )
 content-canonical bytes (time_exceeded reason quoted d) are some small m =
     let read =
@@ -76,7 +76,7 @@ content-canonical bytes (time_exceeded reason quoted d) are some small m =
     (byte_of code_field bytes) refl m.1 in (
       read.0,
       omega (arith, read.1, are 1),
-      header-read_canonical (data_in bytes) quoted (IsBytes-drop 8 bytes are) m.0.header_,
+      header-read_canonical (data_in bytes) quoted (IsBytes-drop 8 bytes are) m.0.header,
     )
 content-canonical bytes (param_problem reason pointer quoted d) are some small m =
     let read =
@@ -85,17 +85,17 @@ content-canonical bytes (param_problem reason pointer quoted d) are some small m
       read.0,
       omega (arith, read.1, are 1),
       omega (arith, m.2, number_of-small4 4 8 bytes refl are),
-      header-read_canonical (data_in bytes) quoted (IsBytes-drop 8 bytes are) m.0.header_,
+      header-read_canonical (data_in bytes) quoted (IsBytes-drop 8 bytes are) m.0.header,
     )
 content-canonical bytes (echo_request ident seq_no d) are some small m = (
   omega (arith, m.identifier, number_of-small 4 6 bytes refl are),
   omega (arith, m.sequence, number_of-small 6 8 bytes refl are),
-  omega (arith, ap (λ (l : List ℕ). length l) m.data_, length-drop 8 bytes),
+  omega (arith, ap (λ (l : List ℕ). length l) m.data_is, length-drop 8 bytes),
 )
 content-canonical bytes (echo_reply ident seq_no d) are some small m = (
   omega (arith, m.identifier, number_of-small 4 6 bytes refl are),
   omega (arith, m.sequence, number_of-small 6 8 bytes refl are),
-  omega (arith, ap (λ (l : List ℕ). length l) m.data_, length-drop 8 bytes),
+  omega (arith, ap (λ (l : List ℕ). length l) m.data_is, length-drop 8 bytes),
 )
 content-canonical bytes (ndisc m) are some small c = ndisc_format.accepted bytes m are small c.0
 content-canonical bytes (mld m) are some small c = mld_format.accepted bytes m are small c.0

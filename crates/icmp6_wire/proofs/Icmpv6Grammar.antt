@@ -70,7 +70,7 @@ content-value_kind bytes (mld (records rs)) c = absurd c.0
 
 error-unique : (t : ℕ) (bytes : List ℕ) (quoted other : Ipv6Repr) (d e : List ℕ) → IsError t bytes quoted d
     → IsError t bytes other e → (quoted ≡ other) × (d ≡ e)
-error-unique t bytes quoted other d e a b = (one_header _ quoted other a.header_ b.header_, a.data_ ∙ sym b.data_)
+error-unique t bytes quoted other d e a b = (one_header _ quoted other a.header b.header, a.data_is ∙ sym b.data_is)
 
 content-unique : (bytes : List ℕ) (v w : MessageValue) → IsContent bytes v → IsContent bytes w
     → value_kind v ≡ value_kind w → v ≡ w
@@ -87,9 +87,9 @@ content-unique bytes (param_problem reason pointer quoted d) (param_problem othe
     let quotes = error-unique 4 bytes quoted another d e a.0 b.0 in
     cc (a.1 ∙ sym b.1, a.2 ∙ sym b.2)
 content-unique bytes (echo_request ident seq_no d) (echo_request other number e) a b same =
-    cc (a.identifier ∙ sym b.identifier, a.sequence ∙ sym b.sequence, a.data_ ∙ sym b.data_)
+    cc (a.identifier ∙ sym b.identifier, a.sequence ∙ sym b.sequence, a.data_is ∙ sym b.data_is)
 content-unique bytes (echo_reply ident seq_no d) (echo_reply other number e) a b same =
-    cc (a.identifier ∙ sym b.identifier, a.sequence ∙ sym b.sequence, a.data_ ∙ sym b.data_)
+    cc (a.identifier ∙ sym b.identifier, a.sequence ∙ sym b.sequence, a.data_is ∙ sym b.data_is)
 content-unique bytes (ndisc m) (ndisc n) a b same = ap (λ (x : NdiscValue). ndisc x) (neighbor-one bytes m n a.0 b.0)
 content-unique bytes (mld m) (mld n) a b same = ap (λ (x : MldValue). mld x) (message-one bytes m n a.0 b.0)
 content-unique bytes _ _ a b same = absurd (omega arith)

@@ -136,8 +136,8 @@ param_problem_of-number _ p = refl
 -- what is read in the bytes of an error
 record ReadsError (bytes : List ℕ) (t code word : ℕ) (quoted : Ipv6Repr) (d : List ℕ) : Type 0 where
   pub error : IsError t bytes quoted d
-  pub code_ : byte_of code_field bytes ≡ code
-  pub word_ : word ≡ number_of word_field bytes
+  pub code_is : byte_of code_field bytes ≡ code
+  pub word_is : word ≡ number_of word_field bytes
 
 error_read : (bytes : List ℕ) (t code word : ℕ) (quoted : Ipv6Repr) (d : List ℕ) → CanQuote quoted → word < 2 ^ 32
     → Begins bytes t code (big_bytes 4 word ++ (header_text quoted ++ d)) → ReadsError bytes t code word quoted d
@@ -145,12 +145,12 @@ unfolding part
 error_read bytes t code word quoted d c small b = rw b.whole (record {
   error = record {
     kind = refl;
-    quote_ = omega (arith, length-append (header_text quoted) d, length-header_text quoted);
-    header_ = header-read quoted d c.3 c.0;
-    data_ = sym (drop-header_text quoted d);
+    quote = omega (arith, length-append (header_text quoted) d, length-header_text quoted);
+    header = header-read quoted d c.3 c.0;
+    data_is = sym (drop-header_text quoted d);
   };
-  code_ = refl;
-  word_ = sym (big_number-reads_back 4 word [] (omega (arith, small)));
+  code_is = refl;
+  word_is = sym (big_number-reads_back 4 word [] (omega (arith, small)));
 })
 
 module _ (capabilities : ChecksumCapabilities) (source destination : Ipv6Address) where
@@ -188,16 +188,16 @@ module _ (capabilities : ChecksumCapabilities) (source destination : Ipv6Address
       (norm v)
   content_read (unreachable reason quoted d) c =
       let read = sealed_error 1 (unreachable_number reason) 0 quoted d c.2 (omega arith) in
-      (read.error, unreachable_of-number reason c.0 ∙ ap unreachable_of (sym read.code_))
+      (read.error, unreachable_of-number reason c.0 ∙ ap unreachable_of (sym read.code_is))
   content_read (too_big mtu quoted d) c =
       let read = sealed_error 2 0 mtu quoted d c.1 c.0 in
-      (read.error, read.code_, read.word_)
+      (read.error, read.code_is, read.word_is)
   content_read (time_exceeded reason quoted d) c =
       let read = sealed_error 3 (time_exceeded_number reason) 0 quoted d c.2 (omega arith) in
-      (read.error, time_exceeded_of-number reason c.0 ∙ ap time_exceeded_of (sym read.code_))
+      (read.error, time_exceeded_of-number reason c.0 ∙ ap time_exceeded_of (sym read.code_is))
   content_read (param_problem reason pointer quoted d) c =
       let read = sealed_error 4 (param_problem_number reason) pointer quoted d c.3 c.2 in
-      (read.error, param_problem_of-number reason c.0 ∙ ap param_problem_of (sym read.code_), read.word_)
+      (read.error, param_problem_of-number reason c.0 ∙ ap param_problem_of (sym read.code_is), read.word_is)
   content_read (echo_request ident seq_no d) c = sealed_echo 0x80 ident seq_no d c.0 c.1
   content_read (echo_reply ident seq_no d) c = sealed_echo 0x81 ident seq_no d c.0 c.1
   content_read (ndisc m) c = sealed_ndisc m c

@@ -41,15 +41,15 @@ query_read code group flag qrv qqic sources d few small many =
     record {
       kind = refl;
       whole = omega (arith, length-append (octets_of group) behind, group.whole);
-      code_ = sym (big_number-reads_back 2 code [] (omega (arith, few)));
-      group_ = sym (take_at (octets_of group) behind 16 group.whole);
-      flag_ = rw first (flag_read flag qrv small);
-      qrv_ = rw first (qrv_read flag qrv small);
-      qqic_ = sym second;
-      sources_ =
+      code_is = sym (big_number-reads_back 2 code [] (omega (arith, few)));
+      group_is = sym (take_at (octets_of group) behind 16 group.whole);
+      flag_is = rw first (flag_read flag qrv small);
+      qrv_is = rw first (qrv_read flag qrv small);
+      qqic_is = sym second;
+      sources_are =
           sym (ap (λ (l : List ℕ). big_number 2 (take 2 l)) (past 2)
           ∙ big_number-reads_back 2 sources [] (omega (arith, many)));
-      data_ = sym (past 4);
+      data_is = sym (past 4);
     }
 
 report_read : (count : ℕ) (d : List ℕ) → count < 2 ^ 16
@@ -58,8 +58,8 @@ unfolding part
 report_read count d few = record {
   kind = refl;
   whole = omega arith;
-  count_ = sym (big_number-reads_back 2 count [] (omega (arith, few)));
-  data_ = refl;
+  count_is = sym (big_number-reads_back 2 count [] (omega (arith, few)));
+  data_is = refl;
 }
 
 -- the text of a report
@@ -91,15 +91,15 @@ message_read (records rs) c =
 message-canonical : (bytes : List ℕ) (v : MldValue) → IsBytes bytes → length bytes ≤ 65515 → IsMessage bytes v
     → IsCanonical v
 message-canonical bytes (query code group flag qrv qqic sources d) are few m = (
-  omega (arith, m.code_, number_of-small 4 6 bytes refl are),
-  omega (arith, m.qrv_),
-  omega (arith, m.qqic_, are 25),
-  omega (arith, m.sources_, number_of-small 26 28 bytes refl are),
-  omega (arith, ap (λ (l : List ℕ). length l) m.data_, length-drop 28 bytes, m.whole, few),
+  omega (arith, m.code_is, number_of-small 4 6 bytes refl are),
+  omega (arith, m.qrv_is),
+  omega (arith, m.qqic_is, are 25),
+  omega (arith, m.sources_are, number_of-small 26 28 bytes refl are),
+  omega (arith, ap (λ (l : List ℕ). length l) m.data_is, length-drop 28 bytes, m.whole, few),
 )
 message-canonical bytes (report count d) are few m = (
-  omega (arith, m.count_, number_of-small 6 8 bytes refl are),
-  omega (arith, ap (λ (l : List ℕ). length l) m.data_, length-drop 8 bytes, m.whole, few),
+  omega (arith, m.count_is, number_of-small 6 8 bytes refl are),
+  omega (arith, ap (λ (l : List ℕ). length l) m.data_is, length-drop 8 bytes, m.whole, few),
 )
 message-canonical bytes (records rs) are few m = absurd m
 

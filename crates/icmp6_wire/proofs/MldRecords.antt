@@ -54,11 +54,11 @@ fields_read : (kind : RecordType) (words sources : ℕ) (group : Ipv6Address)
 unfolding part
 fields_read kind words sources group proper small = record {
   whole = omega (arith, group.whole);
-  kind_ = record_type_of-number kind proper;
-  words_ = refl;
-  sources_ = sym (big_number-reads_back 2 sources [] (omega (arith, small)));
-  group_ = sym (take_all 16 (octets_of group) (omega (arith, group.whole)));
-  rest_ = sym (drop_all 16 (octets_of group) (omega (arith, group.whole)));
+  kind_is = record_type_of-number kind proper;
+  words_are = refl;
+  sources_are = sym (big_number-reads_back 2 sources [] (omega (arith, small)));
+  group_is = sym (take_all 16 (octets_of group) (omega (arith, group.whole)));
+  rest_is = sym (drop_all 16 (octets_of group) (omega (arith, group.whole)));
 }
 
 record_read : (v : RecordValue) → IsCanonical v → IsGroupRecord (text v) (norm v)
@@ -70,11 +70,11 @@ record_read (address_record kind words sources group rest) c = (
 -- bytes begin with one record at most
 pub record-one : (bytes : List ℕ) (v w : RecordValue) → IsRecord bytes v → IsRecord bytes w → v ≡ w
 record-one bytes (address_record kind words sources group rest) (address_record other more many another behind) a b =
-    let one = a.kind_ ∙ sym b.kind_ in
-    let two = a.words_ ∙ sym b.words_ in
-    let three = a.sources_ ∙ sym b.sources_ in
-    let four = same_address group another (a.group_ ∙ sym b.group_) in
-    let five = a.rest_ ∙ sym b.rest_ in
+    let one = a.kind_is ∙ sym b.kind_is in
+    let two = a.words_are ∙ sym b.words_are in
+    let three = a.sources_are ∙ sym b.sources_are in
+    let four = same_address group another (a.group_is ∙ sym b.group_is) in
+    let five = a.rest_is ∙ sym b.rest_is in
     cc
 
 -- ---- what was read
@@ -88,11 +88,11 @@ unfolding is_unknown
 record-canonical bytes (address_record kind words sources group rest) are m =
     let read =
     case-read record_type_number record_type.Unknown (λ k. refl) is_unknown (λ k. refl) record_types
-    (byte_of record_type_field bytes) refl m.0.kind_ in (
+    (byte_of record_type_field bytes) refl m.0.kind_is in (
       read.0,
       omega (arith, read.1, are 0),
-      omega (arith, m.0.words_, are 1),
-      omega (arith, m.0.sources_, number_of-small 2 4 bytes refl are),
+      omega (arith, m.0.words_are, are 1),
+      omega (arith, m.0.sources_are, number_of-small 2 4 bytes refl are),
       m.1,
     )
 

@@ -62,17 +62,17 @@ same_flag false true P f g = absurd (let no = f.1 (g.0 refl) in cc)
 
 pub message-one : (bytes : List ℕ) (v w : MldValue) → IsMessage bytes v → IsMessage bytes w → v ≡ w
 message-one bytes (query code group flag qrv qqic sources d) (query other another other_flag more many few e) a b =
-    let one = a.code_ ∙ sym b.code_ in
-    let two = same_address group another (a.group_ ∙ sym b.group_) in
-    let three = same_flag flag other_flag _ a.flag_ b.flag_ in
-    let four = a.qrv_ ∙ sym b.qrv_ in
-    let five = a.qqic_ ∙ sym b.qqic_ in
-    let six = a.sources_ ∙ sym b.sources_ in
-    let seven = a.data_ ∙ sym b.data_ in
+    let one = a.code_is ∙ sym b.code_is in
+    let two = same_address group another (a.group_is ∙ sym b.group_is) in
+    let three = same_flag flag other_flag _ a.flag_is b.flag_is in
+    let four = a.qrv_is ∙ sym b.qrv_is in
+    let five = a.qqic_is ∙ sym b.qqic_is in
+    let six = a.sources_are ∙ sym b.sources_are in
+    let seven = a.data_is ∙ sym b.data_is in
     cc
 message-one bytes (report count d) (report other e) a b =
-    let one = a.count_ ∙ sym b.count_ in
-    let two = a.data_ ∙ sym b.data_ in
+    let one = a.count_is ∙ sym b.count_is in
+    let two = a.data_is ∙ sym b.data_is in
     cc
 message-one bytes (records rs) w a b = absurd a
 message-one bytes v (records rs) a b = absurd b

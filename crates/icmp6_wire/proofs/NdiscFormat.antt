@@ -20,7 +20,7 @@ use Rattle.wirebase.proofs.Pieces.{over-exact}
 use Rattle.wirebase.proofs.WideParts.{number_of-small4}
 use Rattle.wirebase.specs.LastOf.{last_of}
 use Rattle.opt_wire.specs.NdiscOptionRepr as option
-use Rattle.opt_wire.specs.NdiscOptionRepr.{OptionValue, source, target, prefix_, redirected, mtu, filled}
+use Rattle.opt_wire.specs.NdiscOptionRepr.{OptionValue, source, target, prefix_information, redirected, mtu, filled}
 use Rattle.opt_wire.specs.declared.ndiscoption.repr.PrefixInformation.{PrefixInformation}
 use Rattle.opt_wire.proofs.NdiscOptionFormat.{ndisc_option_format}
 use Rattle.icmp6_wire.specs.Icmpv6Packet.{header_len_in, payload_in}
@@ -66,11 +66,11 @@ same_content : (bytes : List ℕ) (os : List OptionValue) (v w : NdiscValue) →
 same_content bytes os (router_solicit l) (router_solicit k) a b same = ap router_solicit (a.1 ∙ sym b.1)
 same_content bytes os (router_advert hops flags lifetime reachable retrans l m p)
     (router_advert others marks time reaches waits k n q) a b same =
-    let one = a.0.hops_ ∙ sym b.0.hops_ in
-    let two = same_router_flags flags marks (a.0.flags_ ∙ sym b.0.flags_) in
-    let three = same_duration lifetime time (a.0.lifetime_ ∙ sym b.0.lifetime_) in
-    let four = same_duration reachable reaches (a.0.reachable_ ∙ sym b.0.reachable_) in
-    let five = same_duration retrans waits (a.0.retrans_ ∙ sym b.0.retrans_) in
+    let one = a.0.hops_are ∙ sym b.0.hops_are in
+    let two = same_router_flags flags marks (a.0.flags_are ∙ sym b.0.flags_are) in
+    let three = same_duration lifetime time (a.0.lifetime_is ∙ sym b.0.lifetime_is) in
+    let four = same_duration reachable reaches (a.0.reachable_is ∙ sym b.0.reachable_is) in
+    let five = same_duration retrans waits (a.0.retrans_is ∙ sym b.0.retrans_is) in
     let six = a.1 ∙ sym b.1 in
     let seven = a.2 ∙ sym b.2 in
     let eight = a.3 ∙ sym b.3 in
@@ -135,7 +135,7 @@ good_mtu (mtu n) g = g
 good_mtu _ g = tt
 
 good_prefix : (v : OptionValue) → IsGood v → IfThere IsGood (prefixes (prefix_in v))
-good_prefix (prefix_ p) g = g
+good_prefix (prefix_information p) g = g
 good_prefix _ g = tt
 
 good_packet : (v : OptionValue) → IsGood v → IfThere IsGood (packets (redirected_in v))
@@ -166,7 +166,7 @@ good_content bytes os (router_solicit l) all a = good_sources l os all a.1
 good_content bytes os (router_advert hops flags lifetime reachable retrans l m p) all a = (
   good_sources l os all a.1,
   rw a.2 (last_good mtu_in mtu good_mtu os all),
-  rw a.3 (last_good prefix_in prefix_ good_prefix os all),
+  rw a.3 (last_good prefix_in prefix_information good_prefix os all),
 )
 good_content bytes os (neighbor_solicit t l) all a = good_sources l os all a.2
 good_content bytes os (neighbor_advert flags t l) all a = good_targets l os all a.3
@@ -200,12 +200,12 @@ few_millis time n e small = omega (arith, e, small)
 canonical_header : (bytes : List ℕ) (os : List OptionValue) (v : NdiscValue) → IsBytes bytes → IsContent bytes os v
     → IsCanonicalHeader v
 canonical_header bytes os (router_advert hops flags lifetime reachable retrans l m p) are a = (
-  omega (arith, a.0.hops_, are 4),
-  ap known_router a.0.flags_ ∙ known-router (byte_of router_flags_field bytes) ∙ sym a.0.flags_,
+  omega (arith, a.0.hops_are, are 4),
+  ap known_router a.0.flags_are ∙ known-router (byte_of router_flags_field bytes) ∙ sym a.0.flags_are,
   (
-    few_seconds lifetime (number_of router_lifetime_field bytes) a.0.lifetime_ (number_of-small 6 8 bytes refl are),
-    few_millis reachable (number_of reachable_time_field bytes) a.0.reachable_ (number_of-small4 8 12 bytes refl are),
-    few_millis retrans (number_of retrans_time_field bytes) a.0.retrans_ (number_of-small4 12 16 bytes refl are),
+    few_seconds lifetime (number_of router_lifetime_field bytes) a.0.lifetime_is (number_of-small 6 8 bytes refl are),
+    few_millis reachable (number_of reachable_time_field bytes) a.0.reachable_is (number_of-small4 8 12 bytes refl are),
+    few_millis retrans (number_of retrans_time_field bytes) a.0.retrans_is (number_of-small4 12 16 bytes refl are),
   ),
 )
 canonical_header bytes os (neighbor_advert flags t l) are a =
@@ -252,9 +252,9 @@ norm-content : (bytes : List ℕ) (os : List OptionValue) (v : NdiscValue) → I
 unfolding AreGood
 norm-content bytes os (router_solicit l) a g = ap router_solicit (kept_source l g)
 norm-content bytes os (router_advert hops flags lifetime reachable retrans l m p) a g =
-    let one = whole_seconds-read lifetime (number_of router_lifetime_field bytes) a.0.lifetime_ in
-    let two = whole_millis-read reachable (number_of reachable_time_field bytes) a.0.reachable_ in
-    let three = whole_millis-read retrans (number_of retrans_time_field bytes) a.0.retrans_ in
+    let one = whole_seconds-read lifetime (number_of router_lifetime_field bytes) a.0.lifetime_is in
+    let two = whole_millis-read reachable (number_of reachable_time_field bytes) a.0.reachable_is in
+    let three = whole_millis-read retrans (number_of retrans_time_field bytes) a.0.retrans_is in
     let four = kept_source l g.0 in
     let five = kept_prefix p g.2 in
     cc
@@ -280,7 +280,7 @@ norm_target (Some a) c = ndisc_option_format.norm_canonical (target a) c
 norm_prefix : (p : Option PrefixInformation) → IfThere option.IsCanonical (prefixes p)
     → IfThere option.IsCanonical (prefixes (option_map whole_prefix p))
 norm_prefix None c = tt
-norm_prefix (Some p) c = ndisc_option_format.norm_canonical (prefix_ p) c
+norm_prefix (Some p) c = ndisc_option_format.norm_canonical (prefix_information p) c
 
 pub norm-canonical : (v : NdiscValue) → IsCanonical v → IsCanonical (norm v)
 norm-canonical (router_solicit l) c = (tt, (norm_source l c.1.0, tt))
@@ -307,7 +307,7 @@ filled-filled (Some a) = ap source_in (ndisc_option_format.norm_norm (source a))
 prefix-prefix : (p : Option PrefixInformation)
     → option_map whole_prefix (option_map whole_prefix p) ≡ option_map whole_prefix p
 prefix-prefix None = refl
-prefix-prefix (Some p) = ap prefix_in (ndisc_option_format.norm_norm (prefix_ p))
+prefix-prefix (Some p) = ap prefix_in (ndisc_option_format.norm_norm (prefix_information p))
 
 pub norm-norm : (v : NdiscValue) → norm (norm v) ≡ norm v
 norm-norm (router_solicit l) = ap router_solicit (filled-filled l)
@@ -338,7 +338,7 @@ target-text (Some a) c = ndisc_option_format.norm_text (target a) c (λ e. e)
 prefix-text : (p : Option PrefixInformation) → IfThere option.IsCanonical (prefixes p)
     → option_text (prefixes (option_map whole_prefix p)) ≡ option_text (prefixes p)
 prefix-text None c = refl
-prefix-text (Some p) c = ndisc_option_format.norm_text (prefix_ p) c (λ e. e)
+prefix-text (Some p) c = ndisc_option_format.norm_text (prefix_information p) c (λ e. e)
 
 pub norm-text : (v : NdiscValue) → IsCanonical v → text (norm v) ≡ text v
 norm-text (router_solicit l) c = cc (source-text l c.1.0)
@@ -378,7 +378,7 @@ ndisc_emits v old new left =
     let exact : length old ≡ text_len v → new ≡ text v =
     λ long. left ∙ over-exact old (text v) (long ∙ sym (length-text v)) in
     record {
-      text_ = left;
+      written = left;
       exact = exact;
       reads_back =
           λ long c. rw (exact long) (message_text v c);

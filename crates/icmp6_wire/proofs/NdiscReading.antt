@@ -13,7 +13,8 @@ use Rattle.wirebase.specs.Ipv6Address.{octets_of}
 use Rattle.wirebase.specs.declared.ipv6.Ipv6Repr.{Ipv6Repr}
 use Rattle.opt_wire.specs.NdiscOption.{units_in}
 use Rattle.opt_wire.specs.NdiscOptionRepr as option
-use Rattle.opt_wire.specs.NdiscOptionRepr.{OptionValue, source, target, prefix_, redirected, mtu, unknown, filled}
+use Rattle.opt_wire.specs.NdiscOptionRepr.{OptionValue, source, target, prefix_information, redirected, mtu, unknown}
+use Rattle.opt_wire.specs.NdiscOptionRepr.{filled}
 use Rattle.opt_wire.specs.NdiscOptionRepr.{BeginsWith}
 use Rattle.opt_wire.specs.declared.ndiscoption.repr.PrefixInformation.{PrefixInformation}
 use Rattle.opt_wire.proofs.NdiscOptionReading.{option_read}
@@ -35,13 +36,13 @@ use Rattle.icmp6_wire.proofs.Icmpv6Seals.{Begins}
 text_units : (v : OptionValue) → option.text_len v ≡ 8 * units_in (option.text v)
 text_units (source address) = omega (arith, ap units_in (link_text 1 address))
 text_units (target address) = omega (arith, ap units_in (link_text 2 address))
-text_units (prefix_ p) = omega (arith, ap units_in (prefix_text p))
+text_units (prefix_information p) = omega (arith, ap units_in (prefix_text p))
 text_units (redirected h d) = omega (arith, ap units_in (redirected_text h d))
 text_units (mtu n) = omega (arith, ap units_in (mtu_text n))
 text_units (unknown t n d) = omega (arith, ap units_in (unknown_text t n d))
 
 pub can_emit : (v : OptionValue) → option.IsCanonical v → option.CanEmit v
-can_emit (prefix_ p) c = (c.valid, c.preferred)
+can_emit (prefix_information p) c = (c.valid, c.preferred)
 can_emit (redirected h d) c = (c.payload, c.small)
 can_emit (unknown t n d) c = (c.2, c.4)
 can_emit _ c = tt
@@ -83,13 +84,13 @@ one_target l = grind arith
 record OfRouter (l : Option (List ℕ)) (m : Option ℕ) (p : Option PrefixInformation) (os : List OptionValue)
     : Type 0 where
   link : option_map filled l ≡ last_of source_in os
-  mtu_ : m ≡ last_of mtu_in os
+  mtu : m ≡ last_of mtu_in os
   prefix_info : option_map whole_prefix p ≡ last_of prefix_in os
 
 of_router : (l : Option (List ℕ)) (m : Option ℕ) (p : Option PrefixInformation)
     → OfRouter l m p (read_options (sources l ∷ mtus m ∷ prefixes p ∷ []))
 unfolding read_options
-of_router l m p = record { link = grind arith; mtu_ = grind arith; prefix_info = grind arith }
+of_router l m p = record { link = grind arith; mtu = grind arith; prefix_info = grind arith }
 
 record OfRedirect (l : Option (List ℕ)) (r : Option (Ipv6Repr × List ℕ)) (os : List OptionValue) : Type 0 where
   link : option_map filled l ≡ last_of target_in os
@@ -157,19 +158,19 @@ message_at first second (router_advert hops flags lifetime reachable retrans l m
       content = (
         record {
           kind = refl;
-          hops_ = refl;
-          flags_ = sym c.0.1;
-          lifetime_ =
+          hops_are = refl;
+          flags_are = sym c.0.1;
+          lifetime_is =
               ap (λ (n : ℕ). 1000000 * n)
               (sym (big_number-reads_back 2 (seconds_of lifetime) [] (omega (arith, c.0.2.0))));
-          reachable_ =
+          reachable_is =
               ap (λ (n : ℕ). 1000 * n)
               (sym (big_number-reads_back 4 (millis_of reachable) [] (omega (arith, c.0.2.1))));
-          retrans_ =
+          retrans_is =
               ap (λ (n : ℕ). 1000 * n) (sym (big_number-reads_back 4 (millis_of retrans) [] (omega (arith, c.0.2.2))));
         },
         last.link,
-        last.mtu_,
+        last.mtu,
         last.prefix_info,
       );
     }

@@ -17,7 +17,7 @@ whole_none bytes place rest begins neighbor is e = record {
   options = [];
   whole = nothing;
   payload = ap (λ (n : ℕ). drop n bytes) (sym is) ∙ sym e;
-  place_ = omega (arith, is);
+  place_is = omega (arith, is);
 }
 
 -- one more after them
@@ -35,7 +35,7 @@ more_whole bytes place text block rest b e a = record {
   options = a.options ++ block;
   whole = append_whole a.options block a.whole b;
   payload = a.payload ∙ ap (λ (l : List ℕ). a.options ++ l) e ∙ sym (append_assoc a.options block rest);
-  place_ = omega (arith, a.place_, length-append a.options block);
+  place_is = omega (arith, a.place_is, length-append a.options block);
 }
 
 -- they tile the bytes: each is read, or none is read in it

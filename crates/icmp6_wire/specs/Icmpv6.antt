@@ -140,9 +140,9 @@ CanEmit (mld m) bytes = listeners.CanEmit m bytes
 -- follows it.
 pub record IsError (t : ℕ) (bytes : List ℕ) (quoted : Ipv6Repr) (d : List ℕ) : Type 0 where
   pub kind : byte_of type_field bytes ≡ t
-  pub quote_ : 48 ≤ length bytes
-  pub header_ : IsHeader (data_in bytes) quoted
-  pub data_ : d ≡ drop 40 (data_in bytes)
+  pub quote : 48 ≤ length bytes
+  pub header : IsHeader (data_in bytes) quoted
+  pub data_is : d ≡ drop 40 (data_in bytes)
 
 abbrev pub IsContent : List ℕ → MessageValue → Type 0
 IsContent bytes (unreachable reason quoted d) =
@@ -230,7 +230,7 @@ format capabilities source destination =
 -- is read back from it as its normal form.
 pub record Emits (capabilities : ChecksumCapabilities) (source destination : Ipv6Address) (v : MessageValue)
     (old new : List ℕ) : Type 0 where
-  pub text_ : new ≡ emitted capabilities source destination v old
+  pub written : new ≡ emitted capabilities source destination v old
   pub good : is_computed capabilities.icmpv6 ≡ true → IsGood new (message_sum source destination (length new))
   pub exact : length old ≡ text_len v → new ≡ packet_text capabilities source destination v
   pub reads_back : length old ≡ text_len v → Fills capabilities → IsCanonical v

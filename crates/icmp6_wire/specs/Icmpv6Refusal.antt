@@ -35,7 +35,7 @@ pub record IsCutError (bytes : List ℕ) : Type 0 where
   pub cut : length bytes < 48
 
 pub record HasOtherCode (bytes : List ℕ) (code : ℕ) : Type 0 where
-  pub code_ : code ≡ byte_of code_field bytes
+  pub code_is : code ≡ byte_of code_field bytes
   pub other : code ≢ 0
   pub kind : ((byte_of type_field bytes ≡ 2) × (48 ≤ length bytes)) ⊎ (128 ≤ byte_of type_field bytes)
 

@@ -90,19 +90,19 @@ pub record IsQuery (bytes : List ℕ) (code : ℕ) (group : Ipv6Address) (flag :
     (d : List ℕ) : Type 0 where
   pub kind : byte_of type_field bytes ≡ 0x82
   pub whole : Reaches num_srcs_field bytes
-  pub code_ : code ≡ number_of max_resp_code_field bytes
-  pub group_ : octets_of group ≡ bytes_of mcast_addr_field bytes
-  pub flag_ : IsTrue flag ↔ (s_flag_in bytes ≡ 1)
-  pub qrv_ : qrv ≡ qrv_in bytes
-  pub qqic_ : qqic ≡ byte_of qqic_field bytes
-  pub sources_ : sources ≡ number_of num_srcs_field bytes
-  pub data_ : d ≡ drop 28 bytes
+  pub code_is : code ≡ number_of max_resp_code_field bytes
+  pub group_is : octets_of group ≡ bytes_of mcast_addr_field bytes
+  pub flag_is : IsTrue flag ↔ (s_flag_in bytes ≡ 1)
+  pub qrv_is : qrv ≡ qrv_in bytes
+  pub qqic_is : qqic ≡ byte_of qqic_field bytes
+  pub sources_are : sources ≡ number_of num_srcs_field bytes
+  pub data_is : d ≡ drop 28 bytes
 
 pub record IsReport (bytes : List ℕ) (count : ℕ) (d : List ℕ) : Type 0 where
   pub kind : byte_of type_field bytes ≡ 0x8f
   pub whole : Reaches nr_mcast_addr_rcrds_field bytes
-  pub count_ : count ≡ number_of nr_mcast_addr_rcrds_field bytes
-  pub data_ : d ≡ drop 8 bytes
+  pub count_is : count ≡ number_of nr_mcast_addr_rcrds_field bytes
+  pub data_is : d ≡ drop 8 bytes
 
 -- The grammar: the counts are not compared with the data, and no bytes are read as a list of records.
 abbrev pub IsMessage : List ℕ → MldValue → Type 0
@@ -140,7 +140,7 @@ format =
 -- What writing a message over `old` leaves: its text over the front. Where `old` has exactly its length, its text is
 -- all that is left, and a canonical value is read back from it as its normal form.
 pub record Emits (v : MldValue) (old new : List ℕ) : Type 0 where
-  pub text_ : new ≡ over old (text v)
+  pub written : new ≡ over old (text v)
   pub exact : length old ≡ text_len v → new ≡ text v
   pub reads_back : length old ≡ text_len v → IsCanonical v → IsMessage new (norm v)
   pub round_trips : RoundTrips format v

@@ -34,8 +34,8 @@ pub data AreRecords : ℕ → List ℕ → List Answer → Type 0 where
 -- None, and none is left afterwards.
 abbrev pub GivesRecord : List Answer → Option (Result AddressRecordRepr RecordRefusal) → List Answer → Type 0
 GivesRecord old None new = (old ≡ []) × (new ≡ [])
-GivesRecord old (Some (Ok record_)) new =
-    (bytes : List ℕ) × IsRecord bytes (value_of record_) × (old ≡ Ok bytes ∷ new)
+GivesRecord old (Some (Ok one)) new =
+    (bytes : List ℕ) × IsRecord bytes (value_of one) × (old ≡ Ok bytes ∷ new)
 GivesRecord old (Some (Err refusal)) new = old ≡ Err refusal ∷ new
 
 -- the answers as they are computed, which the iterator's model needs; the reason depends on whether there are 20 bytes

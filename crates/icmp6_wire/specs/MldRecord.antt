@@ -87,11 +87,11 @@ group_of (address_record kind words sources group rest) = group
 pub record IsFields (bytes : List ℕ) (kind : RecordType) (words sources : ℕ) (group : Ipv6Address)
     (rest : List ℕ) : Type 0 where
   pub whole : Reaches mcast_addr_field bytes
-  pub kind_ : kind ≡ record_type_of (byte_of record_type_field bytes)
-  pub words_ : words ≡ byte_of aux_data_len_field bytes
-  pub sources_ : sources ≡ number_of num_srcs_field bytes
-  pub group_ : octets_of group ≡ bytes_of mcast_addr_field bytes
-  pub rest_ : rest ≡ payload_in bytes
+  pub kind_is : kind ≡ record_type_of (byte_of record_type_field bytes)
+  pub words_are : words ≡ byte_of aux_data_len_field bytes
+  pub sources_are : sources ≡ number_of num_srcs_field bytes
+  pub group_is : octets_of group ≡ bytes_of mcast_addr_field bytes
+  pub rest_is : rest ≡ payload_in bytes
 
 abbrev pub IsRecord : List ℕ → RecordValue → Type 0
 IsRecord bytes (address_record kind words sources group rest) = IsFields bytes kind words sources group rest
@@ -128,6 +128,6 @@ format =
 
 -- What writing a record over `old` leaves.
 pub record Emits (v : RecordValue) (old new : List ℕ) : Type 0 where
-  pub text_ : new ≡ over old (text v)
+  pub written : new ≡ over old (text v)
   pub exact : length old ≡ 20 → new ≡ text v
   pub round_trips : RoundTrips format v

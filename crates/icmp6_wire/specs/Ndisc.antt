@@ -11,7 +11,7 @@ use Rattle.wirebase.specs.declared.duration.Duration.{Duration}
 use Rattle.wirebase.specs.declared.ipv6.address.Ipv6Address.{Ipv6Address}
 use Rattle.wirebase.specs.declared.ipv6.Ipv6Repr.{Ipv6Repr}
 use Rattle.opt_wire.specs.NdiscOptionRepr as option
-use Rattle.opt_wire.specs.NdiscOptionRepr.{OptionValue, source, target, prefix_, redirected, mtu, filled}
+use Rattle.opt_wire.specs.NdiscOptionRepr.{OptionValue, source, target, prefix_information, redirected, mtu, filled}
 use Rattle.opt_wire.specs.declared.ndiscoption.repr.PrefixInformation.{PrefixInformation}
 use Rattle.icmp6_wire.specs.Icmpv6Packet.{BeginsWhole, payload_in}
 use Rattle.wirebase.specs.LastOf.{last_of}
@@ -60,7 +60,7 @@ abbrev pub mtus : Option ℕ → Option OptionValue
 mtus m = option_map mtu m
 
 abbrev pub prefixes : Option PrefixInformation → Option OptionValue
-prefixes p = option_map prefix_ p
+prefixes p = option_map prefix_information p
 
 abbrev pub packets : Option (Ipv6Repr × List ℕ) → Option OptionValue
 packets r = option_map (λ packet. redirected packet.0 packet.1) r
@@ -146,11 +146,11 @@ CanEmit v = HaveTimes v × Each option.CanEmit (options_of v)
 pub record IsRouterAdvert (bytes : List ℕ) (hops : ℕ) (flags : RouterFlags) (lifetime reachable retrans : Duration)
     : Type 0 where
   pub kind : byte_of type_field bytes ≡ 0x86
-  pub hops_ : hops ≡ byte_of hop_limit_field bytes
-  pub flags_ : router_bits flags ≡ known_router (byte_of router_flags_field bytes)
-  pub lifetime_ : micros_of lifetime ≡ 1000000 * number_of router_lifetime_field bytes
-  pub reachable_ : micros_of reachable ≡ 1000 * number_of reachable_time_field bytes
-  pub retrans_ : micros_of retrans ≡ 1000 * number_of retrans_time_field bytes
+  pub hops_are : hops ≡ byte_of hop_limit_field bytes
+  pub flags_are : router_bits flags ≡ known_router (byte_of router_flags_field bytes)
+  pub lifetime_is : micros_of lifetime ≡ 1000000 * number_of router_lifetime_field bytes
+  pub reachable_is : micros_of reachable ≡ 1000 * number_of reachable_time_field bytes
+  pub retrans_is : micros_of retrans ≡ 1000 * number_of retrans_time_field bytes
 
 -- the message of these fixed fields, whose other fields are given by the last option of their kind
 abbrev pub IsContent : List ℕ → List OptionValue → NdiscValue → Type 0
@@ -225,7 +225,7 @@ format = record {
 -- What writing a message over `old` leaves: its text over the front. Where `old` has exactly its length, its text is
 -- all that is left, and a canonical value is read back from it as its normal form.
 pub record Emits (v : NdiscValue) (old new : List ℕ) : Type 0 where
-  pub text_ : new ≡ over old (text v)
+  pub written : new ≡ over old (text v)
   pub exact : length old ≡ text_len v → new ≡ text v
   pub reads_back : length old ≡ text_len v → IsCanonical v → IsMessage new (norm v)
   pub round_trips : RoundTrips format v

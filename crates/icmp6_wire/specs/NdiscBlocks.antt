@@ -3,7 +3,7 @@
 use Rattle.std.specs.Prelude.{◌≡◌, ℕ, ◌*◌, List, [], ◌∷◌, ◌++◌, length, Option, None, Some}
 use Rattle.wirebase.specs.declared.ipv6.Ipv6Repr.{Ipv6Repr}
 use Rattle.opt_wire.specs.NdiscOption.{units_in, BeginsWithBlock}
-use Rattle.opt_wire.specs.NdiscOptionRepr.{OptionValue, source, target, prefix_, redirected, mtu, BeginsWith}
+use Rattle.opt_wire.specs.NdiscOptionRepr.{OptionValue, source, target, prefix_information, redirected, mtu, BeginsWith}
 use Rattle.opt_wire.specs.declared.ndiscoption.repr.PrefixInformation.{PrefixInformation}
 
 -- a block: all the bytes that it counts, and no more
@@ -36,7 +36,7 @@ mtu_in (mtu n) = Some n
 mtu_in _ = None
 
 abbrev pub prefix_in : OptionValue → Option PrefixInformation
-prefix_in (prefix_ p) = Some p
+prefix_in (prefix_information p) = Some p
 prefix_in _ = None
 
 -- a redirected packet by its header and its payload

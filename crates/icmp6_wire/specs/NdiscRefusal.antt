@@ -29,27 +29,27 @@ pub record AreWholeUpTo (bytes : List ℕ) (place : ℕ) (rest : List ℕ) : Typ
   pub options : List ℕ
   pub whole : AreWhole options
   pub payload : payload_in bytes ≡ options ++ rest
-  pub place_ : place ≡ header_len_in bytes + length options
+  pub place_is : place ≡ header_len_in bytes + length options
 
 -- What is wrong with the option at the front of some bytes, by its type and the units of 8 bytes that it counts: the
 -- bytes end before 8 of them, or before it does; it counts no units; or fewer than its type needs, 4 of a prefix and 6
 -- of a redirected packet.
 pub record IsCut (rest : List ℕ) (kind : ℕ) : Type 0 where
   pub some : 1 ≤ length rest
-  pub kind_ : kind ≡ byte_of option.type_field rest
+  pub kind_is : kind ≡ byte_of option.type_field rest
   pub cut : (length rest < 8) ⊎ (length rest < 8 * units_in rest)
 
 pub record IsEmpty (rest : List ℕ) (kind : ℕ) : Type 0 where
   pub fixed : 8 ≤ length rest
-  pub kind_ : kind ≡ byte_of option.type_field rest
+  pub kind_is : kind ≡ byte_of option.type_field rest
   pub none : units_in rest ≡ 0
 
 pub record IsTooShort (rest : List ℕ) (kind units : ℕ) : Type 0 where
   pub fixed : 8 ≤ length rest
   pub counted : 8 * units_in rest ≤ length rest
   pub some : 1 ≤ units
-  pub kind_ : kind ≡ byte_of option.type_field rest
-  pub units_ : units ≡ units_in rest
+  pub kind_is : kind ≡ byte_of option.type_field rest
+  pub units_are : units ≡ units_in rest
   pub few : ((kind ≡ 3) × (units < 4)) ⊎ ((kind ≡ 4) × (units < 6))
 
 -- The checks in their order: there are the 8 bytes of every header; the type is one of neighbor discovery; there are

@@ -42,12 +42,12 @@ module _ (margin : List ℕ) (is_multicast : Bool) (message : List ℕ) where
   refused_next left after all a b None so_far broken told some = cc some
   refused_next left after all a b (Some why) so_far broken (refusal, is, refuses) some =
       let place : section_at after.ends after.taken ≡ section_at left.ends left.taken =
-      rw (broken.ends_, broken.taken_) refl in
+      rw (broken.ends, broken.taken) refl in
       nothing_more left all a b (Some why) so_far
       (subst (λ (w : Unread). EntriesPrint margin is_multicast message left [] (Some w))
       (sym (is ∙ ap (λ (s : Section). unread.Entry s refusal) place))
       (none_begins left after refusal broken
-      (subst (λ (bytes : List ℕ). RefusesEntry (section_at left.ends left.taken) bytes refusal) broken.bytes_
+      (subst (λ (bytes : List ℕ). RefusesEntry (section_at left.ends left.taken) bytes refusal) broken.bytes
       (subst (λ (s : Section). RefusesEntry s after.bytes refusal) place refuses))))
 
   -- one entry more

@@ -26,25 +26,25 @@ use Rattle.listing.proofs.Printing.{gains_both}
 -- a name that was read
 pub reads : (message bytes : List ℕ) (labels : List (List ℕ)) → Names message bytes labels
     → NameReads message bytes (whole_name labels)
-reads message bytes labels names = record { labels = labels; names_ = names; is = refl }
+reads message bytes labels names = record { labels = labels; names = names; is = refl }
 
 -- a name that was not read
 pub reads_none : (message bytes : List ℕ) → ((labels : List (List ℕ)) → Names message bytes labels → ⊥)
     → (text : List ℕ) → NameReads message bytes text → ⊥
-reads_none message bytes none text is = none is.labels is.names_
+reads_none message bytes none text is = none is.labels is.names
 
 -- a name that reads is a name
 pub reads_has : (message bytes text : List ℕ) → NameReads message bytes text → HasName bytes message
-reads_has message bytes text is = (is.labels, is.names_)
+reads_has message bytes text is = (is.labels, is.names)
 
 -- a name whose text was put
 pub reads_usual : (message bytes text : List ℕ) (labels : List (List ℕ)) → AreUsual bytes message labels
     → text ≡ dotted_text labels → NameReads message bytes text
 unfolding whole_name
-reads_usual message bytes text [] usual is = record { labels = []; names_ = usual.names_; is = is }
+reads_usual message bytes text [] usual is = record { labels = []; names = usual.names; is = is }
 reads_usual message bytes text (label ∷ labels) usual is = record {
   labels = label ∷ labels;
-  names_ = usual.names_;
+  names = usual.names;
   is = is ∙ usual_name label labels usual.usual;
 }
 
@@ -54,7 +54,7 @@ module _ (margin : List ℕ) (is_multicast : Bool) (message : List ℕ) (section
     (owner : List ℕ) (name : NameReads message r.name owner) where
   -- a record whose data is not what its type has
   pub data_unread : (unread : Option Unread)
-      → ((value : RDataValue) → IsDataOf r.kind (record_class is_multicast r.kind r.class) r.data_ value → ⊥)
+      → ((value : RDataValue) → IsDataOf r.kind (record_class is_multicast r.kind r.class) r.«data» value → ⊥)
       → IfSome unread (RefusesData (record_class is_multicast r.kind r.class) r) → IsSome unread
       → RecordPrints margin is_multicast message section r [] unread
   data_unread None none told some = cc some
@@ -64,7 +64,7 @@ module _ (margin : List ℕ) (is_multicast : Bool) (message : List ℕ) (section
 
 module _ (margin : List ℕ) (is_multicast : Bool) (message : List ℕ) (section : Section) (r : RecordValue)
     (owner : List ℕ) (value : RDataValue) (name : NameReads message r.name owner)
-    (is : IsDataOf r.kind (record_class is_multicast r.kind r.class) r.data_ value) where
+    (is : IsDataOf r.kind (record_class is_multicast r.kind r.class) r.«data» value) where
   -- a record with a name in its data that can't be read
   pub record_unread : (a b : Option (List ℕ)) (why : NameRefusal)
       → GainsSome a b (λ text.
@@ -84,10 +84,10 @@ module _ (margin : List ℕ) (is_multicast : Bool) (message : List ℕ) (section
       → GainsSome a b (λ text. LineShown (record_front margin is_multicast section r owner) message value text None)
       → Gains b c (line_end (is_multicast && flushes r.kind r.class) (codes "cache-flush"))
       → GainsSome a c (λ text. RecordPrints margin is_multicast message section r text None)
-  record_listed a b c (text, (data_, reads, whole), gains) end = (
-    record_line margin is_multicast section r owner data_,
-    has owner data_ value name is reads,
-    gains_both a b c (record_front margin is_multicast section r owner ++ data_) _
+  record_listed a b c (text, (printed, reads, whole), gains) end = (
+    record_line margin is_multicast section r owner printed,
+    has owner printed value name is reads,
+    gains_both a b c (record_front margin is_multicast section r owner ++ printed) _
         (subst (λ t. Gains a b t) whole gains)
         end,
   )

@@ -17,7 +17,7 @@ unfoldable pub opt_field : List ℕ → List ℕ → List ℕ → List ℕ
 opt_field margin name value = margin ++ part_field (codes "opt.") name value
 
 abbrev pub option_text : OptionValue → List ℕ
-option_text option = decimal option.code ++ word (octets_text option.data_)
+option_text option = decimal option.code ++ word (octets_text option.«data»)
 
 abbrev pub option_line : List ℕ → OptionValue → List ℕ
 option_line margin option = opt_field margin (codes "option") (option_text option)

@@ -2,7 +2,8 @@
 use Rattle.std.specs.Prelude.{ℕ, List, [], ◌++◌, codes, decimal}
 use Rattle.wirebase.specs.declared.ipv6.Ipv6Repr.{Ipv6Repr}
 use Rattle.opt_wire.specs.NdiscOptionTables.{flag_bits}
-use Rattle.opt_wire.specs.NdiscOptionRepr.{OptionValue, source, target, prefix_, redirected, mtu, unknown, BeginsWith}
+use Rattle.opt_wire.specs.NdiscOptionRepr.{OptionValue, source, target, prefix_information, redirected, mtu, unknown}
+use Rattle.opt_wire.specs.NdiscOptionRepr.{BeginsWith}
 use Rattle.opt_wire.specs.declared.ndiscoption.repr.PrefixInformation.{PrefixInformation}
 use Rattle.listing.specs.Layout.{line, field, part_field, octets_text, millis_text, IsListingOrRefused}
 use Rattle.listing.specs.ListingIpv6.{address_text, header_listing}
@@ -24,7 +25,7 @@ redirected_listing header_part part h d =
 abbrev pub ndopt_listing : OptionValue → List ℕ
 ndopt_listing (source address) = field (codes "SourceLinkLayerAddr") (octets_text address)
 ndopt_listing (target address) = field (codes "TargetLinkLayerAddr") (octets_text address)
-ndopt_listing (prefix_ p) = line (codes "PrefixInformation") ++ prefix_listing [] p
+ndopt_listing (prefix_information p) = line (codes "PrefixInformation") ++ prefix_listing [] p
 ndopt_listing (redirected h d) = line (codes "RedirectedHeader") ++ redirected_listing (codes "header.") [] h d
 ndopt_listing (mtu n) = field (codes "Mtu") (decimal n)
 ndopt_listing (unknown t n d) =

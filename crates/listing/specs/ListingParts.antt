@@ -45,15 +45,16 @@ line_text line =
 
 -- a line was written up to its end, or nothing for a name in its data that can't be read
 abbrev pub LineShown : List ℕ → List ℕ → RDataValue → List ℕ → Option NameRefusal → Type 0
-LineShown front message value text None = (data_ : List ℕ) × DataReads message value data_ × (text ≡ front ++ data_)
+LineShown front message value text None =
+    (printed : List ℕ) × DataReads message value printed × (text ≡ front ++ printed)
 LineShown front message value text (Some why) =
-    ((data_ : List ℕ) → DataReads message value data_ → ⊥) × RefusesNameIn message value why × (text ≡ [])
+    ((printed : List ℕ) → DataReads message value printed → ⊥) × RefusesNameIn message value why × (text ≡ [])
 
 -- the data of a record, taken as one of a class, is refused, for this reason
 abbrev pub RefusesData : ℕ → RecordValue → Unread → Type 0
 RefusesData class r why =
     (refusal : DataRefusal) × (why ≡ unread.Record (refusals.Data refusal))
-    × RefusesLayout (data_layout r.kind class r.data_) r.data_ refusal
+    × RefusesLayout (data_layout r.kind class r.«data») r.«data» refusal
 
 -- ---- entries
 

@@ -40,7 +40,7 @@ record_class is_multicast kind class = if is_multicast then record_class_of kind
 -- The name that begins in these bytes, and goes on where its pointers lead in the message, reads, and has this text.
 pub record NameReads (message bytes text : List ℕ) : Type 0 where
   pub labels : List (List ℕ)
-  pub names_ : Names message bytes labels
+  pub names : Names message bytes labels
   pub is : text ≡ whole_name labels
 
 -- ---- data
@@ -49,8 +49,8 @@ pub record NameReads (message bytes text : List ℕ) : Type 0 where
 pub record AuthorityReads (message : List ℕ) (soa : AuthorityValue) (text : List ℕ) : Type 0 where
   pub primary : List ℕ
   pub mailbox : List ℕ
-  pub primary_ : NameReads message soa.primary primary
-  pub mailbox_ : NameReads message soa.mailbox mailbox
+  pub primary_is : NameReads message soa.primary primary
+  pub mailbox_is : NameReads message soa.mailbox mailbox
   pub is : text ≡
       word primary ++ word mailbox ++ word (decimal soa.serial) ++ word (decimal soa.refresh)
       ++ word (decimal soa.retry) ++ word (decimal soa.expire) ++ word (decimal soa.minimum)
@@ -106,9 +106,9 @@ record_front margin is_multicast section r owner =
     ++ word (type_text (type_number r.kind))
 
 abbrev pub record_line : List ℕ → Bool → Section → RecordValue → List ℕ → List ℕ → List ℕ
-record_line margin is_multicast section r owner data_ =
+record_line margin is_multicast section r owner shown =
     record_front margin is_multicast section r owner
-    ++ data_
+    ++ shown
     ++ line_end (is_multicast && flushes r.kind r.class) (codes "cache-flush")
 
 -- ---- what is printed
@@ -125,17 +125,17 @@ pub data QuestionPrints (margin : List ℕ) (is_multicast : Bool) (message : Lis
 -- then the names in these.
 pub data RecordPrints (margin : List ℕ) (is_multicast : Bool) (message : List ℕ) (section : Section) (r : RecordValue)
     : List ℕ → Option Unread → Type 0 where
-  has : (owner data_ : List ℕ) (value : RDataValue) → NameReads message r.name owner
-      → IsDataOf r.kind (record_class is_multicast r.kind r.class) r.data_ value → DataReads message value data_
-      → RecordPrints margin is_multicast message section r (record_line margin is_multicast section r owner data_) None
+  has : (owner shown : List ℕ) (value : RDataValue) → NameReads message r.name owner
+      → IsDataOf r.kind (record_class is_multicast r.kind r.class) r.«data» value → DataReads message value shown
+      → RecordPrints margin is_multicast message section r (record_line margin is_multicast section r owner shown) None
   has_no_name : (why : NameRefusal) → ((owner : List ℕ) → NameReads message r.name owner → ⊥)
       → RefusesName r.name message why
       → RecordPrints margin is_multicast message section r [] (Some (unread.Record (refusal.Owner why)))
   has_no_data : (owner : List ℕ) (why : DataRefusal) → NameReads message r.name owner
-      → ((value : RDataValue) → IsDataOf r.kind (record_class is_multicast r.kind r.class) r.data_ value → ⊥)
-      → RefusesLayout (data_layout r.kind (record_class is_multicast r.kind r.class) r.data_) r.data_ why
+      → ((value : RDataValue) → IsDataOf r.kind (record_class is_multicast r.kind r.class) r.«data» value → ⊥)
+      → RefusesLayout (data_layout r.kind (record_class is_multicast r.kind r.class) r.«data») r.«data» why
       → RecordPrints margin is_multicast message section r [] (Some (unread.Record (refusal.Data why)))
   has_no_name_in_data : (owner : List ℕ) (value : RDataValue) (why : NameRefusal) → NameReads message r.name owner
-      → IsDataOf r.kind (record_class is_multicast r.kind r.class) r.data_ value
-      → ((data_ : List ℕ) → DataReads message value data_ → ⊥) → RefusesNameIn message value why
+      → IsDataOf r.kind (record_class is_multicast r.kind r.class) r.«data» value
+      → ((shown : List ℕ) → DataReads message value shown → ⊥) → RefusesNameIn message value why
       → RecordPrints margin is_multicast message section r [] (Some (unread.Record (refusal.DataName why)))

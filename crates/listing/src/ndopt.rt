@@ -3,7 +3,8 @@
 #![tactic(auto, using(crate::proofs::Printing::gains_both))]
 
 ghost use Rattle.std.specs.Prelude.{◌≡◌, IfOk, IsErr, OnOk};
-ghost use Rattle.opt_wire.specs.NdiscOptionRepr.{OptionValue, prefix_, redirected, unknown, value_of, BeginsWith};
+ghost use Rattle.opt_wire.specs.NdiscOptionRepr.{OptionValue, prefix_information, redirected, unknown, value_of};
+ghost use Rattle.opt_wire.specs.NdiscOptionRepr.{BeginsWith};
 ghost use Rattle.listing.specs.ListingNdopt.{NdoptPrints, ndopt_listing, prefix_listing, redirected_listing};
 ghost use Rattle.listing.specs.Output.{Gains, GainsSome};
 
@@ -58,7 +59,7 @@ fn show_option<W: Write>(output: &mut W, option: &Repr<'_>) -> io::Result<()>
 
 fn show_prefix_information<W: Write>(output: &mut W, prefix: &PrefixInformation) -> io::Result<()>
     ensures { OnOk result (Gains (W.contents output.old) (W.contents output.new)
-        (ndopt_listing (prefix_ prefix.now))) }
+        (ndopt_listing (prefix_information prefix.now))) }
 {
     line(output, "PrefixInformation")?;
     show_prefix(output, "", prefix)

@@ -17,7 +17,7 @@ length-text header = refl
 
 pub header_emits : (header : HeaderValue) (old new : List ℕ) → new ≡ over old (text header) → Emits header old new
 header_emits header old new e = record {
-  text_ = e;
+  written = e;
   exact = λ long. e ∙ over-exact old (text header) (long ∙ sym (length-text header));
 }
 
@@ -27,9 +27,9 @@ carries_options most one n count options small fits canonical long =
     let payload : List ℕ = hop_by_hop.text options in (
       record {
         whole = (omega (arith, long), omega (arith, long));
-        next_header_ = refl;
-        count_ = refl;
-        payload_ = sym (take_all (8 * count + 8 - 2) payload (omega (arith, long)));
+        next_header = refl;
+        count_is = refl;
+        payload = sym (take_all (8 * count + 8 - 2) payload (omega (arith, long)));
       },
       (header_format most one).reads_back options _ canonical,
     )
@@ -42,5 +42,5 @@ whole-read bytes whole = (
     count = byte_of length_field bytes;
     payload = bytes_of (payload_field bytes) bytes;
   },
-  record { whole = whole; next_header_ = refl; count_ = refl; payload_ = refl },
+  record { whole = whole; next_header = refl; count_is = refl; payload = refl },
 )

@@ -78,8 +78,8 @@ read-full most bytes count rest a some full =
 -- after at most as many options as are kept, the bytes begin with no option
 pub read-broken : (most : ℕ) (bytes : List ℕ) (count : ℕ) (rest : List ℕ) → AreBehind bytes count rest
     → count ≤ most → rest ≢ [] → (option.IsRead rest → ⊥) → IsRead most bytes → ⊥
-read-broken most bytes count rest a l some none_ read =
+read-broken most bytes count rest a l some no_option read =
     let b = before bytes count rest a in
     header-refused most bytes b.0 read.0 (record {}) _ [] b.2
-    (ap (λ (l : List Answer). all b.0 ++ l) (answers_of-broken rest some (λ v h. none_ (v, h))))
+    (ap (λ (l : List Answer). all b.0 ++ l) (answers_of-broken rest some (λ v h. no_option (v, h))))
     (omega (arith, l, b.1)) read.1

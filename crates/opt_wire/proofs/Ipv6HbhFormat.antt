@@ -144,7 +144,7 @@ header_emits most options old new some enough room e =
     let exact : length old ≡ text_len options → new ≡ text options =
     λ long. e ∙ over-exact old (text options) (long ∙ sym size) in
     record {
-      text_ = e;
+      written = e;
       exact = exact;
       reads_back =
           λ canonical long. subst (λ (bytes : List ℕ). IsHeader most bytes (norm options)) (sym (exact long))

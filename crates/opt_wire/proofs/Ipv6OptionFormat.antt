@@ -85,7 +85,7 @@ option_emits v old new enough room e =
     let left : new ≡ text v ++ drop (length (text v)) old = e
     ∙ over-fits old (text v) (omega (arith, room, length-text v enough)) in
     record {
-      text_ = e;
+      written = e;
       exact = λ long. e ∙ over-exact old (text v) (long ∙ sym (length-text v enough));
       reads_back =
           λ canonical. subst (λ (bytes : List ℕ). BeginsWith bytes (norm v)) (sym left)

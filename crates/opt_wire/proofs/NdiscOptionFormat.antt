@@ -23,7 +23,7 @@ use Rattle.wirebase.proofs.IpProtocols.{protocol-read}
 use Rattle.wirebase.proofs.Pieces.{length-part, over-exact}
 use Rattle.opt_wire.specs.NdiscOption.{prefix_flags_field, units_in, redirected_field, BeginsWithBlock}
 use Rattle.opt_wire.specs.NdiscOptionTables.{flag_bits, known, known_bits}
-use Rattle.opt_wire.specs.NdiscOptionRepr.{OptionValue, source, target, prefix_, redirected, mtu, unknown}
+use Rattle.opt_wire.specs.NdiscOptionRepr.{OptionValue, source, target, prefix_information, redirected, mtu, unknown}
 use Rattle.opt_wire.specs.NdiscOptionRepr.{filled, HasSeconds, IsLinkAddr, IsRedirected, IsReading, BeginsWith}
 use Rattle.opt_wire.specs.NdiscOptionRepr.{IsCanonicalRedirected, IsCanonical, text, text_len, CanEmit, norm, format}
 use Rattle.opt_wire.specs.NdiscOptionRepr.{Emits}
@@ -74,7 +74,7 @@ length-link : (t : ℕ) (bytes address : List ℕ) → BeginsWithBlock bytes →
 length-link t bytes address block r =
     let n : ℕ = units_in bytes in
     let long : length address ≡ 2 + min 8 (8 * n - 2) - 2 =
-    ap (λ (l : List ℕ). length l) r.address_ ∙ length-part bytes 2 (2 + min 8 (8 * n - 2)) (omega arith)
+    ap (λ (l : List ℕ). length l) r.address_is ∙ length-part bytes 2 (2 + min 8 (8 * n - 2)) (omega arith)
     (omega (arith, block.some, block.whole.counted)) in
     elim (cases_lt 1 n) [
       | inl more ↦ inr (omega (arith, long, more))
@@ -96,22 +96,22 @@ redirected-canonical bytes h d are block r =
     let fits = r.packet.whole.total in
     let long : length packet ≡ 8 * units_in bytes - 8 =
     length-part bytes 8 (8 * units_in bytes) (omega (arith, block.some)) block.whole.counted in
-    let data_ : length d ≡ 40 + payload_len_in packet - 40 =
+    let behind_header : length d ≡ 40 + payload_len_in packet - 40 =
     ap (λ (l : List ℕ). length l) r.payload ∙ length-part packet 40 (40 + payload_len_in packet)
     (omega arith) fits in
     record {
       proper = read.0;
-      protocol_ = omega (arith, read.1, in_packet 6);
+      protocol = omega (arith, read.1, in_packet 6);
       hops = omega (arith, r.packet.header.hops, in_packet 7);
-      payload = omega (arith, r.packet.header.payload, data_);
-      small = omega (arith, data_, fits, long, are 1);
+      payload = omega (arith, r.packet.header.payload, behind_header);
+      small = omega (arith, behind_header, fits, long, are 1);
     }
 
 reading-canonical : (bytes : List ℕ) (v : OptionValue) → IsBytes bytes → BeginsWithBlock bytes → IsReading bytes v
     → IsCanonical v
 reading-canonical bytes (source address) are block r = link-small address (length-link 1 bytes address block r)
 reading-canonical bytes (target address) are block r = link-small address (length-link 2 bytes address block r)
-reading-canonical bytes (prefix_ p) are block r = record {
+reading-canonical bytes (prefix_information p) are block r = record {
   len = omega (arith, r.len, are 2);
   flags = ap known r.flags ∙ known-known (byte_of prefix_flags_field bytes) ∙ sym r.flags;
   valid = few_seconds p.valid_lifetime _ r.valid (four_small (part bytes 4 8) (IsBytes-part 4 8 bytes are));
@@ -123,7 +123,7 @@ reading-canonical bytes (mtu n) are block r =
     subst (λ (k : ℕ). k < 2 ^ 32) (sym r.number) (four_small (part bytes 4 8) (IsBytes-part 4 8 bytes are))
 reading-canonical bytes (unknown t n d) are block r =
     let long : length d ≡ 8 * units_in bytes - 2 =
-    ap (λ (l : List ℕ). length l) r.data_ ∙ length-part bytes 2 (8 * units_in bytes)
+    ap (λ (l : List ℕ). length l) r.data_is ∙ length-part bytes 2 (8 * units_in bytes)
     (omega (arith, block.some)) block.whole.counted in (
       r.unnamed,
       omega (arith, r.kind, are 0),
@@ -135,12 +135,12 @@ reading-canonical bytes (unknown t n d) are block r =
 -- ---- the normal form
 
 abbrev timed : PrefixInformation → Duration → Duration → OptionValue
-timed p valid preferred = prefix_ (record p { valid_lifetime = valid; preferred_lifetime = preferred })
+timed p valid preferred = prefix_information (record p { valid_lifetime = valid; preferred_lifetime = preferred })
 
 norm-read : (bytes : List ℕ) (v : OptionValue) → BeginsWithBlock bytes → IsReading bytes v → norm v ≡ v
 norm-read bytes (source address) block r = ap source (link-full address (length-link 1 bytes address block r))
 norm-read bytes (target address) block r = ap target (link-full address (length-link 2 bytes address block r))
-norm-read bytes (prefix_ p) block r =
+norm-read bytes (prefix_information p) block r =
     let valid = whole_seconds-read p.valid_lifetime _ r.valid in
     let preferred = whole_seconds-read p.preferred_lifetime _ r.preferred in
     ap (λ (t : Duration). timed p t (whole_seconds p.preferred_lifetime)) valid
@@ -150,7 +150,7 @@ norm-read bytes _ block r = refl
 norm-canonical : (v : OptionValue) → IsCanonical v → IsCanonical (norm v)
 norm-canonical (source address) c = filled-small address c
 norm-canonical (target address) c = filled-small address c
-norm-canonical (prefix_ p) c = record {
+norm-canonical (prefix_information p) c = record {
   len = c.len;
   flags = c.flags;
   valid = omega (arith, seconds-times (seconds_of p.valid_lifetime), c.valid);
@@ -161,7 +161,7 @@ norm-canonical _ c = c
 norm-norm : (v : OptionValue) → norm (norm v) ≡ norm v
 norm-norm (source address) = ap source (filled-whole (filled address) (length-filled address))
 norm-norm (target address) = ap target (filled-whole (filled address) (length-filled address))
-norm-norm (prefix_ p) =
+norm-norm (prefix_information p) =
     ap (λ (t : Duration). timed p t (whole_seconds (whole_seconds p.preferred_lifetime)))
     (whole_seconds-read (whole_seconds p.valid_lifetime) (seconds_of p.valid_lifetime) refl)
     ∙ ap (λ (t : Duration). timed p (whole_seconds p.valid_lifetime) t)
@@ -176,7 +176,7 @@ timed_text p valid preferred =
 norm-text : (v : OptionValue) → IsCanonical v → text (norm v) ≡ text v
 norm-text (source address) c = link_text 1 (filled address) ∙ link_same 1 address c ∙ sym (link_text 1 address)
 norm-text (target address) c = link_text 2 (filled address) ∙ link_same 2 address c ∙ sym (link_text 2 address)
-norm-text (prefix_ p) c =
+norm-text (prefix_information p) c =
     ap (λ (n : ℕ). timed_text p n (seconds_of (whole_seconds p.preferred_lifetime)))
     (seconds-times (seconds_of p.valid_lifetime))
     ∙ ap (λ (n : ℕ). timed_text p (seconds_of p.valid_lifetime) n) (seconds-times (seconds_of p.preferred_lifetime))
@@ -204,7 +204,7 @@ ndisc_option_same_text a b = same_text format ndisc_option_format tt a b
 pub option_emits : (v : OptionValue) (old new : List ℕ) → CanEmit v → text_len v ≤ length old → new ≡ over old (text v)
     → Emits v old new
 option_emits v old new can room left = record {
-  text_ = left;
+  written = left;
   exact = λ long. left ∙ over-exact old (text v) (long ∙ sym (length-text v can));
   reads_back =
       λ c. subst (λ (bytes : List ℕ). BeginsWith bytes (norm v)) (sym left)

@@ -12,7 +12,8 @@ use Rattle.wirebase.proofs.Numbered.{number-case_in}
 use Rattle.wirebase.proofs.Ipv6Header.{same_address, one_header}
 use Rattle.opt_wire.specs.NdiscOption.{type_field, redirected_field}
 use Rattle.opt_wire.specs.NdiscOptionTables.{type_number, types, type_of}
-use Rattle.opt_wire.specs.NdiscOptionRepr.{OptionValue, source, target, prefix_, redirected, mtu, unknown, IsPrefix}
+use Rattle.opt_wire.specs.NdiscOptionRepr.{OptionValue, source, target, prefix_information, redirected, mtu, unknown}
+use Rattle.opt_wire.specs.NdiscOptionRepr.{IsPrefix}
 use Rattle.opt_wire.specs.NdiscOptionRepr.{IsRedirected, IsReading, BeginsWith, value_of}
 use Rattle.opt_wire.specs.declared.ndiscoption.repr.PrefixInformation.{PrefixInformation}
 use Rattle.opt_wire.specs.declared.ndiscoption.repr.Repr.{Repr}
@@ -57,7 +58,7 @@ one_redirected bytes h k d e a b =
 number_of_type : OptionValue → ℕ
 number_of_type (source address) = 1
 number_of_type (target address) = 2
-number_of_type (prefix_ p) = 3
+number_of_type (prefix_information p) = 3
 number_of_type (redirected h d) = 4
 number_of_type (mtu n) = 5
 number_of_type (unknown t n d) = t
@@ -70,21 +71,22 @@ type-reading bytes _ r = r.kind
 same_reading : (bytes : List ℕ) (v w : OptionValue) → IsReading bytes v → IsReading bytes w
     → number_of_type v ≡ number_of_type w → v ≡ w
 unfolding number_of_type
-same_reading bytes (source address) (source other) a b same = ap source (a.address_ ∙ sym b.address_)
-same_reading bytes (target address) (target other) a b same = ap target (a.address_ ∙ sym b.address_)
-same_reading bytes (prefix_ p) (prefix_ q) a b same = ap prefix_ (one_prefix bytes p q a b)
+same_reading bytes (source address) (source other) a b same = ap source (a.address_is ∙ sym b.address_is)
+same_reading bytes (target address) (target other) a b same = ap target (a.address_is ∙ sym b.address_is)
+same_reading bytes (prefix_information p) (prefix_information q) a b same =
+    ap prefix_information (one_prefix bytes p q a b)
 same_reading bytes (redirected h d) (redirected k e) a b same = one_redirected bytes h k d e a b
 same_reading bytes (mtu n) (mtu m) a b same = ap mtu (a.number ∙ sym b.number)
 same_reading bytes (unknown t n d) (unknown s m e) a b same = let one = a.count ∙ sym b.count in let two =
-    a.data_ ∙ sym b.data_ in cc
+    a.data_is ∙ sym b.data_is in cc
 same_reading bytes (source address) (unknown s m e) a b same = absurd (b.unnamed.0 (sym same))
 same_reading bytes (target address) (unknown s m e) a b same = absurd (b.unnamed.1 (sym same))
-same_reading bytes (prefix_ p) (unknown s m e) a b same = absurd (b.unnamed.2 (sym same))
+same_reading bytes (prefix_information p) (unknown s m e) a b same = absurd (b.unnamed.2 (sym same))
 same_reading bytes (redirected h d) (unknown s m e) a b same = absurd (b.unnamed.3 (sym same))
 same_reading bytes (mtu n) (unknown s m e) a b same = absurd (b.unnamed.4 (sym same))
 same_reading bytes (unknown t n d) (source other) a b same = absurd (a.unnamed.0 same)
 same_reading bytes (unknown t n d) (target other) a b same = absurd (a.unnamed.1 same)
-same_reading bytes (unknown t n d) (prefix_ q) a b same = absurd (a.unnamed.2 same)
+same_reading bytes (unknown t n d) (prefix_information q) a b same = absurd (a.unnamed.2 same)
 same_reading bytes (unknown t n d) (redirected k e) a b same = absurd (a.unnamed.3 same)
 same_reading bytes (unknown t n d) (mtu m) a b same = absurd (a.unnamed.4 same)
 same_reading bytes _ _ a b same = absurd (omega arith)

@@ -18,7 +18,7 @@ use Rattle.wirebase.proofs.Ipv6Header.{length-header_text}
 use Rattle.wirebase.proofs.Pieces.{over-fits}
 use Rattle.opt_wire.specs.NdiscOption.{redirected_field, BeginsWithBlock}
 use Rattle.opt_wire.specs.NdiscOptionTables.{flag_bits}
-use Rattle.opt_wire.specs.NdiscOptionRepr.{OptionValue, source, target, prefix_, redirected, mtu, unknown}
+use Rattle.opt_wire.specs.NdiscOptionRepr.{OptionValue, source, target, prefix_information, redirected, mtu, unknown}
 use Rattle.opt_wire.specs.NdiscOptionRepr.{units, padding, filled, IsLinkAddr, BeginsWith, IsCanonicalPrefix}
 use Rattle.opt_wire.specs.NdiscOptionRepr.{IsCanonicalRedirected, IsCanonical, IsUnnamed, text, norm}
 use Rattle.opt_wire.specs.declared.ndiscoption.repr.PrefixInformation.{PrefixInformation}
@@ -35,7 +35,7 @@ block_at t n d rest no_prefix no_packet some long =
       whole = record {
         fixed = omega (arith, all);
         counted = omega (arith, all);
-        prefix_ = λ is. absurd (no_prefix is);
+        prefix_is = λ is. absurd (no_prefix is);
         redirected = λ is. absurd (no_packet is);
       };
       some = some;
@@ -54,7 +54,7 @@ six_read : (t a b c d e f : ℕ) (rest : List ℕ) → t < 3 → ReadsLink t (t 
 unfolding part
 six_read t a b c d e f rest small = (
   block_at t 1 (a ∷ b ∷ c ∷ d ∷ e ∷ f ∷ []) rest (λ is. omega (arith, is)) (λ is. omega (arith, is)) (omega arith) refl,
-  record { kind = refl; address_ = refl },
+  record { kind = refl; address_is = refl },
 )
 
 eight_read : (t a b c d e f g h : ℕ) (rest : List ℕ) → t < 3
@@ -64,7 +64,7 @@ unfolding part
 eight_read t a b c d e f g h rest small = (
   block_at t 2 (a ∷ b ∷ c ∷ d ∷ e ∷ f ∷ g ∷ h ∷ 0 ∷ 0 ∷ 0 ∷ 0 ∷ 0 ∷ 0 ∷ []) rest (λ is. omega (arith, is))
       (λ is. omega (arith, is)) (omega arith) refl,
-  record { kind = refl; address_ = refl },
+  record { kind = refl; address_is = refl },
 )
 
 link_read : (t : ℕ) (address rest : List ℕ) → t < 3 → length address ≤ 8
@@ -108,7 +108,7 @@ prefix_read : (p : PrefixInformation) (rest : List ℕ) → IsCanonicalPrefix p
     (3 ∷ 4 ∷ p.prefix_len ∷ flag_bits p.flags
     ∷ (big_bytes 4 (seconds_of p.valid_lifetime)
     ++ (big_bytes 4 (seconds_of p.preferred_lifetime) ++ (0 ∷ 0 ∷ 0 ∷ 0 ∷ (octets_of p.prefix ++ rest)))))
-    (prefix_ (prefix_of p))
+    (prefix_information (prefix_of p))
 unfolding part
 prefix_read p rest c =
     let long = length-append (octets_of p.prefix) rest in
@@ -118,7 +118,7 @@ prefix_read p rest c =
         whole = record {
           fixed = omega (arith, long, wide);
           counted = omega (arith, long, wide);
-          prefix_ = λ is. omega arith;
+          prefix_is = λ is. omega arith;
           redirected = λ is. absurd (omega (arith, is));
         };
         some = omega arith;
@@ -201,7 +201,7 @@ redirected_read h d rest c =
     packet_read h (d ++ pads) c.proper (omega (arith, c.payload, c.small)) (omega (arith, behind, c.payload)) in
     let count : 40 + payload_len_in packet - 40 ≡ length d = omega (arith, is.header.payload, c.payload) in
     let body : drop 40 packet ≡ d ++ pads = drop_at (header_text h) (d ++ pads) 40 (length-header_text h) in
-    let data_ : bytes_of (payload_field packet) packet ≡ d =
+    let payload_is : bytes_of (payload_field packet) packet ≡ d =
     ap (λ (n : ℕ). take n (drop 40 packet)) count ∙ ap (λ (l : List ℕ). take (length d) l) body
     ∙ take_at d pads (length d) refl in
     record {
@@ -209,7 +209,7 @@ redirected_read h d rest c =
         whole = record {
           fixed = omega (arith, all, long);
           counted = omega (arith, all, long);
-          prefix_ = λ is. absurd (omega (arith, is));
+          prefix_is = λ is. absurd (omega (arith, is));
           redirected = λ is. omega arith;
         };
         some = omega arith;
@@ -217,7 +217,7 @@ redirected_read h d rest c =
       reading = record {
         kind = refl;
         packet = subst (λ (l : List ℕ). IsPacket l h) (sym place) is;
-        payload = sym (ap (λ (l : List ℕ). bytes_of (payload_field l) l) place ∙ data_);
+        payload = sym (ap (λ (l : List ℕ). bytes_of (payload_field l) l) place ∙ payload_is);
       };
     }
 
@@ -240,7 +240,7 @@ unknown_read t n d rest unnamed some long = record {
     kind = refl;
     unnamed = unnamed;
     count = refl;
-    data_ = sym (take_at d rest (8 * n - 2) (omega arith));
+    data_is = sym (take_at d rest (8 * n - 2) (omega arith));
   };
 }
 
@@ -253,7 +253,7 @@ option_read (source address) rest c =
 option_read (target address) rest c =
     let read = link_read 2 address rest (omega arith) c in
     rw (link_text 2 address) (record { block = read.0; reading = read.1 })
-option_read (prefix_ p) rest c = rw (prefix_text p) (prefix_read p rest c)
+option_read (prefix_information p) rest c = rw (prefix_text p) (prefix_read p rest c)
 option_read (redirected h d) rest c = rw (redirected_text h d) (redirected_read h d rest c)
 option_read (mtu n) rest c = rw (mtu_text n) (mtu_read n rest c)
 option_read (unknown t n d) rest c = rw (unknown_text t n d) (unknown_read t n d rest c.0 c.2 c.4)

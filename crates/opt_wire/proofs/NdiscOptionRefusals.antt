@@ -15,7 +15,7 @@ use Rattle.opt_wire.specs.NdiscOption.{type_field, units_in, link_addr_field, mt
 use Rattle.opt_wire.specs.NdiscOption.{prefix_len_field, prefix_flags_field, valid_lifetime_field}
 use Rattle.opt_wire.specs.NdiscOption.{preferred_lifetime_field, BeginsWithBlock}
 use Rattle.opt_wire.specs.NdiscOptionTables.{type_number, types, type_of, known}
-use Rattle.opt_wire.specs.NdiscOptionRepr.{source, target, prefix_, redirected, mtu, unknown}
+use Rattle.opt_wire.specs.NdiscOptionRepr.{source, target, prefix_information, redirected, mtu, unknown}
 use Rattle.opt_wire.specs.NdiscOptionRefusal.{IsRead, HasUnits, HasPacket, IsMisfit, packet_in}
 use Rattle.opt_wire.specs.declared.ndiscoption.repr.PrefixInformation.{PrefixInformation}
 use Rattle.opt_wire.specs.declared.ndiscoption.tables.Type as Kind
@@ -35,7 +35,7 @@ number-type bytes k is =
 pub block : (bytes : List ℕ) → HasUnits bytes → (byte_of type_field bytes ≡ 3 → 4 ≤ units_in bytes)
     → (byte_of type_field bytes ≡ 4 → 6 ≤ units_in bytes) → BeginsWithBlock bytes
 block bytes u p r =
-    record { whole = record { fixed = u.fixed; counted = u.whole; prefix_ = p; redirected = r }; some = u.some }
+    record { whole = record { fixed = u.fixed; counted = u.whole; prefix_is = p; redirected = r }; some = u.some }
 
 -- a block of another type than 3 and 4
 other_block : (bytes : List ℕ) (t : ℕ) → HasUnits bytes → byte_of type_field bytes ≡ t → t ≢ 3 → t ≢ 4
@@ -64,7 +64,7 @@ prefix-read bytes u three four =
       preferred_lifetime = of_micros (1000000 * number_of preferred_lifetime_field bytes);
       prefix = address.0;
     } in (
-      prefix_ p,
+      prefix_information p,
       record {
         block = block bytes u (λ e. omega (arith, four)) (λ e. absurd (omega (arith, e, three)));
         reading = record {
@@ -152,14 +152,14 @@ link-read bytes u (inl one) = (
   source (bytes_of (link_addr_field bytes) bytes),
   record {
     block = other_block bytes 1 u one (λ e. omega (arith, e)) (λ e. omega (arith, e));
-    reading = record { kind = one; address_ = refl };
+    reading = record { kind = one; address_is = refl };
   },
 )
 link-read bytes u (inr two) = (
   target (bytes_of (link_addr_field bytes) bytes),
   record {
     block = other_block bytes 2 u two (λ e. omega (arith, e)) (λ e. omega (arith, e));
-    reading = record { kind = two; address_ = refl };
+    reading = record { kind = two; address_is = refl };
   },
 )
 
@@ -169,7 +169,7 @@ unnamed-read bytes t u is one two three four five = (
   unknown t (units_in bytes) (bytes_of (data_field bytes) bytes),
   record {
     block = other_block bytes t u is three four;
-    reading = record { kind = is; unnamed = (one, two, three, four, five); count = refl; data_ = refl };
+    reading = record { kind = is; unnamed = (one, two, three, four, five); count = refl; data_is = refl };
   },
 )
 

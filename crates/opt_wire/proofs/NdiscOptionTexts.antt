@@ -9,7 +9,7 @@ use Rattle.wirebase.specs.Ipv6Address.{octets_of}
 use Rattle.wirebase.specs.declared.ipv6.Ipv6Repr.{Ipv6Repr}
 use Rattle.wirebase.proofs.Ipv6Header.{length-header_text}
 use Rattle.opt_wire.specs.NdiscOptionTables.{flag_bits}
-use Rattle.opt_wire.specs.NdiscOptionRepr.{OptionValue, source, target, prefix_, redirected, mtu, unknown}
+use Rattle.opt_wire.specs.NdiscOptionRepr.{OptionValue, source, target, prefix_information, redirected, mtu, unknown}
 use Rattle.opt_wire.specs.NdiscOptionRepr.{units, padding, link_fields, prefix_fields, redirected_fields, mtu_fields}
 use Rattle.opt_wire.specs.NdiscOptionRepr.{unknown_fields, text, text_len, CanEmit}
 use Rattle.opt_wire.specs.declared.ndiscoption.repr.PrefixInformation.{PrefixInformation}
@@ -58,7 +58,7 @@ length-mtu n = refl
 pub length-text : (v : OptionValue) → CanEmit v → length (text v) ≡ text_len v
 length-text (source address) c = length-link 1 address
 length-text (target address) c = length-link 2 address
-length-text (prefix_ p) c = omega (arith, ap length (prefix_text p), p.prefix.whole)
+length-text (prefix_information p) c = omega (arith, ap length (prefix_text p), p.prefix.whole)
 length-text (redirected h d) c =
     omega (
       arith,

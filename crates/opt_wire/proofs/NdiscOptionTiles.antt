@@ -41,28 +41,28 @@ block-begins bytes e =
     let t : ℕ = byte_of type_field bytes in
     let n : ℕ = units_in bytes in
     let first = both (nat_le 8 (length bytes)) _ e in
-    let then_ = both (nat_le (least_units t) n) (nat_le (8 * n) (length bytes)) first.two in
+    let pair = both (nat_le (least_units t) n) (nat_le (8 * n) (length bytes)) first.two in
     let fixed = leb-true 8 (length bytes) first.one in
-    let least = leb-true (least_units t) n then_.one in
-    let room = leb-true (8 * n) (length bytes) then_.two in
+    let least = leb-true (least_units t) n pair.one in
+    let room = leb-true (8 * n) (length bytes) pair.two in
     record {
       whole = record {
         fixed = fixed;
         counted = omega (arith, room);
-        prefix_ = λ is. omega (arith, least, ap least_units is);
+        prefix_is = λ is. omega (arith, least, ap least_units is);
         redirected = λ is. omega (arith, least, ap least_units is);
       };
       some = omega (arith, least, least_some t);
     }
 
 least_fits : (t n : ℕ) → 1 ≤ n → (t ≡ 3 → 4 ≤ n) → (t ≡ 4 → 6 ≤ n) → least_units t ≤ n
-least_fits t n some prefix_ packet = grind arith
+least_fits t n some long packet = grind arith
 
 begins-block : (bytes : List ℕ) → BeginsWithBlock bytes → begins_with_block bytes ≡ true
 begins-block bytes b =
     let t : ℕ = byte_of type_field bytes in
     let n : ℕ = units_in bytes in
-    let least = least_fits t n b.some b.whole.prefix_ b.whole.redirected in
+    let least = least_fits t n b.some b.whole.prefix_is b.whole.redirected in
     rw (
       le-leb 8 (length bytes) b.whole.fixed,
       le-leb (least_units t) n least,
@@ -86,8 +86,8 @@ told_by : (bytes : List ℕ) → (BeginsWithBlock bytes → ⊥) → (fixed some
     → nat_le (8 * units_in bytes) (length bytes) ≡ whole → Refuses bytes (reason_by fixed some whole bytes)
 told_by bytes none false some whole f s w = leb-false 8 (length bytes) f
 told_by bytes none true false whole f s w =
-    let zero_ : units_in bytes < 1 = leb-false 1 (units_in bytes) s in
-    (leb-true 8 (length bytes) f, omega (arith, zero_))
+    let no_units : units_in bytes < 1 = leb-false 1 (units_in bytes) s in
+    (leb-true 8 (length bytes) f, omega (arith, no_units))
 told_by bytes none true true false f s w =
     let fixed = leb-true 8 (length bytes) f in
     let some = leb-true 1 (units_in bytes) s in
@@ -118,8 +118,8 @@ reason-one : (bytes : List ℕ) (refusal : Refusal) → (BeginsWithBlock bytes �
     → reason_of bytes ≡ refusal
 reason-one bytes Short none h = rw (lt-leb 8 (length bytes) h) refl
 reason-one bytes Zero none h =
-    let zero_ : units_in bytes < 1 = omega (arith, h.1) in
-    rw (le-leb 8 (length bytes) h.0, lt-leb 1 (units_in bytes) zero_) refl
+    let no_units : units_in bytes < 1 = omega (arith, h.1) in
+    rw (le-leb 8 (length bytes) h.0, lt-leb 1 (units_in bytes) no_units) refl
 reason-one bytes (Cut n) none h =
     let cut : length bytes < 8 * units_in bytes = omega (arith, h.2, h.3) in
     rw (
@@ -129,12 +129,12 @@ reason-one bytes (Cut n) none h =
     ) (ap Cut (sym h.3))
 reason-one bytes (Length k n) none h =
     let units : HasUnits bytes = h.0 in
-    let type_ : type_of (byte_of type_field bytes) ≡ k = misfit_type bytes k n h.2 in
+    let same_type : type_of (byte_of type_field bytes) ≡ k = misfit_type bytes k n h.2 in
     rw (
       le-leb 8 (length bytes) units.fixed,
       le-leb 1 (units_in bytes) units.some,
       le-leb (8 * units_in bytes) (length bytes) units.whole,
-    ) (ap (λ (t : Kind.Type). Length t (units_in bytes)) type_ ∙ ap (λ (m : ℕ). Length k m) (sym h.1))
+    ) (ap (λ (t : Kind.Type). Length t (units_in bytes)) same_type ∙ ap (λ (m : ℕ). Length k m) (sym h.1))
 reason-one bytes (PacketCut n) none h = absurd (none (packet-block bytes h.0))
 reason-one bytes (PacketVersion n) none h = absurd (none (packet-block bytes h.0))
 

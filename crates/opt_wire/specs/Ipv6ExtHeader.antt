@@ -61,9 +61,9 @@ value_of repr = record { next_header = repr.next_header; count = repr.length; pa
 -- The grammar: the bytes begin with a whole header.
 pub record IsHeader (bytes : List ℕ) (header : HeaderValue) : Type 0 where
   pub whole : IsWhole bytes
-  pub next_header_ : header.next_header ≡ protocol_of (byte_of next_header_field bytes)
-  pub count_ : header.count ≡ byte_of length_field bytes
-  pub payload_ : header.payload ≡ bytes_of (payload_field bytes) bytes
+  pub next_header : header.next_header ≡ protocol_of (byte_of next_header_field bytes)
+  pub count_is : header.count ≡ byte_of length_field bytes
+  pub payload : header.payload ≡ bytes_of (payload_field bytes) bytes
 
 -- the text that is written: the first two bytes alone
 abbrev pub header_fields : HeaderValue → List (List ℕ)
@@ -74,7 +74,7 @@ text header = fields (header_fields header)
 
 -- What writing over `old` leaves.
 pub record Emits (header : HeaderValue) (old new : List ℕ) : Type 0 where
-  pub text_ : new ≡ over old (text header)
+  pub written : new ≡ over old (text header)
   pub exact : length old ≡ 2 → new ≡ text header
 
 -- After a next header and a length, options of a hop-by-hop header that take as many bytes as the length counts are

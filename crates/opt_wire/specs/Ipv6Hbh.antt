@@ -76,7 +76,7 @@ format most = record {
 -- What writing options over `old` leaves, where at most a given number of are kept. Where `old` has exactly their
 -- length, their text is all that is left, and canonical options are read back as their normal form.
 pub record Emits (most : ℕ) (options : List OptionValue) (old new : List ℕ) : Type 0 where
-  pub text_ : new ≡ over old (text options)
+  pub written : new ≡ over old (text options)
   pub exact : length old ≡ text_len options → new ≡ text options
   pub reads_back : IsCanonical most options → length old ≡ text_len options → IsHeader most new (norm options)
   pub round_trips : RoundTrips (format most) options

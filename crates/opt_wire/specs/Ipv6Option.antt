@@ -136,7 +136,7 @@ format = record {
 -- What writing an option over `old` leaves: its text, and what followed it. Where `old` has exactly the option's
 -- length, its text is all that is left. A canonical value is read back as its normal form, whatever follows it.
 pub record Emits (v : OptionValue) (old new : List ℕ) : Type 0 where
-  pub text_ : new ≡ over old (text v)
+  pub written : new ≡ over old (text v)
   pub exact : length old ≡ text_len v → new ≡ text v
   pub reads_back : IsCanonical v → BeginsWith new (norm v)
   pub round_trips : RoundTrips format v

@@ -34,11 +34,11 @@ Refuses bytes Empty = bytes ≡ []
 Refuses bytes Short = HasLength bytes × (length bytes < 2)
 Refuses bytes (Cut n) =
     HasLength bytes × (2 ≤ length bytes) × (length bytes < n) × (n ≡ 2 + byte_of opt_data_len_field bytes)
-Refuses bytes (Length type_ n) = BeginsWhole bytes × (n ≡ byte_of opt_data_len_field bytes) × IsMisfit bytes type_ n
+Refuses bytes (Length t n) = BeginsWhole bytes × (n ≡ byte_of opt_data_len_field bytes) × IsMisfit bytes t n
 
 abbrev pub refusal_text : Refusal → List ℕ
 refusal_text Empty = codes "no bytes"
 refusal_text Short = codes "a type without a length"
 refusal_text (Cut n) = pieces (codes "fewer than the " ∷ decimal n ∷ codes " bytes that the option counts" ∷ [])
-refusal_text (Length type_ n) =
-    pieces (codes "a length of " ∷ decimal n ∷ codes " is not allowed for " ∷ type_display type_ ∷ [])
+refusal_text (Length t n) =
+    pieces (codes "a length of " ∷ decimal n ∷ codes " is not allowed for " ∷ type_display t ∷ [])

@@ -118,7 +118,7 @@ redirected_field bytes = field 8 (8 * units_in bytes)
 pub record BeginsWhole (bytes : List ℕ) : Type 0 where
   pub fixed : 8 ≤ length bytes
   pub counted : Reaches (block_field bytes) bytes
-  pub prefix_ : byte_of type_field bytes ≡ 3 → 4 ≤ units_in bytes
+  pub prefix_is : byte_of type_field bytes ≡ 3 → 4 ≤ units_in bytes
   pub redirected : byte_of type_field bytes ≡ 4 → 6 ≤ units_in bytes
 
 -- the bytes begin with a block, which counts one unit or more (RFC 4861 section 4.6)

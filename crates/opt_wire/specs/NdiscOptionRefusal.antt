@@ -45,7 +45,7 @@ Refuses bytes Short = length bytes < 8
 Refuses bytes Zero = (8 ≤ length bytes) × (units_in bytes ≡ 0)
 Refuses bytes (Cut n) =
     (8 ≤ length bytes) × (1 ≤ units_in bytes) × (length bytes < n) × (n ≡ 8 * units_in bytes)
-Refuses bytes (Length type_ n) = HasUnits bytes × (n ≡ units_in bytes) × IsMisfit bytes type_ n
+Refuses bytes (Length t n) = HasUnits bytes × (n ≡ units_in bytes) × IsMisfit bytes t n
 Refuses bytes (PacketCut n) =
     HasPacket bytes × (length (packet_in bytes) < n) × (n ≡ 40 + ipv6.payload_len_in (packet_in bytes))
 Refuses bytes (PacketVersion n) =
@@ -55,8 +55,8 @@ abbrev pub refusal_text : Refusal → List ℕ
 refusal_text Short = codes "fewer than 8 bytes"
 refusal_text Zero = codes "a length of 0"
 refusal_text (Cut n) = pieces (codes "fewer than the " ∷ decimal n ∷ codes " bytes that the option counts" ∷ [])
-refusal_text (Length type_ n) =
-    pieces (codes "a length of " ∷ decimal n ∷ codes " is not allowed for " ∷ type_text type_ ∷ [])
+refusal_text (Length t n) =
+    pieces (codes "a length of " ∷ decimal n ∷ codes " is not allowed for " ∷ type_text t ∷ [])
 refusal_text (PacketCut n) =
     pieces (codes "fewer than the " ∷ decimal n ∷ codes " bytes that the redirected packet counts" ∷ [])
 refusal_text (PacketVersion n) = pieces (codes "version " ∷ decimal n ∷ codes " of the redirected packet" ∷ [])

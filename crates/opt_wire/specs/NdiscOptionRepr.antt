@@ -30,7 +30,7 @@ use Rattle.opt_wire.specs.declared.ndiscoption.repr.Repr.TheVariants as repr
 pub data OptionValue : Type 0 where
   source : List ℕ → OptionValue
   target : List ℕ → OptionValue
-  prefix_ : PrefixInformation → OptionValue
+  prefix_information : PrefixInformation → OptionValue
   redirected : Ipv6Repr → List ℕ → OptionValue
   mtu : ℕ → OptionValue
   unknown : ℕ → ℕ → List ℕ → OptionValue
@@ -38,7 +38,7 @@ pub data OptionValue : Type 0 where
 abbrev pub value_of : Repr → OptionValue
 value_of (repr.SourceLinkLayerAddr address) = source (raw_bytes address)
 value_of (repr.TargetLinkLayerAddr address) = target (raw_bytes address)
-value_of (repr.PrefixInformation p) = prefix_ p
+value_of (repr.PrefixInformation p) = prefix_information p
 value_of (repr.RedirectedHeader r) = redirected r.header r.«data».now
 value_of (repr.Mtu n) = mtu n
 value_of (repr.Unknown t n d) = unknown t n d.now
@@ -82,7 +82,7 @@ unknown_fields t n d = be8 t ∷ be8 n ∷ d ∷ []
 abbrev pub option_fields : OptionValue → List (List ℕ)
 option_fields (source address) = link_fields 1 address
 option_fields (target address) = link_fields 2 address
-option_fields (prefix_ p) = prefix_fields p
+option_fields (prefix_information p) = prefix_fields p
 option_fields (redirected h d) = redirected_fields h d
 option_fields (mtu n) = mtu_fields n
 option_fields (unknown t n d) = unknown_fields t n d
@@ -94,7 +94,7 @@ text v = fields (option_fields v)
 abbrev pub text_len : OptionValue → ℕ
 text_len (source address) = 8 * units (2 + length address)
 text_len (target address) = 8 * units (2 + length address)
-text_len (prefix_ p) = 32
+text_len (prefix_information p) = 32
 text_len (redirected h d) = 8 * units (48 + length d)
 text_len (mtu n) = 8
 text_len (unknown t n d) = 8 * n
@@ -108,7 +108,7 @@ HasSeconds time = seconds_of time ≤ 4294967295
 abbrev pub CanEmit : OptionValue → Type 0
 CanEmit (source address) = Unit {0}
 CanEmit (target address) = Unit {0}
-CanEmit (prefix_ p) = HasSeconds p.valid_lifetime × HasSeconds p.preferred_lifetime
+CanEmit (prefix_information p) = HasSeconds p.valid_lifetime × HasSeconds p.preferred_lifetime
 CanEmit (redirected h d) = (h.payload_len ≡ length d) × (length d ≤ 1992)
 CanEmit (mtu n) = Unit {0}
 CanEmit (unknown t n d) = (1 ≤ n) × (2 + length d ≡ 8 * n)
@@ -118,7 +118,7 @@ CanEmit (unknown t n d) = (1 ≤ n) × (2 + length d ≡ 8 * n)
 -- a link-layer address of this type
 pub record IsLinkAddr (t : ℕ) (bytes address : List ℕ) : Type 0 where
   pub kind : byte_of type_field bytes ≡ t
-  pub address_ : address ≡ bytes_of (link_addr_field bytes) bytes
+  pub address_is : address ≡ bytes_of (link_addr_field bytes) bytes
 
 -- a prefix: four units
 pub record IsPrefix (bytes : List ℕ) (p : PrefixInformation) : Type 0 where
@@ -151,14 +151,14 @@ pub record IsUnknown (bytes : List ℕ) (t n : ℕ) (d : List ℕ) : Type 0 wher
   pub kind : byte_of type_field bytes ≡ t
   pub unnamed : IsUnnamed t
   pub count : n ≡ units_in bytes
-  pub data_ : d ≡ bytes_of (data_field bytes) bytes
+  pub data_is : d ≡ bytes_of (data_field bytes) bytes
 
 -- a block is read as this option; a prefix or an MTU of other units, and a redirected packet that isn't whole, aren't
 -- read
 abbrev pub IsReading : List ℕ → OptionValue → Type 0
 IsReading bytes (source address) = IsLinkAddr 1 bytes address
 IsReading bytes (target address) = IsLinkAddr 2 bytes address
-IsReading bytes (prefix_ p) = IsPrefix bytes p
+IsReading bytes (prefix_information p) = IsPrefix bytes p
 IsReading bytes (redirected h d) = IsRedirected bytes h d
 IsReading bytes (mtu n) = IsMtu bytes n
 IsReading bytes (unknown t n d) = IsUnknown bytes t n d
@@ -179,7 +179,7 @@ pub record IsCanonicalPrefix (p : PrefixInformation) : Type 0 where
 
 pub record IsCanonicalRedirected (h : Ipv6Repr) (d : List ℕ) : Type 0 where
   pub proper : IsProper protocol.Unknown protocol_rows h.next_header
-  pub protocol_ : protocol_number h.next_header < 256
+  pub protocol : protocol_number h.next_header < 256
   pub hops : h.hop_limit < 256
   pub payload : h.payload_len ≡ length d
   pub small : length d ≤ 1992
@@ -187,7 +187,7 @@ pub record IsCanonicalRedirected (h : Ipv6Repr) (d : List ℕ) : Type 0 where
 abbrev pub IsCanonical : OptionValue → Type 0
 IsCanonical (source address) = length address ≤ 8
 IsCanonical (target address) = length address ≤ 8
-IsCanonical (prefix_ p) = IsCanonicalPrefix p
+IsCanonical (prefix_information p) = IsCanonicalPrefix p
 IsCanonical (redirected h d) = IsCanonicalRedirected h d
 IsCanonical (mtu n) = n < 2 ^ 32
 IsCanonical (unknown t n d) = IsUnnamed t × (t < 256) × (1 ≤ n) × (n < 256) × (2 + length d ≡ 8 * n)
@@ -200,8 +200,8 @@ filled address = address ++ replicate ((if nat_lt 6 (length address) then 8 else
 abbrev pub norm : OptionValue → OptionValue
 norm (source address) = source (filled address)
 norm (target address) = target (filled address)
-norm (prefix_ p) =
-    prefix_
+norm (prefix_information p) =
+    prefix_information
     (record p {
       valid_lifetime = whole_seconds p.valid_lifetime;
       preferred_lifetime = whole_seconds p.preferred_lifetime;
@@ -223,7 +223,7 @@ format = record {
 -- What writing an option over `old` leaves: its text over the front; where `old` has exactly its length, its text
 -- alone, and that of a canonical value is read back as its normal form, whatever follows.
 pub record Emits (v : OptionValue) (old new : List ℕ) : Type 0 where
-  pub text_ : new ≡ over old (text v)
+  pub written : new ≡ over old (text v)
   pub exact : length old ≡ text_len v → new ≡ text v
   pub reads_back : IsCanonical v → BeginsWith new (norm v)
   pub round_trips : RoundTrips format v
@@ -249,7 +249,7 @@ redirected_display h d =
 abbrev pub display : OptionValue → List ℕ
 display (source address) = codes "NDISC Option: SourceLinkLayer addr=" ++ hex_colons address
 display (target address) = codes "NDISC Option: TargetLinkLayer addr=" ++ hex_colons address
-display (prefix_ p) =
+display (prefix_information p) =
     pieces (codes "NDISC Option: PrefixInformation prefix=" ∷ address_text p.prefix
     ∷ codes "/" ∷ decimal p.prefix_len
     ∷ codes " flags=" ∷ flags_text (flag_bits p.flags)

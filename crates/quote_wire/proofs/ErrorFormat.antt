@@ -47,18 +47,18 @@ begins-sealed extra None t code behind bytes e = record { first = 0; second = 0;
 -- the fields that are read in them
 record Fields (bytes : List ℕ) (t code rest : ℕ) (quoted : List ℕ) : Type 0 where
   kind : byte_of type_field bytes ≡ t
-  code_ : byte_of code_field bytes ≡ code
-  rest_ : number_of rest_field bytes ≡ rest
-  quoted_ : data_in bytes ≡ quoted
+  code_is : byte_of code_field bytes ≡ code
+  rest_is : number_of rest_field bytes ≡ rest
+  quoted_is : data_in bytes ≡ quoted
 
 fields_read : (bytes : List ℕ) (t code rest : ℕ) (quoted : List ℕ) → rest < 2 ^ 32
     → Begins bytes t code (big_bytes 4 rest ++ quoted) → Fields bytes t code rest quoted
 unfolding part
 fields_read bytes t code rest quoted small b = rw b.whole (record {
   kind = refl;
-  code_ = refl;
-  rest_ = omega (arith, small);
-  quoted_ = refl;
+  code_is = refl;
+  rest_is = omega (arith, small);
+  quoted_is = refl;
 })
 
 good-computed : (extra : ℕ) (checksum : Checksum) (bytes : List ℕ) → 8 ≤ length bytes → is_computed checksum ≡ true
@@ -120,9 +120,9 @@ module _ {K : Type 0} (p : Protocol K) where
             (IsGood-sealed_where checksum_field (text p v) extra refl (omega (arith, some)) p.checksum refl fills
             verified);
         kind = read.kind;
-        code = read.code_;
-        rest = read.rest_;
-        quoted = read.quoted_;
+        code = read.code_is;
+        rest = read.rest_is;
+        quoted = read.quoted_is;
         quotes = is.cut v.quoted c.quotes;
       }
 
@@ -170,8 +170,8 @@ module _ {K : Type 0} (p : Protocol K) where
   error_same_text is =
       same_text-by (format p) (error_format is)
       (λ bytes v. Fields bytes (p.number v.kind) v.code v.rest v.quoted)
-      (λ bytes v w a b. same_value v w (is.one v.kind w.kind (sym a.kind ∙ b.kind)) (sym a.code_ ∙ b.code_)
-      (sym a.rest_ ∙ b.rest_) (sym a.quoted_ ∙ b.quoted_))
+      (λ bytes v w a b. same_value v w (is.one v.kind w.kind (sym a.kind ∙ b.kind)) (sym a.code_is ∙ b.code_is)
+      (sym a.rest_is ∙ b.rest_is) (sym a.quoted_is ∙ b.quoted_is))
       packet_fields
 
   -- what is left where an error was written
@@ -182,7 +182,7 @@ module _ {K : Type 0} (p : Protocol K) where
       left ∙ ap (λ (l : List ℕ). seal p l) (over-exact old (text p v) (long ∙ sym (length-text v))) in
       let some : 8 ≤ length (over old (text p v)) = omega (arith, room, length-over old (text p v)) in
       record {
-        text_ = left;
+        written = left;
         exact = exact;
         good =
             λ computed. subst (λ (bytes : List ℕ). IsGood bytes (p.extra (length bytes))) (sym left)

@@ -130,7 +130,7 @@ module _ {K : Type 0} (p : Protocol K) where
   -- left, and a canonical value is read back in it as its normal form. Where the checksum is computed, it is good in
   -- octets of any length.
   pub record Emits (v : ErrorValue K) (old new : List ℕ) : Type 0 where
-    pub text_ : new ≡ emitted v old
+    pub written : new ≡ emitted v old
     pub exact : length old ≡ text_len v → new ≡ packet_text v
     pub good : is_computed p.checksum ≡ true → IsGood new (p.extra (length new))
     pub reads_back : length old ≡ text_len v → Fills → IsCanonical v → IsError new (norm v)

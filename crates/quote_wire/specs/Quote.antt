@@ -32,8 +32,8 @@ pub record IsIpv4Quote (bytes : List ℕ) (q : Ipv4Quote) : Type 0 where
   pub protocol : q.next_header ≡ protocol_of (byte_of ipv4.protocol_field bytes)
   pub source : ipv4.octets_of q.src_addr ≡ bytes_of ipv4.src_addr_field bytes
   pub destination : ipv4.octets_of q.dst_addr ≡ bytes_of ipv4.dst_addr_field bytes
-  pub options_ : q.options.now ≡ bytes_of (options_field bytes) bytes
-  pub payload_ : q.payload.now ≡ drop (ipv4.header_len_in bytes) bytes
+  pub options : q.options.now ≡ bytes_of (options_field bytes) bytes
+  pub payload : q.payload.now ≡ drop (ipv4.header_len_in bytes) bytes
 
 -- the first word of an IPv6 header: the version, the traffic class and the flow label
 abbrev pub first_word_field : Field
@@ -42,12 +42,12 @@ first_word_field = field 0 4
 pub record IsIpv6Quote (bytes : List ℕ) (q : Ipv6Quote) : Type 0 where
   pub class : q.traffic_class ≡ number_of first_word_field bytes / 2 ^ 20 % 2 ^ 8
   pub flow : q.flow_label ≡ number_of first_word_field bytes % 2 ^ 20
-  pub length_ : q.payload_len ≡ ipv6.payload_len_in bytes
+  pub length_is : q.payload_len ≡ ipv6.payload_len_in bytes
   pub protocol : q.next_header ≡ protocol_of (byte_of ipv6.next_header_field bytes)
   pub hops : q.hop_limit ≡ byte_of ipv6.hop_limit_field bytes
   pub source : octets_of q.src_addr ≡ bytes_of ipv6.src_addr_field bytes
   pub destination : octets_of q.dst_addr ≡ bytes_of ipv6.dst_addr_field bytes
-  pub payload_ : q.payload.now ≡ drop 40 bytes
+  pub payload : q.payload.now ≡ drop 40 bytes
 
 -- what they print: the fields in the order of the header, and of what is lent the bytes
 abbrev pub truth_text : Bool → List ℕ

@@ -91,7 +91,7 @@ impl<'a> Ipv4Quote<'a> {
 
 /// The fields in the order of the header, the protocol by its number, and the bytes of the options and of the payload.
 impl fmt::Display for Ipv4Quote<'_> {
-    ghost output = { λ quote_. Some (ipv4_quote_display quote_) };
+    ghost output = { λ q. Some (ipv4_quote_display q) };
 
     fn fmt<W: fmt::Write>(&self, f: &mut fmt::Formatter<W>) -> fmt::Result {
         fmt_front(f, self)?;
@@ -195,7 +195,7 @@ impl<'a> Ipv6Quote<'a> {
 
 /// The fields in the order of the header, the protocol by its number, and the bytes of the payload.
 impl fmt::Display for Ipv6Quote<'_> {
-    ghost output = { λ quote_. Some (ipv6_quote_display quote_) };
+    ghost output = { λ q. Some (ipv6_quote_display q) };
 
     fn fmt<W: fmt::Write>(&self, f: &mut fmt::Formatter<W>) -> fmt::Result {
         write!(

@@ -14,7 +14,7 @@ use Rattle.record_wire.proofs.Ahead.{Shrinks, none, one, front, ahead_none, ahea
 -- ---- an option at the start
 
 abbrev the_option : List ℕ → OptionValue
-the_option bytes = record { code = number_of code_field bytes; data_ = take (option_len bytes) (drop 4 bytes) }
+the_option bytes = record { code = number_of code_field bytes; «data» = take (option_len bytes) (drop 4 bytes) }
 
 abbrev behind : List ℕ → List ℕ
 behind bytes = drop (option_len bytes) (drop 4 bytes)
@@ -35,19 +35,19 @@ option_is bytes rest option e =
     let same : the_option bytes ≡ option = ap (λ (p : OptionValue × List ℕ). p.0) t.1 in
     record {
       reaches = leb-true 4 (length bytes) h.0;
-      code_ = ap (λ (o : OptionValue). o.code) (sym same);
+      code_is = ap (λ (o : OptionValue). o.code) (sym same);
       fits = leb-true (option_len bytes) (length (drop 4 bytes)) h.1;
-      data_is = ap (λ (o : OptionValue). o.data_) (sym same);
-      rest_ = sym (ap (λ (p : OptionValue × List ℕ). p.1) t.1);
+      data_is = ap (λ (o : OptionValue). o.«data») (sym same);
+      rest_is = sym (ap (λ (p : OptionValue × List ℕ). p.1) t.1);
     }
 
 option_with : ℕ → List ℕ → OptionValue
-option_with code bytes = record { code = code; data_ = bytes }
+option_with code bytes = record { code = code; «data» = bytes }
 
-same_option : (o p : OptionValue) → o.code ≡ p.code → o.data_ ≡ p.data_ → o ≡ p
+same_option : (o p : OptionValue) → o.code ≡ p.code → o.«data» ≡ p.«data» → o ≡ p
 unfolding option_with
 same_option o p e f =
-    ap (λ (c : ℕ). option_with c o.data_) e ∙ ap (λ (d : List ℕ). option_with p.code d) f
+    ap (λ (c : ℕ). option_with c o.«data») e ∙ ap (λ (d : List ℕ). option_with p.code d) f
 
 pub option_first : (bytes rest : List ℕ) (option : OptionValue) → IsOption bytes option rest
     → option_at bytes ≡ Some (option, rest)
@@ -55,20 +55,20 @@ option_first bytes rest option is =
     at_true (leb 4 (length bytes)) (leb (option_len bytes) (length (drop 4 bytes))) _ None
     (le-leb _ _ is.reaches) (le-leb _ _ is.fits)
     ∙ (ap (λ (o : OptionValue). Some (o, behind bytes))
-    (same_option (the_option bytes) option (sym is.code_) (sym is.data_is))
-    ∙ ap (λ (r : List ℕ). Some (option, r)) (sym is.rest_))
+    (same_option (the_option bytes) option (sym is.code_is) (sym is.data_is))
+    ∙ ap (λ (r : List ℕ). Some (option, r)) (sym is.rest_is))
 
 pub option_here : (bytes : List ℕ) → 4 ≤ length bytes → option_len bytes ≤ length (drop 4 bytes) → HasOption bytes
 option_here bytes reaches fits = (
   the_option bytes,
   behind bytes,
-  record { reaches = reaches; code_ = refl; fits = fits; data_is = refl; rest_ = refl },
+  record { reaches = reaches; code_is = refl; fits = fits; data_is = refl; rest_is = refl },
 )
 
 pub option_shrinks : (bytes rest : List ℕ) (option : OptionValue) → IsOption bytes option rest
     → length rest < length bytes
 option_shrinks bytes rest option is =
-    omega (arith, is.reaches, ap length is.rest_, length-drop (option_len bytes) (drop 4 bytes), length-drop 4 bytes)
+    omega (arith, is.reaches, ap length is.rest_is, length-drop (option_len bytes) (drop 4 bytes), length-drop 4 bytes)
 
 -- ---- why none is at the start
 
@@ -84,16 +84,16 @@ why_one bytes refusal.Fields short = why_short (leb 4 (length bytes)) (lt-leb 4 
 why_one bytes refusal.Data (reaches, cut) = why_at (leb 4 (length bytes)) (le-leb 4 (length bytes) reaches)
 
 pub data_cut : (bytes : List ℕ) → 4 ≤ length bytes → (HasOption bytes → ⊥) → RefusesOption bytes refusal.Data
-data_cut bytes reaches none_ = elim (cases_lt (length (drop 4 bytes)) (option_len bytes)) [
+data_cut bytes reaches nothing = elim (cases_lt (length (drop 4 bytes)) (option_len bytes)) [
   | inl cut ↦ (reaches, cut)
-  | inr fits ↦ absurd (none_ (option_here bytes reaches fits))
+  | inr fits ↦ absurd (nothing (option_here bytes reaches fits))
 ]
 
 why_told : (bytes : List ℕ) → (HasOption bytes → ⊥) → RefusesOption bytes (why_none bytes)
-why_told bytes none_ = elim (cases_lt (length bytes) 4) [
+why_told bytes nothing = elim (cases_lt (length bytes) 4) [
   | inl short ↦ subst (RefusesOption bytes) (sym (why_one bytes refusal.Fields short)) short
   | inr reaches ↦
-      let told = data_cut bytes reaches none_ in
+      let told = data_cut bytes reaches nothing in
       subst (RefusesOption bytes) (sym (why_one bytes refusal.Data told)) told
 ]
 
@@ -126,7 +126,7 @@ given (x ∷ xs) rest answer e = given_by (x ∷ xs) rest answer (option_at (x �
 pub answers_shrink : Shrinks answer_at
 answers_shrink bytes rest answer e = elim (given bytes rest answer e) [
   | read option f is ↦ option_shrinks bytes rest option is
-  | broken f none_ some g ↦ omega (arith, some, ap length none_)
+  | broken f nothing some g ↦ omega (arith, some, ap length nothing)
 ]
 
 some_answer : {A : Type 0} (bytes : List ℕ) (o : Option (OptionValue × List ℕ)) → answer_by bytes o ≡ None → A
@@ -152,16 +152,16 @@ pub answers_nothing : answers_in [] ≡ []
 answers_nothing = ahead_none answer_at answers_shrink [] refl
 
 no_option : (bytes : List ℕ) → (HasOption bytes → ⊥) → option_at bytes ≡ None
-no_option bytes none_ = elim (front option_at bytes) [
+no_option bytes nothing = elim (front option_at bytes) [
   | none e ↦ e
-  | one option rest e ↦ absurd (none_ (option, rest, option_is bytes rest option e))
+  | one option rest e ↦ absurd (nothing (option, rest, option_is bytes rest option e))
 ]
 
 pub answers_broken : (bytes : List ℕ) (why : OptionRefusal) → 1 ≤ length bytes → (HasOption bytes → ⊥)
     → RefusesOption bytes why → answers_in bytes ≡ Err why ∷ []
-answers_broken bytes why some none_ told =
+answers_broken bytes why some nothing told =
     ahead_some answer_at answers_shrink bytes [] (Err why)
-    (answer_some bytes some ∙ (ap (answer_by bytes) (no_option bytes none_)
+    (answer_some bytes some ∙ (ap (answer_by bytes) (no_option bytes nothing)
     ∙ ap (λ (w : OptionRefusal). Some (Err w, [])) (why_one bytes why told)))
     ∙ ap (λ (more : List Answer). Err why ∷ more) answers_nothing
 
@@ -171,8 +171,8 @@ pub tile_one : (bytes : List ℕ) (answers : List Answer) → Tile bytes answers
 tile_one bytes [] tile = sym (ap answers_in tile ∙ answers_nothing)
 tile_one bytes (Ok option ∷ answers) (rest, is, more) =
     ap (λ (l : List Answer). Ok option ∷ l) (tile_one rest answers more) ∙ sym (answers_option bytes rest option is)
-tile_one bytes (Err why ∷ answers) (some, none_, told, last) =
-    ap (λ (l : List Answer). Err why ∷ l) last ∙ sym (answers_broken bytes why some none_ told)
+tile_one bytes (Err why ∷ answers) (some, nothing, told, last) =
+    ap (λ (l : List Answer). Err why ∷ l) last ∙ sym (answers_broken bytes why some nothing told)
 
 none_at : (bytes : List ℕ) → option_at bytes ≡ None → HasOption bytes → ⊥
 none_at bytes e (option, rest, is) = let f = sym e ∙ option_first bytes rest option is in cc f
@@ -182,9 +182,9 @@ tile_turn : (bytes rest : List ℕ) (answer : Answer) → Given bytes answer res
 tile_turn bytes rest answer (read option e is) more =
     subst (Tile bytes) (sym (answers_option bytes rest option is)) (rest, is, more)
 tile_turn bytes rest answer (broken e last some f) more =
-    let none_ = none_at bytes f in
-    let told = why_told bytes none_ in
-    subst (Tile bytes) (sym (answers_broken bytes (why_none bytes) some none_ told)) (some, none_, told, refl)
+    let nothing = none_at bytes f in
+    let told = why_told bytes nothing in
+    subst (Tile bytes) (sym (answers_broken bytes (why_none bytes) some nothing told)) (some, nothing, told, refl)
 
 tile_end : (bytes : List ℕ) → answer_at bytes ≡ None → Tile bytes (answers_in bytes)
 tile_end bytes e = subst (Tile bytes) (sym (ahead_none answer_at answers_shrink bytes e)) (nothing_left bytes e)

@@ -109,14 +109,14 @@ refused_numbers front_form.Number bytes other none = elim (cases_lt (length byte
   | inl less ↦ less
   | inr fits ↦
       absurd (none (numbered (number_of number_field bytes)) (drop 2 bytes)
-      (record { reaches = fits; is = refl; rest_ = refl }))
+      (record { reaches = fits; is = refl; rest_is = refl }))
 ]
 refused_numbers front_form.Rule bytes other none = absurd (no_rule other)
 refused_numbers front_form.Signed bytes other none = elim (cases_lt (length bytes) 18) [
   | inl less ↦ less
   | inr fits ↦
       absurd (none (signs (signature_in bytes)) (drop 18 bytes)
-      (record { reaches = fits; is = refl; rest_ = refl }))
+      (record { reaches = fits; is = refl; rest_is = refl }))
 ]
 
 -- ---- what is refused after it

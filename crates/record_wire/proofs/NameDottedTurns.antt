@@ -46,7 +46,7 @@ piece_copied room label ahead part at n fits long within front is =
 
 -- The start of the buffer has the labels that were read, each before a dot.
 pub record IsPutTo (text message left reach room : List ℕ) (at dots pointers : ℕ) : Type 0 where
-  pub whole_ : length room ≡ 256
+  pub whole : length room ≡ 256
   pub octets : List ℕ
   pub read : IsReadTo text message octets left reach pointers
   pub follows : pointers ≤ most_pointers
@@ -58,7 +58,7 @@ pub record IsPutTo (text message left reach room : List ℕ) (at dots pointers :
 
 pub nothing_put : (text message room : List ℕ) → length room ≡ 256 → IsPutTo text message text message room 0 0 0
 nothing_put text message room long = record {
-  whole_ = long;
+  whole = long;
   octets = [];
   read = nothing_read text message [] refl;
   follows = omega arith;
@@ -73,10 +73,10 @@ pub pointer_put : (text message left reach room : List ℕ) (at dots pointers ta
     → IsPutTo text message left reach room at dots pointers → pointer target ≡ front_of left → target < length reach
     → rest ≡ drop target reach → front ≡ take target reach → pointers + 1 ≤ most_pointers
     → IsPutTo text message rest front room at dots (pointers + 1)
-pointer_put text message left reach room at dots pointers target rest front p e inside rest_ front_ few = record {
-  whole_ = p.whole_;
+pointer_put text message left reach room at dots pointers target rest front p e inside others leading few = record {
+  whole = p.whole;
   octets = p.octets;
-  read = rw (rest_, front_) (pointer_read text message p.octets left reach pointers target p.read e inside);
+  read = rw (others, leading) (pointer_read text message p.octets left reach pointers target p.read e inside);
   follows = few;
   long = p.long;
   few = p.few;
@@ -118,10 +118,10 @@ pub label_put : (text message left reach room next label rest : List ℕ) (at do
     → length next ≡ 256 → at + length label < 254 → end ≡ at + length label + 1
     → take end next ≡ take at room ++ label ++ codes "."
     → IsPutTo text message rest reach next end (dots + 1) pointers
-label_put text message left reach room next label rest at dots pointers end p e whole_ fits ends is =
-    let more = one_more p.octets label p.read.done p.read.each p.read.written_ (one_label left label rest e) in
+label_put text message left reach room next label rest at dots pointers end p e entire fits ends is =
+    let more = one_more p.octets label p.read.done p.read.each p.read.written (one_label left label rest e) in
     record {
-      whole_ = whole_;
+      whole = entire;
       octets = p.octets ++ written label;
       read = label_read text message p.octets left reach label rest pointers p.read e;
       follows = p.follows;
@@ -146,27 +146,27 @@ pub no_room : (text message left reach room label rest : List ℕ) (at dots poin
 no_room text message left reach room label rest at dots pointers p e far labels usual =
     let next = label_read text message p.octets left reach label rest pointers p.read e in
     let few =
-    room_read text message (p.octets ++ written label) rest reach pointers next labels usual.names_.name_.is
-    usual.names_.fits in
+    room_read text message (p.octets ++ written label) rest reach pointers next labels usual.names.name_is.is
+    usual.names.fits in
     omega (arith, few, far, p.long, length-append p.octets (written label))
 
 pub leads_nowhere : (text message left reach room : List ℕ) (at dots pointers target : ℕ)
     → IsPutTo text message left reach room at dots pointers → pointer target ≡ front_of left → length reach ≤ target
     → (labels : List (List ℕ)) → AreUsual text message labels → ⊥
 leads_nowhere text message left reach room at dots pointers target p e far labels usual =
-    no_name_far text message p.octets left reach pointers target p.read e far labels usual.names_.name_.is
+    no_name_far text message p.octets left reach pointers target p.read e far labels usual.names.name_is.is
 
 pub leads_on : (text message left reach room : List ℕ) (at dots pointers target : ℕ)
     → IsPutTo text message left reach room at dots pointers → pointer target ≡ front_of left → target < length reach
     → pointers ≡ most_pointers → (labels : List (List ℕ)) → AreUsual text message labels → ⊥
 leads_on text message left reach room at dots pointers target p e inside most labels usual =
-    no_name_more text message p.octets left reach pointers target p.read e inside most labels usual.names_
+    no_name_more text message p.octets left reach pointers target p.read e inside most labels usual.names
 
 pub is_torn : (text message left reach room : List ℕ) (at dots pointers : ℕ)
     → IsPutTo text message left reach room at dots pointers → torn ≡ front_of left
     → (labels : List (List ℕ)) → AreUsual text message labels → ⊥
 is_torn text message left reach room at dots pointers p e labels usual =
-    no_name_torn text message p.octets left reach pointers p.read e labels usual.names_.name_.is
+    no_name_torn text message p.octets left reach pointers p.read e labels usual.names.name_is.is
 
 -- the labels of the name are those that were put
 all_put : (text message left reach room : List ℕ) (at dots pointers : ℕ)
@@ -174,8 +174,8 @@ all_put : (text message left reach room : List ℕ) (at dots pointers : ℕ)
     → stop ≡ front_of left → (labels : List (List ℕ)) → AreUsual text message labels
     → labels_in p.octets ≡ labels
 all_put text message left reach room at dots pointers p e labels usual =
-    in_written p.octets labels usual.names_.fits.each
-    (all_same text message p.octets left reach pointers p.read e labels usual.names_.name_.is)
+    in_written p.octets labels usual.names.fits.each
+    (all_same text message p.octets left reach pointers p.read e labels usual.names.name_is.is)
 
 no_labels : (labels : List (List ℕ)) → length (written_all labels) ≡ 0 → labels ≡ []
 no_labels [] h = refl
@@ -195,9 +195,9 @@ module _ (text message left reach room : List ℕ) (at dots pointers : ℕ)
   pub is_root : (next : List ℕ) → at ≡ 0 → take 1 next ≡ codes "."
       → (labels : List (List ℕ)) × AreUsual text message labels × (take 1 next ≡ dotted_text labels)
   is_root next zero dot =
-      let none = no_labels p.read.done (omega (arith, ap length p.read.written_, p.long, zero)) in (
+      let none = no_labels p.read.done (omega (arith, ap length p.read.written, p.long, zero)) in (
         p.read.done,
-        record { names_ = names_put; usual = ap are_usual none },
+        record { names = names_put; usual = ap are_usual none },
         dot ∙ ap dotted_text (sym none),
       )
 
@@ -206,18 +206,18 @@ module _ (text message left reach room : List ℕ) (at dots pointers : ℕ)
     is_unusual other labels usual =
         let all = all_put text message left reach room at dots pointers p e labels usual in
         let few : at ≤ 255 = omega (arith, p.few) in
-        let front = front_usual (labels_in p.octets) room at count dots p.whole_ few p.put is p.counted in
+        let front = front_usual (labels_in p.octets) room at count dots p.whole few p.put is p.counted in
         other (front.1 (ap are_usual all ∙ usual.usual))
 
     -- the text of a name that was read to its end
     pub is_text : 1 ≤ at → count + dots ≡ at
         → (labels : List (List ℕ)) × AreUsual text message labels × (take at room ≡ dotted_text labels)
     is_text some sum =
-        let same : labels_in p.octets ≡ p.read.done = in_written p.octets p.read.done p.read.each p.read.written_ in
+        let same : labels_in p.octets ≡ p.read.done = in_written p.octets p.read.done p.read.each p.read.written in
         let few : at ≤ 255 = omega (arith, p.few) in
-        let front = front_usual (labels_in p.octets) room at count dots p.whole_ few p.put is p.counted in (
+        let front = front_usual (labels_in p.octets) room at count dots p.whole few p.put is p.counted in (
           p.read.done,
-          record { names_ = names_put; usual = ap are_usual (sym same) ∙ front.0 sum },
+          record { names = names_put; usual = ap are_usual (sym same) ∙ front.0 sum },
           p.put ∙ (ap dotted same
-              ∙ some_labels p.read.done (omega (arith, some, p.long, ap length p.read.written_))),
+              ∙ some_labels p.read.done (omega (arith, some, p.long, ap length p.read.written))),
         )

@@ -185,7 +185,7 @@ pub record IsReadTo (text message octets left reach : List ℕ) (pointers : ℕ)
   pub steps : ℕ
   pub done : List (List ℕ)
   pub each : AllByRecursion IsLabel done
-  pub written_ : octets ≡ written_all done
+  pub written : octets ≡ written_all done
   pub count : steps ≡ length done + pointers
   pub last : last_steps (ahead_of 0 text message) ≡ last_steps (ahead_of steps left reach)
   pub back : (labels : List (List ℕ)) → Gives (ahead_of steps left reach) labels
@@ -198,7 +198,7 @@ nothing_read text message octets e = record {
   steps = 0;
   done = [];
   each = tt;
-  written_ = e;
+  written = e;
   count = refl;
   last = refl;
   back = λ labels g. g;
@@ -217,7 +217,7 @@ pointer_read text message octets left reach pointers target so e l =
       steps = so.steps + 1;
       done = so.done;
       each = so.each;
-      written_ = so.written_;
+      written = so.written;
       count = omega (arith, so.count);
       last = so.last ∙ ap last_steps (sym same);
       back = λ labels g. so.back labels (subst (λ cs. Gives cs labels) same g);
@@ -242,8 +242,8 @@ labels_read text message octets next left reach pointers len so front pushed =
       steps = n;
       done = so.done ++ front.labels;
       each = each_of_both so.done front.labels so.each front.each;
-      written_ = pushed
-          ∙ (ap (λ (o : List ℕ). o ++ take len left) so.written_
+      written = pushed
+          ∙ (ap (λ (o : List ℕ). o ++ take len left) so.written
           ∙ (ap (λ (o : List ℕ). written_all so.done ++ o) (in_front left len front)
           ∙ sym (flat_map-append written so.done front.labels)));
       count = omega (arith, so.count, length-append so.done front.labels);
@@ -288,7 +288,7 @@ all_read text message octets left reach pointers so e room few =
     let name = ((walks_over text message).names so.done).0
     (subst (λ ls. Gives (ahead_of 0 text message) ls) (append-nil so.done) (so.back [] last)) in
     record {
-      name_ = record {
+      name_is = record {
         is = name;
         few = omega (
           arith,
@@ -299,7 +299,7 @@ all_read text message octets left reach pointers so e room few =
           ap last_steps end,
         );
       };
-      fits = name_of octets so.done so.each so.written_ room;
+      fits = name_of octets so.done so.each so.written room;
     }
 
 -- the labels of a name, after those that were read
@@ -319,7 +319,7 @@ all_same text message octets left reach pointers so e labels name =
     let none = none_at_end so.steps f.0 (subst (λ cs. Gives cs f.0) end f.2) in
     let all : labels ≡ so.done =
     f.1 ∙ (ap (λ (ls : List (List ℕ)). so.done ++ ls) none ∙ append-nil so.done) in
-    so.written_ ∙ ap written_all (sym all)
+    so.written ∙ ap written_all (sym all)
 
 pub no_name_far : (text message octets left reach : List ℕ) (pointers target : ℕ)
     → IsReadTo text message octets left reach pointers
@@ -364,8 +364,8 @@ no_name_more text message octets left reach pointers target so e l most labels n
     omega (
       arith,
       pointers_read text message octets (drop target reach) (take target reach) (pointers + 1) next labels
-          names.name_.is,
-      names.name_.few,
+          names.name_is.is,
+      names.name_is.few,
       most,
     )
 
@@ -382,7 +382,7 @@ room_read text message octets left reach pointers so labels name fit =
       length-append (written_all (so.done ++ f.0)) (0 ∷ []),
       ap length (flat_map-append written so.done f.0),
       length-append (written_all so.done) (written_all f.0),
-      ap length so.written_,
+      ap length so.written,
     )
 
 -- labels that do not fit

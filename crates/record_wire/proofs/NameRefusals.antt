@@ -132,8 +132,8 @@ pub named : (text message octets left opened next : List ℕ) (pointers : ℕ)
     → HasLabelsOfName text message next
 named text message octets left opened next pointers so e ends = record {
   labels = so.read.done;
-  names_ = all_read text message octets left opened pointers so.read e so.room so.few;
-  written_ = ends ∙ ap (λ (o : List ℕ). o ++ 0 ∷ []) so.read.written_;
+  names = all_read text message octets left opened pointers so.read e so.room so.few;
+  written = ends ∙ ap (λ (o : List ℕ). o ++ 0 ∷ []) so.read.written;
 }
 
 place_left : (text message octets left opened : List ℕ) (pointers : ℕ)

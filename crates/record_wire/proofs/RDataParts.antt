@@ -11,13 +11,13 @@ use Rattle.record_wire.specs.RData.{AreStrings, string_rest}
 -- ---- a name and nothing more
 
 pub whole_split : (bytes : List ℕ) → IsOnePart bytes → IsSplit bytes bytes []
-whole_split bytes one = record { name_ = one; whole = sym (append-nil bytes) }
+whole_split bytes one = record { name_is = one; whole = sym (append-nil bytes) }
 
 pub split_whole : (bytes name rest : List ℕ) → IsSplit bytes name rest → length rest ≡ 0 → IsOnePart bytes
 split_whole bytes name rest split none =
     let empty : rest ≡ [] = nil_from_length rest none in
     let is : bytes ≡ name = split.whole ∙ (ap (λ (r : List ℕ). name ++ r) empty ∙ append-nil name) in
-    subst IsOnePart (sym is) split.name_
+    subst IsOnePart (sym is) split.name_is
 
 -- ---- strings
 

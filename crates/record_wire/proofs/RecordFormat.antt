@@ -21,44 +21,44 @@ same_question q r e f g =
 
 pub question_split : (bytes : List ℕ) (q : QuestionValue) (rest : List ℕ) (h : IsQuestion bytes q rest)
     → IsSplit bytes q.name h.after
-question_split bytes q rest h = record { name_ = h.name_; whole = h.whole }
+question_split bytes q rest h = record { name_is = h.name_is; whole = h.whole }
 
 -- two questions after one name
 pub question_one : (bytes : List ℕ) (q r : QuestionValue) (rest more : List ℕ) (a : IsQuestion bytes q rest)
     (b : IsQuestion bytes r more) → q.name ≡ r.name → a.after ≡ b.after → (q ≡ r) × (rest ≡ more)
 question_one bytes q r rest more a b name after = (
   same_question q r name
-      (a.kind_ ∙ (ap (λ (t : List ℕ). type_of (number_of type_field t)) after ∙ sym b.kind_))
-      (a.class_ ∙ (ap (λ (t : List ℕ). number_of class_field t) after ∙ sym b.class_)),
-  a.rest_ ∙ (ap (λ (t : List ℕ). drop 4 t) after ∙ sym b.rest_),
+      (a.kind_is ∙ (ap (λ (t : List ℕ). type_of (number_of type_field t)) after ∙ sym b.kind_is))
+      (a.class_is ∙ (ap (λ (t : List ℕ). number_of class_field t) after ∙ sym b.class_is)),
+  a.rest_is ∙ (ap (λ (t : List ℕ). drop 4 t) after ∙ sym b.rest_is),
 )
 
 -- ---- records
 
 abbrev record_at : List ℕ → RecordType → ℕ → ℕ → List ℕ → RecordValue
 record_at name kind class ttl bytes =
-    record { name = name; kind = kind; class = class; ttl = ttl; data_ = bytes }
+    record { name = name; kind = kind; class = class; ttl = ttl; «data» = bytes }
 
 same_record : (r s : RecordValue) → r.name ≡ s.name → r.kind ≡ s.kind → r.class ≡ s.class → r.ttl ≡ s.ttl
-    → r.data_ ≡ s.data_ → r ≡ s
+    → r.«data» ≡ s.«data» → r ≡ s
 same_record r s e f g h k =
-    ap (λ (n : List ℕ). record_at n r.kind r.class r.ttl r.data_) e
-    ∙ (ap (λ (t : RecordType). record_at s.name t r.class r.ttl r.data_) f
-    ∙ (ap (λ (c : ℕ). record_at s.name s.kind c r.ttl r.data_) g
-    ∙ (ap (λ (t : ℕ). record_at s.name s.kind s.class t r.data_) h
+    ap (λ (n : List ℕ). record_at n r.kind r.class r.ttl r.«data») e
+    ∙ (ap (λ (t : RecordType). record_at s.name t r.class r.ttl r.«data») f
+    ∙ (ap (λ (c : ℕ). record_at s.name s.kind c r.ttl r.«data») g
+    ∙ (ap (λ (t : ℕ). record_at s.name s.kind s.class t r.«data») h
     ∙ ap (λ (d : List ℕ). record_at s.name s.kind s.class s.ttl d) k)))
 
 pub record_split : (bytes : List ℕ) (r : RecordValue) (rest : List ℕ) (h : IsRecord bytes r rest)
     → IsSplit bytes r.name h.after
-record_split bytes r rest h = record { name_ = h.name_; whole = h.whole }
+record_split bytes r rest h = record { name_is = h.name_is; whole = h.whole }
 
 -- two records after one name
 pub behind_one : (after : List ℕ) (r s : RecordValue) (rest more : List ℕ) → IsBehindName after r rest
     → IsBehindName after s more → r.name ≡ s.name → (r ≡ s) × (rest ≡ more)
 behind_one after r s rest more a b name = (
-  same_record r s name (a.kind_ ∙ sym b.kind_) (a.class_ ∙ sym b.class_) (a.ttl_ ∙ sym b.ttl_)
+  same_record r s name (a.kind_is ∙ sym b.kind_is) (a.class_is ∙ sym b.class_is) (a.ttl_is ∙ sym b.ttl_is)
       (a.data_is ∙ sym b.data_is),
-  a.rest_ ∙ sym b.rest_,
+  a.rest_is ∙ sym b.rest_is,
 )
 
 -- ---- octets that begin with a name and have the fields after it
@@ -69,12 +69,12 @@ question_here bytes name after split fits = (
   drop 4 after,
   record {
     after = after;
-    name_ = split.name_;
+    name_is = split.name_is;
     whole = split.whole;
     reaches = fits;
-    kind_ = refl;
-    class_ = refl;
-    rest_ = refl;
+    kind_is = refl;
+    class_is = refl;
+    rest_is = refl;
   },
 )
 
@@ -86,16 +86,16 @@ record_here bytes name after split fits data_fits = (
   drop (data_len after) (drop 10 after),
   record {
     after = after;
-    name_ = split.name_;
+    name_is = split.name_is;
     whole = split.whole;
     behind = record {
       reaches = fits;
-      kind_ = refl;
-      class_ = refl;
-      ttl_ = refl;
+      kind_is = refl;
+      class_is = refl;
+      ttl_is = refl;
       fits = data_fits;
       data_is = refl;
-      rest_ = refl;
+      rest_is = refl;
     };
   },
 )

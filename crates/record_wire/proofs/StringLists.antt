@@ -52,9 +52,9 @@ pub no_string : (octets : List ℕ) → first_string octets ≡ None → HasNoSt
 no_string octets e string rest is = let f = ap first_string is ∙ string_first string rest in cc
 
 pub none_first : (octets : List ℕ) → HasNoString octets → first_string octets ≡ None
-none_first octets none_ = elim (front first_string octets) [
+none_first octets nothing = elim (front first_string octets) [
   | none e ↦ e
-  | one string rest e ↦ absurd (none_ string rest (string_is octets string rest e))
+  | one string rest e ↦ absurd (nothing string rest (string_is octets string rest e))
 ]
 
 -- ---- all strings

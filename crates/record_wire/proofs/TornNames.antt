@@ -44,7 +44,7 @@ label_fewer left bytes rest e =
 split_mark : (text mark rest : List ℕ) (st : Stop) (so : Behind text (mark ++ rest)) → IsMark mark st
     → IsSplit text (written_all so.labels ++ mark) rest
 split_mark text mark rest st so is = record {
-  name_ = record { labels = so.labels; stop = st; mark = mark; each = so.each; stops = is; whole = refl };
+  name_is = record { labels = so.labels; stop = st; mark = mark; each = so.each; stops = is; whole = refl };
   whole = so.is ∙ sym (append_assoc (written_all so.labels) mark rest);
 }
 

@@ -46,12 +46,12 @@ edns_of edns = record {
 
 -- these are the fields of the record
 pub record IsEdns (r : RecordValue) (edns : EdnsValue) : Type 0 where
-  pub payload_size_ : edns.payload_size ≡ r.class
-  pub extended_rcode_ : edns.extended_rcode ≡ r.ttl / 0x1000000
-  pub version_ : edns.version ≡ r.ttl / 0x10000 % 0x100
-  pub flags_ : edns.flags ≡ r.ttl % 0x10000
-  pub dnssec_ok_ : edns.dnssec_ok ≡ nat_le 0x8000 edns.flags
-  pub options_ : edns.options ≡ r.data_
+  pub payload_size : edns.payload_size ≡ r.class
+  pub extended_rcode : edns.extended_rcode ≡ r.ttl / 0x1000000
+  pub version : edns.version ≡ r.ttl / 0x10000 % 0x100
+  pub flags_are : edns.flags ≡ r.ttl % 0x10000
+  pub dnssec_ok : edns.dnssec_ok ≡ nat_le 0x8000 edns.flags
+  pub options : edns.options ≡ r.«data»
 
 -- the response code, of which the header has the lower four bits
 abbrev pub rcode_with : ℕ → ℕ → ℕ
@@ -68,10 +68,10 @@ option_length_field = field 2 4
 -- an option by its content
 pub record OptionValue : Type 0 where
   pub code : ℕ
-  pub data_ : List ℕ
+  pub «data» : List ℕ
 
 abbrev pub option_of : EdnsOption → OptionValue
-option_of option = record { code = option.code; data_ = option.«data».now }
+option_of option = record { code = option.code; «data» = option.«data».now }
 
 abbrev pub option_len : List ℕ → ℕ
 option_len bytes = number_of option_length_field bytes
@@ -79,10 +79,10 @@ option_len bytes = number_of option_length_field bytes
 -- these bytes are an option, followed by a rest
 pub record IsOption (bytes : List ℕ) (option : OptionValue) (rest : List ℕ) : Type 0 where
   pub reaches : Reaches option_length_field bytes
-  pub code_ : option.code ≡ number_of code_field bytes
+  pub code_is : option.code ≡ number_of code_field bytes
   pub fits : option_len bytes ≤ length (drop 4 bytes)
-  pub data_is : option.data_ ≡ take (option_len bytes) (drop 4 bytes)
-  pub rest_ : rest ≡ drop (option_len bytes) (drop 4 bytes)
+  pub data_is : option.«data» ≡ take (option_len bytes) (drop 4 bytes)
+  pub rest_is : rest ≡ drop (option_len bytes) (drop 4 bytes)
 
 -- the bytes begin with an option
 abbrev pub HasOption : List ℕ → Type 0
@@ -110,7 +110,7 @@ abbrev pub option_at : List ℕ → Option (OptionValue × List ℕ)
 option_at bytes =
     if nat_le 4 (length bytes) && nat_le (option_len bytes) (length (drop 4 bytes))
     then Some (
-      record { code = number_of code_field bytes; data_ = take (option_len bytes) (drop 4 bytes) },
+      record { code = number_of code_field bytes; «data» = take (option_len bytes) (drop 4 bytes) },
       drop (option_len bytes) (drop 4 bytes),
     )
     else None

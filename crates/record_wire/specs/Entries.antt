@@ -93,19 +93,19 @@ pub record IsNext (old : Left) (e : EntryValue) (new : Left) : Type 0 where
   pub unbroken : old.refused ≡ false
   pub some : old.taken < old.ends.all
   pub is : IsEntry (section_at old.ends old.taken) old.bytes e new.bytes
-  pub ends_ : new.ends ≡ old.ends
-  pub taken_ : new.taken ≡ old.taken + 1
-  pub refused_ : new.refused ≡ false
+  pub ends : new.ends ≡ old.ends
+  pub taken : new.taken ≡ old.taken + 1
+  pub refused : new.refused ≡ false
 
 -- an entry is left, and none is at the start of the bytes; none is left then, and the bytes stay
 pub record IsBroken (old new : Left) : Type 0 where
   pub unbroken : old.refused ≡ false
   pub some : old.taken < old.ends.all
   pub none : (e : EntryValue) (rest : List ℕ) → IsEntry (section_at old.ends old.taken) old.bytes e rest → ⊥
-  pub ends_ : new.ends ≡ old.ends
-  pub taken_ : new.taken ≡ old.taken
-  pub refused_ : new.refused ≡ true
-  pub bytes_ : new.bytes ≡ old.bytes
+  pub ends : new.ends ≡ old.ends
+  pub taken : new.taken ≡ old.taken
+  pub refused : new.refused ≡ true
+  pub bytes : new.bytes ≡ old.bytes
 
 -- A call returns the next entry and removes it; where there is none it returns one refusal, and then always None.
 abbrev pub GivesEntry : Left → Option (Result Entry Error) → Left → Type 0

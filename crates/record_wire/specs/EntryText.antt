@@ -49,9 +49,9 @@ record_class is_multicast kind class = if is_multicast then record_class_of kind
 
 -- this question, taken as one of a class, with its name read
 pub record ReadsQuestion (message : List ℕ) (class : ℕ) (q : QuestionValue) (value : QuestionTextValue) : Type 0 where
-  pub name_ : Names message q.name value.name
-  pub class_ : value.class ≡ class
-  pub kind_ : value.kind ≡ q.kind
+  pub name_is : Names message q.name value.name
+  pub class_is : value.class ≡ class
+  pub kind_is : value.kind ≡ q.kind
 
 -- this entry, of a message of multicast DNS or of another, with its names read, and its flag; other messages have none
 abbrev pub IsEntryText : Bool → List ℕ → entries.EntryValue → EntryTextValue → Type 0

@@ -35,10 +35,10 @@ pub data RestValue : Type 0 where
   all_maps : List ℕ → RestValue
 
 pub record FieldsValue : Type 0 where
-  pub front_ : FrontValue
+  pub front : FrontValue
   pub first : List ℕ
   pub second : Option (List ℕ)
-  pub rest_ : RestValue
+  pub «rest» : RestValue
 
 abbrev pub front_of : Front → FrontValue
 front_of front.Nothing = no_front
@@ -58,10 +58,10 @@ name_of (Some bytes) = Some bytes.now
 
 abbrev pub fields_of : Fields → FieldsValue
 fields_of fields = record {
-  front_ = front_of fields.front;
+  front = front_of fields.front;
   first = fields.first.now;
   second = name_of fields.second;
-  rest_ = rest_of fields.«rest»;
+  «rest» = rest_of fields.«rest»;
 }
 
 -- ---- before the names
@@ -120,7 +120,7 @@ pub record AreThree (bytes strings rest : List ℕ) : Type 0 where
 pub record IsNumber (bytes : List ℕ) (value : FrontValue) (rest : List ℕ) : Type 0 where
   pub reaches : 2 ≤ length bytes
   pub is : value ≡ numbered (number_of number_field bytes)
-  pub rest_ : rest ≡ drop 2 bytes
+  pub rest_is : rest ≡ drop 2 bytes
 
 -- an order, a preference, and three strings
 pub record IsRule (bytes : List ℕ) (value : FrontValue) (rest : List ℕ) : Type 0 where
@@ -133,7 +133,7 @@ pub record IsRule (bytes : List ℕ) (value : FrontValue) (rest : List ℕ) : Ty
 pub record IsSignature (bytes : List ℕ) (value : FrontValue) (rest : List ℕ) : Type 0 where
   pub reaches : 18 ≤ length bytes
   pub is : value ≡ signs (signature_in bytes)
-  pub rest_ : rest ≡ drop 18 bytes
+  pub rest_is : rest ≡ drop 18 bytes
 
 -- these fields are at the start of the bytes, followed by a rest
 abbrev pub IsFront : FrontForm → List ℕ → FrontValue → List ℕ → Type 0
@@ -187,10 +187,10 @@ pub record IsFields (form : Form) (bytes : List ℕ) (value : FieldsValue) : Typ
   pub behind_front : List ℕ
   pub behind_first : List ℕ
   pub behind_second : List ℕ
-  pub front_ : IsFront form.front bytes value.front_ behind_front
-  pub first_ : IsSplit behind_front value.first behind_first
-  pub second_ : IsSecond form.has_two behind_first value.second behind_second
-  pub rest_ : IsRest form.«rest» behind_second value.rest_
+  pub front_is : IsFront form.front bytes value.front behind_front
+  pub first : IsSplit behind_front value.first behind_first
+  pub second_is : IsSecond form.has_two behind_first value.second behind_second
+  pub rest_is : IsRest form.«rest» behind_second value.«rest»
 
 -- ---- as computed
 

@@ -20,10 +20,10 @@ use Rattle.record_wire.specs.declared.text.fields.FieldsText.{FieldsText}
 -- ---- the fields by content: of each name its labels
 
 pub record FieldsTextValue : Type 0 where
-  pub front_ : FrontValue
+  pub front : FrontValue
   pub first : List (List ℕ)
   pub second : Option (List (List ℕ))
-  pub rest_ : RestValue
+  pub «rest» : RestValue
 
 abbrev pub labels_in : Option Name → Option (List (List ℕ))
 labels_in None = None
@@ -31,10 +31,10 @@ labels_in (Some name) = Some (labels_of name)
 
 abbrev pub fields_text_of : FieldsText → FieldsTextValue
 fields_text_of read = record {
-  front_ = front_of read.front;
+  front = front_of read.front;
   first = labels_of read.first;
   second = labels_in read.second;
-  rest_ = rest_of read.«rest»;
+  «rest» = rest_of read.«rest»;
 }
 
 -- ---- what is read, in a message
@@ -45,10 +45,10 @@ IsSecondText message (Some bytes) value =
     (labels : List (List ℕ)) × Names message bytes labels × (value ≡ Some labels)
 
 pub record IsFieldsText (message : List ℕ) (fields : FieldsValue) (value : FieldsTextValue) : Type 0 where
-  pub front_ : value.front_ ≡ fields.front_
-  pub first_ : Names message fields.first value.first
-  pub second_ : IsSecondText message fields.second value.second
-  pub rest_ : value.rest_ ≡ fields.rest_
+  pub front_is : value.front ≡ fields.front
+  pub first : Names message fields.first value.first
+  pub second_is : IsSecondText message fields.second value.second
+  pub rest_is : value.«rest» ≡ fields.«rest»
 
 -- ---- what is refused: the first name that can't be read
 
@@ -125,8 +125,8 @@ rest_text (all_maps bytes) = maps_text bytes
 
 abbrev pub fields_text : FieldsTextValue → List ℕ
 fields_text fields =
-    pieces (front_text fields.front_ ∷ whole_name fields.first ∷ second_text fields.second
-    ∷ rest_text fields.rest_ ∷ [])
+    pieces (front_text fields.front ∷ whole_name fields.first ∷ second_text fields.second
+    ∷ rest_text fields.«rest» ∷ [])
 
 -- the text in normal form: its names have the lengths of their labels
 abbrev pub names_display : List ℕ → Option (List ℕ) → List ℕ
@@ -136,4 +136,4 @@ names_display first (Some second) =
 
 abbrev pub fields_display : FieldsValue → List ℕ
 fields_display fields =
-    pieces (front_text fields.front_ ∷ names_display fields.first fields.second ∷ rest_text fields.rest_ ∷ [])
+    pieces (front_text fields.front ∷ names_display fields.first fields.second ∷ rest_text fields.«rest» ∷ [])

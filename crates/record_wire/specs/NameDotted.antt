@@ -25,5 +25,5 @@ dotted_text (label ∷ labels) = dotted (label ∷ labels)
 
 -- The name that begins in a text and may go on in a message has these labels, all of such bytes alone.
 pub record AreUsual (text message : List ℕ) (labels : List (List ℕ)) : Type 0 where
-  pub names_ : Names message text labels
+  pub names : Names message text labels
   pub usual : are_usual labels ≡ true

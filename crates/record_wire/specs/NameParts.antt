@@ -25,8 +25,8 @@ EndsTooFar len Torn = Unit {0}
 -- the octets of the name that begins in a text and may go on in a message
 pub record HasLabelsOfName (text message octets : List ℕ) : Type 0 where
   pub labels : List (List ℕ)
-  pub names_ : Names message text labels
-  pub written_ : octets ≡ wire labels
+  pub names : Names message text labels
+  pub written : octets ≡ wire labels
 
 -- the text begins with these bytes
 pub record StandInFront (bytes text : List ℕ) : Type 0 where

@@ -15,5 +15,5 @@ pub record IsFollowed (text message : List ℕ) (labels : List (List ℕ)) : Typ
 
 -- a name of at most 255 octets
 pub record Names (message bytes : List ℕ) (labels : List (List ℕ)) : Type 0 where
-  pub name_ : IsFollowed bytes message labels
+  pub name_is : IsFollowed bytes message labels
   pub fits : AreOfName labels

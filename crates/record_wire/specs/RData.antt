@@ -187,8 +187,8 @@ pub record IsAuthority (bytes : List ℕ) (value : RDataValue) : Type 0 where
   pub primary : List ℕ
   pub mailbox : List ℕ
   pub after : List ℕ
-  pub primary_ : IsOnePart primary
-  pub mailbox_ : IsOnePart mailbox
+  pub primary_is : IsOnePart primary
+  pub mailbox_is : IsOnePart mailbox
   pub whole : bytes ≡ primary ++ (mailbox ++ after)
   pub len : length after ≡ 20
   pub is : value ≡ authority (record {

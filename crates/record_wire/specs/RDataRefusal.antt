@@ -69,7 +69,7 @@ RefusesRest _ bytes _ = ⊥
 pub record RefusesFirst (form : Form) (bytes : List ℕ) (why : PartRefusal) : Type 0 where
   pub value : FrontValue
   pub behind : List ℕ
-  pub front_ : IsFront form.front bytes value behind
+  pub front_is : IsFront form.front bytes value behind
   pub none : IsNoPart behind why
 
 -- the first of two names is not followed by another
@@ -79,8 +79,8 @@ pub record RefusesSecond (form : Form) (bytes : List ℕ) (why : PartRefusal) : 
   pub behind : List ℕ
   pub name : List ℕ
   pub after : List ℕ
-  pub front_ : IsFront form.front bytes value behind
-  pub name_ : IsSplit behind name after
+  pub front_is : IsFront form.front bytes value behind
+  pub name_is : IsSplit behind name after
   pub none : IsNoPart after why
 
 -- the names are there, and what follows them is not the rest
@@ -91,9 +91,9 @@ pub record RefusesBehindNames (form : Form) (bytes : List ℕ) (why : DataRefusa
   pub after : List ℕ
   pub second : Option (List ℕ)
   pub last : List ℕ
-  pub front_ : IsFront form.front bytes value behind
-  pub name_ : IsSplit behind name after
-  pub second_ : IsSecond form.has_two after second last
+  pub front_is : IsFront form.front bytes value behind
+  pub name_is : IsSplit behind name after
+  pub second_is : IsSecond form.has_two after second last
   pub refused : RefusesRest form.«rest» last why
 
 abbrev pub RefusesFields : Form → List ℕ → DataRefusal → Type 0

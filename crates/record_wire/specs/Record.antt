@@ -34,12 +34,12 @@ question_of question = record { name = question.name.now; kind = question.type_;
 -- The grammar: these bytes are a name of one part, a type and a class, followed by a rest.
 pub record IsQuestion (bytes : List ℕ) (question : QuestionValue) (rest : List ℕ) : Type 0 where
   pub after : List ℕ
-  pub name_ : IsOnePart question.name
+  pub name_is : IsOnePart question.name
   pub whole : bytes ≡ question.name ++ after
   pub reaches : Reaches class_field after
-  pub kind_ : question.kind ≡ type_of (number_of type_field after)
-  pub class_ : question.class ≡ number_of class_field after
-  pub rest_ : rest ≡ drop 4 after
+  pub kind_is : question.kind ≡ type_of (number_of type_field after)
+  pub class_is : question.class ≡ number_of class_field after
+  pub rest_is : rest ≡ drop 4 after
 
 -- ---- records
 
@@ -49,7 +49,7 @@ pub record RecordValue : Type 0 where
   pub kind : RecordType
   pub class : ℕ
   pub ttl : ℕ
-  pub data_ : List ℕ
+  pub «data» : List ℕ
 
 abbrev pub record_of : Record → RecordValue
 record_of r = record {
@@ -57,7 +57,7 @@ record_of r = record {
   kind = r.type_;
   class = r.class;
   ttl = r.ttl;
-  data_ = r.«data».now;
+  «data» = r.«data».now;
 }
 
 -- the number of bytes of data
@@ -67,17 +67,17 @@ data_len after = number_of length_field after
 -- what follows the name of a record
 pub record IsBehindName (after : List ℕ) (r : RecordValue) (rest : List ℕ) : Type 0 where
   pub reaches : Reaches length_field after
-  pub kind_ : r.kind ≡ type_of (number_of type_field after)
-  pub class_ : r.class ≡ number_of class_field after
-  pub ttl_ : r.ttl ≡ number_of ttl_field after
+  pub kind_is : r.kind ≡ type_of (number_of type_field after)
+  pub class_is : r.class ≡ number_of class_field after
+  pub ttl_is : r.ttl ≡ number_of ttl_field after
   pub fits : data_len after ≤ length (drop 10 after)
-  pub data_is : r.data_ ≡ take (data_len after) (drop 10 after)
-  pub rest_ : rest ≡ drop (data_len after) (drop 10 after)
+  pub data_is : r.«data» ≡ take (data_len after) (drop 10 after)
+  pub rest_is : rest ≡ drop (data_len after) (drop 10 after)
 
 -- The grammar: these bytes are a name of one part, the fields after the name of this record, and its data, followed by
 -- a rest.
 pub record IsRecord (bytes : List ℕ) (r : RecordValue) (rest : List ℕ) : Type 0 where
   pub after : List ℕ
-  pub name_ : IsOnePart r.name
+  pub name_is : IsOnePart r.name
   pub whole : bytes ≡ r.name ++ after
   pub behind : IsBehindName after r rest

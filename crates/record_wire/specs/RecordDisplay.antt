@@ -31,7 +31,7 @@ record_display r =
     ∷ codes " type=" ∷ type_display r.kind
     ∷ codes " class=" ∷ class_text r.class
     ∷ codes " ttl=" ∷ decimal r.ttl
-    ∷ codes " len=" ∷ decimal (length r.data_) ∷ [])
+    ∷ codes " len=" ∷ decimal (length r.«data») ∷ [])
 
 -- ---- data
 
@@ -84,7 +84,7 @@ option_names =
 abbrev pub option_display : OptionValue → List ℕ
 option_display option =
     pieces (name_or (codes "option-") (name_in option_names option.code) option.code
-    ∷ codes "=" ∷ flat_map hex_byte option.data_ ∷ [])
+    ∷ codes "=" ∷ flat_map hex_byte option.«data» ∷ [])
 
 abbrev pub option_refusal_display : OptionRefusal → List ℕ
 option_refusal_display refusal.Fields = codes "the code and the length are cut"

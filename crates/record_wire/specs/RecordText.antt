@@ -58,7 +58,7 @@ pub record RecordTextValue : Type 0 where
   pub ttl : ℕ
   pub class : ℕ
   pub kind : RecordType
-  pub data_ : DataTextValue
+  pub «data» : DataTextValue
 
 abbrev pub authority_text_of : AuthorityText → AuthorityTextValue
 authority_text_of soa = record {
@@ -88,19 +88,19 @@ record_text_of r = record {
   ttl = r.ttl;
   class = r.class;
   kind = r.type_;
-  data_ = data_text_of r.«data»;
+  «data» = data_text_of r.«data»;
 }
 
 -- ---- what is read, in a message
 
 pub record IsAuthorityText (message : List ℕ) (soa : rdata.AuthorityValue) (value : AuthorityTextValue) : Type 0 where
-  pub primary_ : Names message soa.primary value.primary
-  pub mailbox_ : Names message soa.mailbox value.mailbox
-  pub serial_ : value.serial ≡ soa.serial
-  pub refresh_ : value.refresh ≡ soa.refresh
-  pub retry_ : value.retry ≡ soa.retry
-  pub expire_ : value.expire ≡ soa.expire
-  pub minimum_ : value.minimum ≡ soa.minimum
+  pub primary_is : Names message soa.primary value.primary
+  pub mailbox_is : Names message soa.mailbox value.mailbox
+  pub serial : value.serial ≡ soa.serial
+  pub refresh : value.refresh ≡ soa.refresh
+  pub retry : value.retry ≡ soa.retry
+  pub expire : value.expire ≡ soa.expire
+  pub minimum : value.minimum ≡ soa.minimum
 
 -- these data, with each name read
 abbrev pub IsDataText : List ℕ → rdata.RDataValue → DataTextValue → Type 0
@@ -121,13 +121,13 @@ IsDataText message (rdata.other bytes) value = value ≡ other bytes
 
 -- this record, taken as one of a class, with its name and those in its data read
 pub record IsRecordText (message : List ℕ) (class : ℕ) (r : RecordValue) (value : RecordTextValue) : Type 0 where
-  pub name_ : Names message r.name value.name
+  pub name_is : Names message r.name value.name
   pub read : rdata.RDataValue
-  pub data_is : IsDataOf r.kind class r.data_ read
-  pub data_text_ : IsDataText message read value.data_
-  pub ttl_ : value.ttl ≡ r.ttl
-  pub class_ : value.class ≡ class
-  pub kind_ : value.kind ≡ r.kind
+  pub data_is : IsDataOf r.kind class r.«data» read
+  pub data_text : IsDataText message read value.«data»
+  pub ttl_is : value.ttl ≡ r.ttl
+  pub class_is : value.class ≡ class
+  pub kind_is : value.kind ≡ r.kind
 
 -- this question, taken as one of a class, with its name read
 abbrev pub IsQuestionText : List ℕ → ℕ → QuestionValue → QuestionText → Type 0
@@ -155,11 +155,11 @@ RefusesNameIn message (rdata.other bytes) why = ⊥
 abbrev pub RefusesText : List ℕ → ℕ → RecordValue → TextRefusal → Type 0
 RefusesText message class r (refusal.Owner why) = RefusesName r.name message why
 RefusesText message class r (refusal.Data why) =
-    HasName r.name message × ((value : rdata.RDataValue) → IsDataOf r.kind class r.data_ value → ⊥)
-    × RefusesLayout (data_layout r.kind class r.data_) r.data_ why
+    HasName r.name message × ((value : rdata.RDataValue) → IsDataOf r.kind class r.«data» value → ⊥)
+    × RefusesLayout (data_layout r.kind class r.«data») r.«data» why
 RefusesText message class r (refusal.DataName why) =
     HasName r.name message
-    × ((value : rdata.RDataValue) × IsDataOf r.kind class r.data_ value × RefusesNameIn message value why)
+    × ((value : rdata.RDataValue) × IsDataOf r.kind class r.«data» value × RefusesNameIn message value why)
 
 -- ---- texts
 
@@ -188,7 +188,7 @@ zone_line r =
     pieces (whole_name r.name ∷ codes " " ∷ decimal r.ttl
     ∷ codes " " ∷ class_text r.class
     ∷ codes " " ∷ type_display r.kind
-    ∷ codes " " ∷ data_text r.data_ ∷ [])
+    ∷ codes " " ∷ data_text r.«data» ∷ [])
 
 -- what an OPT record says
 abbrev pub edns_with : Bool → RecordTextValue → DataTextValue → Option EdnsValue
@@ -196,7 +196,7 @@ edns_with true r (other bytes) = Some (edns_by r.class r.ttl bytes)
 edns_with _ r _ = None
 
 abbrev pub edns_in : RecordTextValue → Option EdnsValue
-edns_in r = edns_with (is_opt r.kind) r r.data_
+edns_in r = edns_with (is_opt r.kind) r r.«data»
 
 -- an OPT record is not a line of a zone file
 abbrev pub opt_or_line : Option EdnsValue → RecordTextValue → List ℕ

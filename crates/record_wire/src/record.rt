@@ -258,7 +258,7 @@ impl fmt::Display for Record<'_> {
     ghost use Rattle.std.specs.Prelude.{Some};
     ghost use Rattle.record_wire.specs.RecordDisplay.{record_display};
 
-    ghost output = { λ record_. Some (record_display (record_of record_)) };
+    ghost output = { λ r. Some (record_display (record_of r)) };
 
     fn fmt<W: fmt::Write>(&self, f: &mut fmt::Formatter<W>) -> fmt::Result {
         let name_len = self.name.len();

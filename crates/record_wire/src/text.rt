@@ -151,7 +151,7 @@ impl fmt::Display for RecordText<'_> {
     ghost use Rattle.std.specs.Prelude.{Some};
     ghost use Rattle.record_wire.specs.RecordText.{record_text};
 
-    ghost output = { λ record_. Some (record_text (record_text_of record_)) };
+    ghost output = { λ r. Some (record_text (record_text_of r)) };
 
     fn fmt<W: fmt::Write>(&self, f: &mut fmt::Formatter<W>) -> fmt::Result {
         if let Some(edns) = self.edns() {

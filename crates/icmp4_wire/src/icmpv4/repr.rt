@@ -283,9 +283,9 @@ impl fmt::Display for Repr<'_> {
 
 // The header that an error quotes, and all that follows it (RFC 792).
 fn read_quote(octets: &[u8]) -> Result<(Ipv4Repr, &[u8])>
-    ensures sound { IfOk result (λ quote_. IsQuote octets.now quote_.0 quote_.1.now) }
+    ensures sound { IfOk result (λ read. IsQuote octets.now read.0 read.1.now) }
     ensures complete { (quoted : Ipv4Repr) (behind : List ℕ) → IsQuote octets.now quoted behind
-        → IsOkAnd result (λ quote_. (quote_.0 ≡ quoted) × (quote_.1.now ≡ behind)) }
+        → IsOkAnd result (λ read. (read.0 ≡ quoted) × (read.1.now ≡ behind)) }
 {
     let packet = Ipv4Packet::new_checked(octets)?;
     let header_len = packet.header_len() as usize;

@@ -9,7 +9,7 @@ ghost use Rattle.wirebase.specs.Format.{Rewrites, SameText};
 ghost use Rattle.wirebase.specs.Ipv6.{IsPacket, payload_field};
 ghost use Rattle.wirebase.specs.declared.ipv6.Ipv6Repr.{Ipv6Repr};
 ghost use Rattle.opt_wire.specs.NdiscOption.{inner, view_octets, redirected_field};
-ghost use Rattle.opt_wire.specs.NdiscOptionRepr.{OptionValue, prefix_, unknown};
+ghost use Rattle.opt_wire.specs.NdiscOptionRepr.{OptionValue, prefix_information, unknown};
 ghost use Rattle.opt_wire.specs.NdiscOptionRepr.{value_of};
 ghost use Rattle.opt_wire.specs.NdiscOptionRepr.{text, text_len, CanEmit};
 ghost use Rattle.opt_wire.specs.NdiscOptionRepr.{BeginsWith, IsValidPrefix, format, Emits, display};
@@ -324,7 +324,7 @@ impl fmt::Display for Repr<'_> {
 
 // Prints a prefix.
 fn fmt_prefix<W: fmt::Write>(f: &mut fmt::Formatter<W>, info: &PrefixInformation) -> fmt::Result
-    ensures { WritesOnOk W.write_str_gives f.old result (display (prefix_ info.now)) f.new }
+    ensures { WritesOnOk W.write_str_gives f.old result (display (prefix_information info.now)) f.new }
 {
     let PrefixInformation {
         prefix_len,

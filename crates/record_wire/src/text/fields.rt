@@ -108,7 +108,7 @@ impl fmt::Display for Signed {
 
 /// A space, and the signature in base64; or each type after a space.
 impl fmt::Display for Rest<'_> {
-    ghost output = { λ rest_. Some (rest_text (rest_of rest_)) };
+    ghost output = { λ behind. Some (rest_text (rest_of behind)) };
 
     fn fmt<W: fmt::Write>(&self, f: &mut fmt::Formatter<W>) -> fmt::Result {
         match self {

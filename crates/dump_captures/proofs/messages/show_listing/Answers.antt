@@ -8,11 +8,11 @@ use Rattle.dump_captures.proofs.messages.show_listing.Goals as goal
 pub returns : goal.returns
 returns g c =
     let h = headers_of c.args.headers.now in
-    gained_behind _ _ _ _ (OptionsPrint h.hop_by_hop) (ContentPrints h.kind h.content_) (ListingPrints h)
+    gained_behind _ _ _ _ (OptionsPrint h.hop_by_hop) (ContentPrints h.kind h.content) (ListingPrints h)
     (λ first text why options content. record {
       options_text = first;
       content_text = text;
       options = options;
       content = content;
-      text_ = refl;
+      text_is = refl;
     }) c.in_ok-show_options.ensures c.show_content.ensures

@@ -16,7 +16,7 @@ loop-option-init c =
 pub loop-option-preserved : goal.loop-option-preserved
 loop-option-preserved c =
     let rest : Option (List ℕ) = last_of (said 3 first_in) c.next.new.self in
-    ap (λ (said_ : Option (List ℕ)). option_or rest said_) c.router_in-router.ensures
+    ap (λ (told : Option (List ℕ)). option_or rest told) c.router_in-router.ensures
     ∙ or-assoc rest (said 3 first_in (value_of_option c.in-Some.option)) (option_map octets_of c.loop-option.router)
     ∙ ap (λ (os : List OptionValue). option_or (last_of (said 3 first_in) os)
     (option_map octets_of c.loop-option.router))

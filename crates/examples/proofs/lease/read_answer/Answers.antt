@@ -15,14 +15,14 @@ returns-then-not-is_for-clause-all c = λ told a.
     let one = c.in-Ok.ensures.complete a.says (rw c.new_unchecked-view.ensures a.packet) in
     let is = c.is_for.ensures.1 (
       ap (λ v. v.transaction_id) one ∙ a.exchange,
-      ap (λ v. v.client_hardware_address) one ∙ a.client_,
+      ap (λ v. v.client_hardware_address) one ∙ a.client_is,
     ) in
     cc
 
 pub returns-in_default-clause-all : goal.returns-in_default-clause-all
 returns-in_default-clause-all c = λ told a.
     let one = c.in-Ok.ensures.complete a.says (rw c.new_unchecked-view.ensures a.packet) in
-    let server = ap (λ v. v.server_identifier) one ∙ a.server_ in
+    let server = ap (λ v. v.server_identifier) one ∙ a.server_is in
     cc
 
 pub returns-clause-told : goal.returns-clause-told
@@ -37,11 +37,11 @@ returns-clause-told c =
       says = v;
       packet = packet;
       exchange = is.0;
-      client_ = is.1;
+      client_is = is.1;
       server = c.in-Some.server;
-      server_ = c.in-Some.is;
+      server_is = c.in-Some.is;
       router = c.first_router.result;
-      router_ = c.first_router.ensures
+      router_is = c.first_router.ensures
           ∙ ap (λ (os : List OptionValue). last_of (said 3 first_in) os) (sym (unique packet.options packet.listed));
       tells = subst (λ l. Tells c.in-Ok.repr.message_type l (answer_of told)) c.given.ensures tells;
     }) c.told_by.result c.told_by.ensures.sound
@@ -49,14 +49,14 @@ returns-clause-told c =
 pub returns-clause-all : goal.returns-clause-all
 returns-clause-all c = λ told a.
     let one = c.in-Ok.ensures.complete a.says (rw c.new_unchecked-view.ensures a.packet) in
-    let from = ap (λ v. v.server_identifier) one ∙ a.server_ in
+    let from = ap (λ v. v.server_identifier) one ∙ a.server_is in
     let server : c.in-Some.server ≡ a.server = cc in
     let unique = subst (λ view. (others : List OptionValue) → Options (options_in view.now) others
     → others ≡ c.options.result) c.new_unchecked-view.ensures c.options.ensures.unique in
     let router = same-router c.first_router.result a.router
     (c.first_router.ensures
     ∙ ap (λ (os : List OptionValue). last_of (said 3 first_in) os) (sym (unique a.packet.options a.packet.listed))
-    ∙ sym a.router_) in
+    ∙ sym a.router_is) in
     let gives = c.given.ensures ∙ ap (λ v. lease_of v c.in-Some.server c.first_router.result) one
     ∙ ap (λ s. lease_of a.says s c.first_router.result) server ∙ ap (λ r. lease_of a.says a.server r) router in
     c.told_by.ensures.complete told

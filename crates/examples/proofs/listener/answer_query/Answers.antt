@@ -49,9 +49,9 @@ pub returns-clause-answers : goal.returns-clause-answers
 returns-clause-answers c = λ due is room.
     let query = c.args.query.now in
     let some = eqb-false (length query.sources.now) 0 (sym c.is_empty-2.ensures ∙ c.if-is_empty-2.false) in
-    let due_ = sources_due (values_of c.args.listening.now) query.group query.sources.now due
+    let owed = sources_due (values_of c.args.listening.now) query.group query.sources.now due
     (λ all. let t = c.is_unspecified.ensures.1 all in let f = c.if-is_unspecified.false in cc)
     (λ none. some (ap length none)) is in
-    let len = ap text_len due_.is in
-    c.report_sources.ensures.room due_.few
+    let len = ap text_len owed.is in
+    c.report_sources.ensures.room owed.few
     (omega (arith, len, length_record query.group query.sources.now, room))

@@ -12,15 +12,15 @@ loop-item-init c =
       back = λ same. record {
         left = same.labels;
         right = same.others;
-        left_ = (left same.labels).0 same.left_;
-        right_ = (right same.others).0 same.right_;
+        left_is = (left same.labels).0 same.left_is;
+        right_is = (right same.others).0 same.right_is;
         same = same.same;
       };
       forth = λ same. record {
         labels = same.left;
         others = same.right;
-        left_ = (left same.left).1 same.left_;
-        right_ = (right same.right).1 same.right_;
+        left_is = (left same.left).1 same.left_is;
+        right_is = (right same.right).1 same.right_is;
         same = same.same;
       };
     }

@@ -15,15 +15,15 @@ returns c =
       source = c.src_addr.result;
       destination = upper.dst_addr;
       header = upper.payload.now;
-      passes_ =
+      passes =
           subst (λ p. Passes (next_header_in octets) c.args.behind.now (bytes_of dst_addr_field octets) p
           upper.payload.now (octets_of upper.dst_addr)) c.requires.fragment c.requires.passes;
       whole = first_of (search rules, omega arith);
       no_atomic = c.requires.no_atomic;
-      source_ = first_of (search rules, grind (arith, common_steps));
-      addresses_ = refl;
-      protocol_ = first_of (search rules, grind (arith, common_steps));
-      ident_ = first_of (search rules, grind (arith, common_steps));
-      frag_offset_ = first_of (search rules, grind (arith, common_steps));
-      more_frags_ = first_of (search rules, grind (arith, common_steps));
+      source_is = first_of (search rules, grind (arith, common_steps));
+      addresses = refl;
+      protocol = first_of (search rules, grind (arith, common_steps));
+      ident = first_of (search rules, grind (arith, common_steps));
+      frag_offset = first_of (search rules, grind (arith, common_steps));
+      more_frags = first_of (search rules, grind (arith, common_steps));
     }

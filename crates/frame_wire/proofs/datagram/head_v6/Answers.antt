@@ -7,11 +7,11 @@ pub returns : goal.returns
 returns c = record {
   source = c.src_addr.result;
   destination = c.dst_addr.result;
-  source_ = first_of (search rules, grind (arith, common_steps));
-  destination_ = first_of (search rules, grind (arith, common_steps));
-  addresses_ = refl;
-  protocol_ = first_of (search rules, grind (arith, common_steps));
-  ident_ = refl;
-  frag_offset_ = refl;
-  more_frags_ = refl;
+  source_is = first_of (search rules, grind (arith, common_steps));
+  destination_is = first_of (search rules, grind (arith, common_steps));
+  addresses = refl;
+  protocol = first_of (search rules, grind (arith, common_steps));
+  ident = refl;
+  frag_offset = refl;
+  more_frags = refl;
 }

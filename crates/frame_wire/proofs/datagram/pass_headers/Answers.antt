@@ -11,7 +11,7 @@ pub returns-in_default-clause-torn : goal.returns-in_default-clause-torn
 returns-in_default-clause-torn c = record {
   rest = _;
   final = _;
-  passes_ = c.headers.invariant.passes _ _ _ (here refl refl refl);
+  passes = c.headers.invariant.passes _ _ _ (here refl refl refl);
   torn = inl (c.in_default.ensures.torn refl);
 }
 

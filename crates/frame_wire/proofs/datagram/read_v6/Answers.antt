@@ -19,11 +19,11 @@ returns-clause-sound c =
     record {
       source = c.src_addr.result;
       destination = c.in-Ok.upper.dst_addr;
-      source_ = first_of (search rules, grind (arith, common_steps));
-      addresses_ = refl;
-      hop_limit_ = first_of (search rules, grind (arith, common_steps));
-      hop_by_hop_ = options_at _ _ _ _ _ protocol refl c.options_of.ensures;
-      passes_ = passes_at _ _ _ _ _ _ _ _ _ protocol refl destination c.in-Ok.ensures.passes;
+      source_is = first_of (search rules, grind (arith, common_steps));
+      addresses = refl;
+      hop_limit = first_of (search rules, grind (arith, common_steps));
+      hop_by_hop = options_at _ _ _ _ _ protocol refl c.options_of.ensures;
+      passes = passes_at _ _ _ _ _ _ _ _ _ protocol refl destination c.in-Ok.ensures.passes;
       passed = λ is. c.in-Ok.ensures.passed (inl is);
       unfragmented = told_not _ c.is_fragment.ensures c.if-is_fragment.false;
     }

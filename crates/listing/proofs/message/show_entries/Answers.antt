@@ -12,7 +12,7 @@ returns-in-Some-Err g c =
     let broken = rw c.in-Some-Err.field-0-is at c.in-Some-Err.ensures.steps in
     refused_next c.args.margin.now c.args.is_multicast octets c.loop-entry.entries c.next.new.self (all_of octets) _ _
     c.why_no_entry.result c.loop-entry.invariant.so_far broken c.why_no_entry.ensures.told
-    (c.why_no_entry.ensures.exact broken.refused_)
+    (c.why_no_entry.ensures.exact broken.refused)
 
 pub returns-in-None : goal.returns-in-None
 returns-in-None g c =
@@ -37,7 +37,7 @@ loop-entry-preserved g c =
     let octets = view_octets c.args.packet.now in
     let next = rw c.in-Some-Ok.field-0-is at c.in-Some-Ok.ensures.steps in
     record {
-      unbroken = next.refused_;
+      unbroken = next.refused;
       so_far =
           one_listed c.args.margin.now c.args.is_multicast octets c.loop-entry.entries c.next.new.self (all_of octets)
           (entry_of c.in-Some-Ok.entry) _ _ _ c.in_ok-unread.unread c.loop-entry.invariant.so_far next

@@ -19,7 +19,7 @@ pub returns-in_default-clause-complete : goal.returns-in_default-clause-complete
 returns-in_default-clause-complete c = λ labels names.
     let fits = room_for_labels c.args.bytes.now c.args.message.now c.loop-octets.octets.items c.loop-octets.left.now
     c.loop-octets.reach.now c.loop-octets.pointers _ c.loop-octets.invariant.read c.read_labels-len.ensures.labels
-    labels names.name_.is names.fits in
+    labels names.name_is.is names.fits in
     let ok = c.in_default.ensures.room.1 fits in
     absurd (cc ok)
 
@@ -44,7 +44,7 @@ returns-in-End-clause-complete c = λ labels names.
     c.loop-octets.reach.now c.loop-octets.pointers _ c.loop-octets.invariant c.read_labels-len.ensures.labels _
     (c.in-Ok.ensures.room.0 refl) c.in-Ok.ensures.pushes in
     let same = all_same _ _ _ _ _ _ next.read (ap shown (sym c.in-End.is) ∙ c.read_labels-len.ensures.behind) labels
-    names.name_.is in
+    names.name_is.is in
     let pushed : c.push.new.self.items ≡ c.push_labels.new.octets.items ++ 0 ∷ [] = search rules in
     (refl, pushed ∙ ap (λ (o : List ℕ). o ++ 0 ∷ []) same)
 
@@ -55,7 +55,7 @@ returns-in_default-follow-clause-complete c = λ labels names.
     (c.in-Ok.ensures.room.0 refl) c.in-Ok.ensures.pushes in
     absurd (no_name_far _ _ _ _ _ _ c.in-Pointer.target next.read
     (ap shown (sym c.in-Pointer.is) ∙ c.read_labels-len.ensures.behind) (c.in_default-follow.ensures.none refl)
-    labels names.name_.is)
+    labels names.name_is.is)
 
 pub returns-in_default-follow-clause-told : goal.returns-in_default-follow-clause-told
 returns-in_default-follow-clause-told c =
@@ -89,7 +89,7 @@ loop-octets-preserved c =
     let next = at_labels c.args.bytes.now c.args.message.now c.loop-octets.octets.items c.loop-octets.left.now
     c.loop-octets.reach.now c.loop-octets.pointers _ c.loop-octets.invariant c.read_labels-len.ensures.labels _
     (c.in-Ok.ensures.room.0 refl) c.in-Ok.ensures.pushes in
-    rw (leads.left_, leads.front_) (
+    rw (leads.left_is, leads.front_is) (
     at_pointer _ _ _ _ c.loop-octets.reach.now c.loop-octets.pointers c.in-Pointer.target next
     (ap shown (sym c.in-Pointer.is) ∙ c.read_labels-len.ensures.behind) leads.inside
     (omega (arith, c.loop-octets.invariant.few, c.if-pointers-eq-MAX_POINTERS.false))
@@ -101,7 +101,7 @@ returns-in-Label-clause-complete c = λ labels names.
     c.read_labels-len.ensures.labels
     (ap shown (sym c.in-Label.is) ∙ c.read_labels-len.ensures.behind)
     (subst (λ front. EndsTooFar c.read_labels-len.result.0 front) c.in-Label.is c.read_labels-len.ensures.far) labels
-    names.name_.is names.fits)
+    names.name_is.is names.fits)
 
 pub returns-in-Label-clause-told : goal.returns-in-Label-clause-told
 returns-in-Label-clause-told c =
@@ -126,7 +126,7 @@ returns-in-Torn-clause-complete c = λ labels names.
     c.loop-octets.reach.now c.loop-octets.pointers _ c.loop-octets.invariant c.read_labels-len.ensures.labels _
     (c.in-Ok.ensures.room.0 refl) c.in-Ok.ensures.pushes in
     absurd (no_name_torn _ _ _ _ _ _ next.read (ap shown (sym c.in-Torn.is) ∙ c.read_labels-len.ensures.behind) labels
-    names.name_.is)
+    names.name_is.is)
 
 pub returns-in-Torn-clause-told : goal.returns-in-Torn-clause-told
 returns-in-Torn-clause-told c =

@@ -7,10 +7,10 @@ pub returns-clause-order : goal.returns-clause-order
 returns-clause-order c =
     let k = c.args.packet in
     record {
-      number_ = c.saturating_add-self.ensures;
-      count_ = refl;
-      nanoseconds_ = c.requires.nanoseconds_;
-      captured_len_ = omega (
+      number = c.saturating_add-self.ensures;
+      count_is = refl;
+      nanoseconds = c.requires.nanoseconds;
+      captured_len = omega (
         arith,
         length-part c.args.self.now.octets.items k.start (k.start + k.captured_len) (omega arith) c.requires.within,
       );

@@ -9,7 +9,7 @@ use Rattle.capture.proofs.time.Time.moved.Goals as goal
 stays : (t : Time) → t.seconds < 18446744073709551616 → t.nanoseconds < 1000000000
     → IsTime t (moved (pos 0) (t.seconds * 1000000000 + t.nanoseconds)) t.digits
 unfolding moved
-stays t seconds part = record { sum_ = omega (arith, seconds, part); part_ = part; digits_ = refl }
+stays t seconds part = record { sum = omega (arith, seconds, part); part = part; digits_are = refl }
 
 pub returns-then-seconds-eq0 : goal.returns-then-seconds-eq0
 returns-then-seconds-eq0 c =

@@ -13,7 +13,7 @@ loop-rest-preserved-in-Label c =
     let rest = c.in-Label.rest.now in
     let i = c.loop-rest.invariant in
     record {
-      ends_ = λ route. i.ends_ (ends_label left bytes rest reach c.in-Label.ensures route);
+      ends = λ route. i.ends (ends_label left bytes rest reach c.in-Label.ensures route);
       breaks = λ reason route. i.breaks reason (breaks_label reason left bytes rest reach c.in-Label.ensures route);
     }
 
@@ -23,8 +23,8 @@ loop-rest-preserved c =
     let reach = c.loop-rest.reach.now in
     let i = c.loop-rest.invariant in
     let leads = c.in-Some.ensures.some in
-    rw (leads.left_, leads.front_) (record {
-      ends_ = λ route. i.ends_
+    rw (leads.left_is, leads.front_is) (record {
+      ends = λ route. i.ends
           (route_pointer Ends left reach c.in-Pointer.place c.in-Pointer.ensures leads.inside route);
       breaks = λ reason route. i.breaks reason
           (route_pointer (BreaksFor reason) left reach c.in-Pointer.place c.in-Pointer.ensures leads.inside route);
@@ -50,7 +50,7 @@ returns-in_default-clause-exact c =
 pub returns-in-End-clause-exact : goal.returns-in-End-clause-exact
 returns-in-End-clause-exact c = (
   λ e. route_names c.args.text.now c.args.message.now
-      (c.loop-rest.invariant.ends_ (ends_here c.loop-rest.left.now c.loop-rest.reach.now c.in-End.ensures)),
+      (c.loop-rest.invariant.ends (ends_here c.loop-rest.left.now c.loop-rest.reach.now c.in-End.ensures)),
   λ named. refl,
 )
 

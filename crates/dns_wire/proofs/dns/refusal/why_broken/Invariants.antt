@@ -6,7 +6,7 @@ use Rattle.dns_wire.proofs.dns.refusal.why_broken.Given as goal
 
 abbrev pub invariant-loop-rest : goal.invariant-loop-rest
 invariant-loop-rest l = record {
-  ends_ : Some_route Ends l.left l.reach → Some_route Ends l.text l.message;
+  ends : Some_route Ends l.left l.reach → Some_route Ends l.text l.message;
   breaks : (reason : NameRefusal) → Some_route (BreaksFor reason) l.left l.reach
       → Some_route (BreaksFor reason) l.text l.message;
 }

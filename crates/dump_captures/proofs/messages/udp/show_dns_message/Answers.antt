@@ -18,10 +18,10 @@ returns-in-Some g c =
     (IsMessageRefusal refusal) (DnsPrints is_multicast octets)
     (λ first text why prints is. record {
       listed = first;
-      unread_ = Some unread;
+      unread = Some unread;
       prints = prints;
-      why_ = is.1;
-      text_ = rw is.0 refl;
+      why_is = is.1;
+      text_is = rw is.0 refl;
     })
     (rw c.in-Some.is at c.in_ok-unread.ensures)
     (gained_one _ _ c.refuse_message.result (IsMessageRefusal refusal) (refusal_text refusal)
@@ -33,10 +33,10 @@ returns-in-None g c =
       printed.0,
       record {
         listed = printed.0;
-        unread_ = None;
+        unread = None;
         prints = printed.1;
-        why_ = refl;
-        text_ = sym (append-nil printed.0);
+        why_is = refl;
+        text_is = sym (append-nil printed.0);
       },
       printed.2,
     )

@@ -15,4 +15,4 @@ returns-clause-rewrites c =
     all_rewrites (format c.args.checksum_caps.now c.args.addresses.now)
     (udp_format c.args.checksum_caps.now c.args.addresses.now)
     (λ (r : UdpRepr). value_of r (bytes_of (payload_field bytes) bytes)) bytes c.read.result c.are_bytes.ensures
-    (if_ok _ _ c.read.result (λ r is. record { datagram = is; payload_ = refl }) c.read.ensures.sound)
+    (if_ok _ _ c.read.result (λ r is. record { datagram = is; payload = refl }) c.read.ensures.sound)

@@ -30,7 +30,7 @@ returns-clause-sound c =
       destination = c.dst_addr.ensures ∙ ap (bytes_of dst_addr_field) view;
       protocol = c.next_header.ensures ∙ ap (λ (l : List ℕ). protocol_of (byte_of protocol_field l)) view;
       hops = c.hop_limit.ensures ∙ ap (byte_of time_to_live_field) view;
-      data_ = take_rest octets c.header_len-header_len.result ∙ ap (λ (n : ℕ). drop n octets) len;
+      data_is = take_rest octets c.header_len-header_len.result ∙ ap (λ (n : ℕ). drop n octets) len;
       payload = refl;
     }
 

@@ -10,11 +10,11 @@ returns c =
     message_said c.requires.whole refl s (
       record {
         kind = kind_read (view_octets c.args.packet.now) message.RouterAdvert c.requires.kind;
-        hops_ = c.current_hop_limit.ensures;
-        flags_ = c.router_flags.ensures;
-        lifetime_ = c.router_lifetime.ensures;
-        reachable_ = c.reachable_time.ensures;
-        retrans_ = c.retrans_time.ensures;
+        hops_are = c.current_hop_limit.ensures;
+        flags_are = c.router_flags.ensures;
+        lifetime_is = c.router_lifetime.ensures;
+        reachable_is = c.reachable_time.ensures;
+        retrans_is = c.retrans_time.ensures;
       },
       said_source s,
       said_mtu s,

@@ -12,6 +12,6 @@ returns g c =
     let four = behind _ _ _ (behind _ _ _ two c.in_ok-word-3.ensures) c.in_ok-word-4.ensures in
     let numbers = behind _ _ _ four c.in_ok-word-5.ensures in (
       _,
-      (_, record { primary = _; mailbox = _; primary_ = primary; mailbox_ = mailbox; is = refl }, refl),
+      (_, record { primary = _; mailbox = _; primary_is = primary; mailbox_is = mailbox; is = refl }, refl),
       numbers,
     )

@@ -21,8 +21,8 @@ returns-clause-fields c =
       protocol = search rules;
       source = search rules;
       destination = search rules;
-      options_ = ap (λ (k : ℕ). take (k - 20) (drop 20 octets)) counted;
-      payload_ =
+      options = ap (λ (k : ℕ). take (k - 20) (drop 20 octets)) counted;
+      payload =
           take_all (length octets - n) (drop n octets) (omega (arith, length-drop n octets))
           ∙ ap (λ (k : ℕ). drop k octets) counted;
     }

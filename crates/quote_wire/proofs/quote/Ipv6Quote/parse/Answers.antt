@@ -6,11 +6,11 @@ pub returns-clause-fields : goal.returns-clause-fields
 returns-clause-fields c = record {
   class = search rules;
   flow = search rules;
-  length_ = search rules;
+  length_is = search rules;
   protocol = search rules;
   hops = search rules;
   source = search rules;
   destination = search rules;
-  payload_ = let octets = c.args.octets.now in
+  payload = let octets = c.args.octets.now in
       take_all (length octets - 40) (drop 40 octets) (omega (arith, length-drop 40 octets));
 }

@@ -9,14 +9,14 @@ use Rattle.record_wire.proofs.name.Name.read_or_refusal.Goals as goal
 pub invariant_of-result : goal.invariant_of-result
 invariant_of-result c =
     let named = c.in-Ok.ensures.sound in
-    record { whole = wire_in c.put_name.new.octets.items named.labels named.names_.fits.each named.written_ }
+    record { whole = wire_in c.put_name.new.octets.items named.labels named.names.fits.each named.written }
 
 pub returns-in-Ok-clause-sound : goal.returns-in-Ok-clause-sound
 returns-in-Ok-clause-sound c =
     let named = c.in-Ok.ensures.sound in
-    let same = in_wire c.put_name.new.octets.items named.labels named.names_.fits.each named.written_ in
+    let same = in_wire c.put_name.new.octets.items named.labels named.names.fits.each named.written in
     subst (λ labels. Names (view_octets c.args.packet.now) c.args.bytes.now labels) (sym same)
-    (subst (λ m. Names m c.args.bytes.now named.labels) c.octets_of.ensures named.names_)
+    (subst (λ m. Names m c.args.bytes.now named.labels) c.octets_of.ensures named.names)
 
 pub returns-in-Ok-clause-complete : goal.returns-in-Ok-clause-complete
 returns-in-Ok-clause-complete c = λ labels names.

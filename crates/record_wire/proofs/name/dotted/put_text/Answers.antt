@@ -43,19 +43,19 @@ loop-label-preserved c =
     let leads = c.in-Some-follow.ensures.some in
     pointer_put c.args.bytes.now c.args.message.now c.loop-label.left.now c.loop-label.reach.now c.loop-label.room
     c.loop-label.at c.loop-label.dots c.loop-label.pointers c.in-Pointer.target c.in-Some-follow.next.now
-    c.in-Some-follow.open.now c.loop-label.invariant c.in-Pointer.ensures leads.inside leads.left_ leads.front_
+    c.in-Some-follow.open.now c.loop-label.invariant c.in-Pointer.ensures leads.inside leads.left_is leads.front_is
     (omega (arith, c.loop-label.invariant.follows, c.if-pointers-eq-MAX_POINTERS.false))
 
 pub returns-then-at-eq0-clause-some : goal.returns-then-at-eq0-clause-some
 returns-then-at-eq0-clause-some c =
     let is = is_root _ _ _ _ _ _ _ _ c.loop-label.invariant c.in-End.ensures _ c.if-at-eq0.true
-    (take_more_set c.loop-label.room 0 46 (omega (arith, c.loop-label.invariant.whole_))) in
+    (take_more_set c.loop-label.room 0 46 (omega (arith, c.loop-label.invariant.whole))) in
     (λ e. (is.0, is.1), λ are. refl)
 
 pub returns-then-at-eq0-clause-text : goal.returns-then-at-eq0-clause-text
 returns-then-at-eq0-clause-text c =
     is_root _ _ _ _ _ _ _ _ c.loop-label.invariant c.in-End.ensures _ c.if-at-eq0.true
-    (take_more_set c.loop-label.room 0 46 (omega (arith, c.loop-label.invariant.whole_)))
+    (take_more_set c.loop-label.room 0 46 (omega (arith, c.loop-label.invariant.whole)))
 
 pub returns-then-count_usual-dots-clause-some : goal.returns-then-count_usual-dots-clause-some
 returns-then-count_usual-dots-clause-some c =

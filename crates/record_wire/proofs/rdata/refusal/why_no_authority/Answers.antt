@@ -12,6 +12,6 @@ returns c =
       first,
       second,
       λ len.
-          let data_ = some_authority c.args.octets.now _ _ _ _ first second len in
-          c.requires data_.0 data_.1,
+          let authority = some_authority c.args.octets.now _ _ _ _ first second len in
+          c.requires authority.0 authority.1,
     )

@@ -14,8 +14,8 @@ returns-in_default-split_second c = record {
   behind = c.in-Ok.behind.now;
   name = c.in-Ok-split_name.field-0-0.now;
   after = c.in-Ok-split_name.rest.now;
-  front_ = c.in-Ok.ensures.sound;
-  name_ = c.in-Ok-split_name.ensures.sound;
+  front_is = c.in-Ok.ensures.sound;
+  name_is = c.in-Ok-split_name.ensures.sound;
   none = c.why_no_part-in_default-split_second.ensures;
 }
 
@@ -27,10 +27,10 @@ returns-in-Bits c =
       behind_front = c.in-Ok.behind.now;
       behind_first = c.in-Ok-split_name.rest.now;
       behind_second = last;
-      front_ = c.in-Ok.ensures.sound;
-      first_ = c.in-Ok-split_name.ensures.sound;
-      second_ = c.in-Ok-split_second.ensures.sound;
-      rest_ = is;
+      front_is = c.in-Ok.ensures.sound;
+      first = c.in-Ok-split_name.ensures.sound;
+      second_is = c.in-Ok-split_second.ensures.sound;
+      rest_is = is;
     }) in
     record {
       value = front_of c.in-Ok.field-0-0;
@@ -39,9 +39,9 @@ returns-in-Bits c =
       after = c.in-Ok-split_name.rest.now;
       second = name_of c.in-Ok-split_second.field-0.0;
       last = last;
-      front_ = c.in-Ok.ensures.sound;
-      name_ = c.in-Ok-split_name.ensures.sound;
-      second_ = c.in-Ok-split_second.ensures.sound;
+      front_is = c.in-Ok.ensures.sound;
+      name_is = c.in-Ok-split_name.ensures.sound;
+      second_is = c.in-Ok-split_second.ensures.sound;
       refused = refused_types c.args.form.«rest» last c.in-Bits.is none;
     }
 
@@ -53,10 +53,10 @@ returns-in-Nothing c =
       behind_front = c.in-Ok.behind.now;
       behind_first = c.in-Ok-split_name.rest.now;
       behind_second = last;
-      front_ = c.in-Ok.ensures.sound;
-      first_ = c.in-Ok-split_name.ensures.sound;
-      second_ = c.in-Ok-split_second.ensures.sound;
-      rest_ = is;
+      front_is = c.in-Ok.ensures.sound;
+      first = c.in-Ok-split_name.ensures.sound;
+      second_is = c.in-Ok-split_second.ensures.sound;
+      rest_is = is;
     }) in
     record {
       value = front_of c.in-Ok.field-0-0;
@@ -65,8 +65,8 @@ returns-in-Nothing c =
       after = c.in-Ok-split_name.rest.now;
       second = name_of c.in-Ok-split_second.field-0.0;
       last = last;
-      front_ = c.in-Ok.ensures.sound;
-      name_ = c.in-Ok-split_name.ensures.sound;
-      second_ = c.in-Ok-split_second.ensures.sound;
+      front_is = c.in-Ok.ensures.sound;
+      name_is = c.in-Ok-split_name.ensures.sound;
+      second_is = c.in-Ok-split_second.ensures.sound;
       refused = refused_bytes c.args.form.«rest» last c.in-Nothing.is none;
     }

@@ -18,12 +18,12 @@ returns-clause-sound c =
     let after = c.in_ok-name.after.now in
     record {
       after = after;
-      name_ = c.in_ok-name.ensures.sound.name_;
+      name_is = c.in_ok-name.ensures.sound.name_is;
       whole = c.in_ok-name.ensures.sound.whole;
       reaches = omega arith;
-      kind_ = c.from.ensures.value ∙ ap type_of c.u16_at.ensures;
-      class_ = c.u16_at-2.ensures;
-      rest_ = take_rest after 4;
+      kind_is = c.from.ensures.value ∙ ap type_of c.u16_at.ensures;
+      class_is = c.u16_at-2.ensures;
+      rest_is = take_rest after 4;
     }
 
 pub returns-clause-complete : goal.returns-clause-complete

@@ -11,12 +11,12 @@ returns-clause-sound c =
     let len = sym c.u16_at-len.ensures in
     record {
       reaches = omega arith;
-      kind_ = c.from.ensures.value ∙ ap type_of c.u16_at.ensures;
-      class_ = c.u16_at-2.ensures;
-      ttl_ = c.u32_at.ensures;
+      kind_is = c.from.ensures.value ∙ ap type_of c.u16_at.ensures;
+      class_is = c.u16_at-2.ensures;
+      ttl_is = c.u32_at.ensures;
       fits = omega (arith, c.if-behind-len.false, ap length (take_rest after 10), len);
       data_is = sym (data_bytes after _ _ len);
-      rest_ = rest_bytes after _ _ len;
+      rest_is = rest_bytes after _ _ len;
     }
 
 pub returns-clause-complete : goal.returns-clause-complete

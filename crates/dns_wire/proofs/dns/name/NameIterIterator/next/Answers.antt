@@ -27,7 +27,7 @@ loop-label-preserved c =
     let two = Points-length it.left.now target (Points-front it.left.now target (sym c.in-Pointer.ensures)) in
     let same = ahead_pointer it.steps it.left.now it.reach.now target c.args.self.now.ahead c.in-Pointer.ensures
     leads.inside c.loop-label.invariant.same in
-    rw (leads.left_, leads.front_) (record {
+    rw (leads.left_is, leads.front_is) (record {
       same = same;
       room = omega (arith, two, parts_length target it.reach.now leads.inside, c.loop-label.invariant.room);
     })

@@ -18,12 +18,12 @@ returns-clause-sound c =
     let after = c.in_ok-name.after.now in
     record {
       after = after;
-      name_ = c.in_ok-name.ensures.sound.name_;
+      name_is = c.in_ok-name.ensures.sound.name_is;
       whole = c.in_ok-name.ensures.sound.whole;
       reaches = omega arith;
-      kind_ = c.from-type_.ensures.value ∙ ap type_of c.u16_at.ensures;
+      kind_is = c.from-type_.ensures.value ∙ ap type_of c.u16_at.ensures;
       class = cc;
-      rest_ = take_rest after 4;
+      rest_is = take_rest after 4;
     }
 
 pub returns-clause-complete : goal.returns-clause-complete

@@ -26,7 +26,7 @@ returns c =
     let some : 4 ≤ length bytes =
     omega (arith, length-over c.args.octets.now (text v), room_some v c.args.octets.now c.requires) in
     record {
-      text_ = left;
+      written = left;
       good = λ computed.
           let sum = message_sum source destination (length bytes) in
           let long = length-sealed_where checksum_field bytes sum refl some capabilities.icmpv6 in

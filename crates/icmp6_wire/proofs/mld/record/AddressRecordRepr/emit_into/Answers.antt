@@ -9,7 +9,7 @@ pub returns : goal.returns
 returns c =
     let v = value_of c.args.self.now in
     record {
-      text_ = c.write.ensures;
+      written = c.write.ensures;
       exact = λ long. c.write.ensures ∙ over-exact c.args.octets.now (text v) (long ∙ sym (length-text v));
       round_trips = round_trips format record_format v;
     }

@@ -14,7 +14,7 @@ returns c =
     λ long. c.write.ensures ∙ over-exact c.args.octets.now (text v) (long ∙ sym (length-text v)) in
     record {
       emits = record {
-        text_ = c.write.ensures;
+        written = c.write.ensures;
         exact = exact;
         reads_back = λ long canonical. rw (exact long) (message_read v canonical);
         round_trips = round_trips format mld_format v;

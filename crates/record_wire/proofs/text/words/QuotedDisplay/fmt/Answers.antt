@@ -9,6 +9,6 @@ unfolding string_text
 returns-clause-writes g c = λ plain ok.
     let quoted : IsOk c.write_str.result = search rules in
     let written : IsOk c.fmt_characters.result = search rules in
-    let open_ = c.write_str.ensures.writes plain quoted in
-    let both = put_two _ _ _ _ _ _ _ open_ (c.fmt_characters.ensures open_.plain written) refl in
+    let opening = c.write_str.ensures.writes plain quoted in
+    let both = put_two _ _ _ _ _ _ _ opening (c.fmt_characters.ensures opening.plain written) refl in
     put_two _ _ _ _ _ _ _ both (c.write_str-2.ensures.writes both.plain ok) refl
