@@ -69,7 +69,7 @@ pub same_at_end : (old new other after : Walk) (result answer : Option (Result (
     → GiveSameName old.ahead other.ahead → answer_of answer ≡ ending
 same_at_end old new other after result answer gives also e same =
     both_at_end old new other after result answer same.labels same.others gives also e same.left_is
-        same.right_is same.same
+    same.right_is same.same
 
 pub none_at_both : (old new other after : Walk) (result answer : Option (Result (Bor (List ℕ)) Error))
     → GivesFirst old result new → GivesFirst other answer after → answer_of result ≡ ending

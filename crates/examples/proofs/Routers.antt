@@ -73,7 +73,7 @@ first_told bytes block rest p options prefixes told b e reads alone (goes_on {op
 first_told bytes block rest p options prefixes told b e reads alone (skips c s g l u i) =
     let same = same_parts c s block rest g b (sym i ∙ e) in
     absurd (l (prefix_information p)
-        (subst (λ (x : List ℕ). BeginsWith x (prefix_information p)) (sym same.fronts) reads))
+    (subst (λ (x : List ℕ). BeginsWith x (prefix_information p)) (sym same.fronts) reads))
 
 -- a block with a prefix has the first prefix
 pub told_first : (bytes block rest : List ℕ) (p : PrefixInformation) (prefixes : List PrefixInformation)
