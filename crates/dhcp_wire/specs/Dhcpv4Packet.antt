@@ -29,9 +29,9 @@
 -- +- - - - -
 --
 -- (*) In the RFC chaddr has 16 bytes and sname begins at byte 44; here sname begins after the 6 octets.
-use Rattle.std.specs.Prelude.{◌≡◌, ◌≢◌, ℕ, List, [], ◌∷◌, ◌++◌, length, drop}
+use Rattle.std.specs.Prelude.{◌≡◌, ◌≢◌, ℕ, List, [], ◌∷◌, ◌++◌, drop}
 use Rattle.std.specs.Str.{IsUtf8}
-use Rattle.wirebase.specs.Bytes.{Field, field, Writes}
+use Rattle.wirebase.specs.Bytes.{Field, field}
 use Rattle.dhcp_wire.specs.declared.dhcpv4.packet.Packet.{Packet}
 
 -- the buffer of a view, and the view with another buffer
@@ -40,14 +40,6 @@ inner view = view.buffer
 
 abbrev pub with_inner : {T : Type 0} → Packet T → T → Packet T
 with_inner view buffer = record view { buffer = buffer }
-
--- a field of the view is w, and all its other octets are unchanged
-abbrev pub Sets : {T : Type 0} → (T → List ℕ) → (T → List ℕ → T) → Packet T → Packet T → Field → List ℕ → Type 0
-Sets bytes set old new f w = Writes bytes set (inner old) (inner new) f w
-
--- as many octets as there were
-abbrev pub KeepsLen : {T : Type 0} → (T → List ℕ) → Packet T → Packet T → Type 0
-KeepsLen bytes old new = length (bytes (inner new)) ≡ length (bytes (inner old))
 
 -- the fields
 abbrev pub op_field : Field

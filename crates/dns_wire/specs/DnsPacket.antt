@@ -11,11 +11,11 @@
 -- +-------------------------------+-------------------------------+
 -- | questions and records
 -- +- - - -
-use Rattle.std.specs.Prelude.{◌≡◌, ℕ, ◌*◌, ◌/◌, ◌%◌, List, length, drop}
+use Rattle.std.specs.Prelude.{◌≡◌, ℕ, ◌*◌, ◌/◌, ◌%◌, List, drop}
 use Rattle.std.specs.Borrow.{Bor}
 use Rattle.std.specs.Int.Bits.{bit_and, bit_or}
 use Rattle.bitflags.specs.Sets.{without}
-use Rattle.wirebase.specs.Bytes.{Field, field, Writes}
+use Rattle.wirebase.specs.Bytes.{Field, field}
 use Rattle.dns_wire.specs.DnsTables.{known_bits}
 use Rattle.dns_wire.specs.declared.dns.packet.Packet.{Packet}
 
@@ -28,14 +28,6 @@ with_inner view buffer = record view { buffer = buffer }
 
 abbrev pub view_octets : Packet (Bor (List ℕ)) → List ℕ
 view_octets view = (inner view).now
-
--- a field of the view is w, and all its other octets are unchanged
-abbrev pub Sets : {T : Type 0} → (T → List ℕ) → (T → List ℕ → T) → Packet T → Packet T → Field → List ℕ → Type 0
-Sets bytes set old new f w = Writes bytes set (inner old) (inner new) f w
-
--- as many octets as there were
-abbrev pub KeepsLen : {T : Type 0} → (T → List ℕ) → Packet T → Packet T → Type 0
-KeepsLen bytes old new = length (bytes (inner new)) ≡ length (bytes (inner old))
 
 -- the fields
 abbrev pub id_field : Field

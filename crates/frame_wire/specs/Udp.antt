@@ -11,7 +11,7 @@
 -- +- - - - - - - - - - - - - - - -
 use Rattle.std.specs.Prelude.{◌≡◌, ◌≢◌, ℕ, ◌≤◌, ◌⊎◌, true, List, length}
 use Rattle.std.specs.Borrow.{Bor}
-use Rattle.wirebase.specs.Bytes.{Field, field, Reaches, Writes, bytes_of, number_of}
+use Rattle.wirebase.specs.Bytes.{Field, field, Reaches, bytes_of, number_of}
 use Rattle.wirebase.specs.Capabilities.{is_verified}
 use Rattle.wirebase.specs.Checksum.{IsGood}
 use Rattle.wirebase.specs.declared.capabilities.ChecksumCapabilities.{ChecksumCapabilities}
@@ -32,14 +32,6 @@ with_inner view buffer = record view { buffer = buffer }
 
 abbrev pub view_octets : UdpPacket (Bor (List ℕ)) → List ℕ
 view_octets view = (inner view).now
-
--- a field of the view is w, and all its other octets stay
-abbrev pub Sets : {T : Type 0} → (T → List ℕ) → (T → List ℕ → T) → UdpPacket T → UdpPacket T → Field → List ℕ → Type 0
-Sets bytes set old new f w = Writes bytes set (inner old) (inner new) f w
-
--- as many octets as there were
-abbrev pub KeepsLen : {T : Type 0} → (T → List ℕ) → UdpPacket T → UdpPacket T → Type 0
-KeepsLen bytes old new = length (bytes (inner new)) ≡ length (bytes (inner old))
 
 -- the fields
 abbrev pub src_port_field : Field

@@ -6,7 +6,8 @@ ghost use Rattle.std.specs.Borrow.{sem, Lends, Array, u8 as byte};
 ghost use Rattle.byteorder.specs.Endian.{big_bytes};
 ghost use Rattle.wirebase.specs.Bytes.{Reaches, bytes_of, number_of, over, splice};
 ghost use Rattle.wirebase.specs.Format.{Rewrites, SameText};
-ghost use Rattle.frame_wire.specs.Udp.{inner, with_inner, view_octets, Sets, KeepsLen, src_port_field, dst_port_field};
+ghost use Rattle.wirebase.specs.View.{Sets, KeepsLen};
+ghost use Rattle.frame_wire.specs.Udp.{inner, with_inner, view_octets, src_port_field, dst_port_field};
 ghost use Rattle.frame_wire.specs.Udp.{len_field, checksum_field, len_in, payload_field, BeginsWhole, IsVerified};
 ghost use Rattle.frame_wire.specs.Udp.{whole_field, HasChecksum, IsDatagram};
 ghost use Rattle.frame_wire.specs.UdpText.{value_of, text_len, text, sealed_datagram, format, Emits};
@@ -187,8 +188,8 @@ impl<T: OctetsMut> UdpPacket<T> {
     /// Writes the source port. Requires at least 2 bytes.
     pub fn set_src_port(&mut self, value: u16)
         requires { Reaches src_port_field (T.bytes (inner self.old)) }
-        ensures writes { Sets T.bytes T.put self.old self.new src_port_field (big_bytes 2 value) }
-        ensures len { KeepsLen T.bytes self.old self.new }
+        ensures writes { Sets inner T.bytes T.put self.old self.new src_port_field (big_bytes 2 value) }
+        ensures len { KeepsLen inner T.bytes self.old self.new }
     {
         self.buffer.set_u16(field::SRC_PORT, value);
     }
@@ -196,8 +197,8 @@ impl<T: OctetsMut> UdpPacket<T> {
     /// Writes the destination port. Requires at least 4 bytes.
     pub fn set_dst_port(&mut self, value: u16)
         requires { Reaches dst_port_field (T.bytes (inner self.old)) }
-        ensures writes { Sets T.bytes T.put self.old self.new dst_port_field (big_bytes 2 value) }
-        ensures len { KeepsLen T.bytes self.old self.new }
+        ensures writes { Sets inner T.bytes T.put self.old self.new dst_port_field (big_bytes 2 value) }
+        ensures len { KeepsLen inner T.bytes self.old self.new }
     {
         self.buffer.set_u16(field::DST_PORT, value);
     }
@@ -205,8 +206,8 @@ impl<T: OctetsMut> UdpPacket<T> {
     /// Writes the length of header and data in bytes. Requires at least 6 bytes.
     pub fn set_len(&mut self, value: u16)
         requires { Reaches len_field (T.bytes (inner self.old)) }
-        ensures writes { Sets T.bytes T.put self.old self.new len_field (big_bytes 2 value) }
-        ensures len { KeepsLen T.bytes self.old self.new }
+        ensures writes { Sets inner T.bytes T.put self.old self.new len_field (big_bytes 2 value) }
+        ensures len { KeepsLen inner T.bytes self.old self.new }
     {
         self.buffer.set_u16(field::LENGTH, value);
     }
@@ -214,8 +215,8 @@ impl<T: OctetsMut> UdpPacket<T> {
     /// Writes the checksum. Requires at least 8 bytes.
     pub fn set_checksum(&mut self, value: u16)
         requires { Reaches checksum_field (T.bytes (inner self.old)) }
-        ensures writes { Sets T.bytes T.put self.old self.new checksum_field (big_bytes 2 value) }
-        ensures len { KeepsLen T.bytes self.old self.new }
+        ensures writes { Sets inner T.bytes T.put self.old self.new checksum_field (big_bytes 2 value) }
+        ensures len { KeepsLen inner T.bytes self.old self.new }
     {
         self.buffer.set_u16(field::CHECKSUM, value);
     }

@@ -2,7 +2,7 @@
 -- word after the checksum depends on the type.
 use Rattle.std.specs.Prelude.{◌≡◌, ℕ, ◌%◌, ◌^◌, ◌≤◌, Bool, true, false, List, [], ◌∷◌, length, drop}
 use Rattle.std.specs.Borrow.{Bor}
-use Rattle.wirebase.specs.Bytes.{Field, field, Reaches, Writes, byte_of, with_field}
+use Rattle.wirebase.specs.Bytes.{Field, field, Reaches, byte_of, with_field}
 use Rattle.wirebase.specs.Icmp.{type_field, header}
 use Rattle.wirebase.specs.Ipv6.{pseudo_sum}
 use Rattle.wirebase.specs.declared.ip.IpProtocol.TheVariants.{Icmpv6}
@@ -21,14 +21,6 @@ with_inner view buffer = record view { buffer = buffer }
 
 abbrev pub view_octets : Packet (Bor (List ℕ)) → List ℕ
 view_octets view = (inner view).now
-
--- a field of the view is w, and all its other octets are unchanged
-abbrev pub Sets : {T : Type 0} → (T → List ℕ) → (T → List ℕ → T) → Packet T → Packet T → Field → List ℕ → Type 0
-Sets bytes set old new f w = Writes bytes set (inner old) (inner new) f w
-
--- as many octets as there were
-abbrev pub KeepsLen : {T : Type 0} → (T → List ℕ) → Packet T → Packet T → Type 0
-KeepsLen bytes old new = length (bytes (inner new)) ≡ length (bytes (inner old))
 
 -- ---- the fields
 

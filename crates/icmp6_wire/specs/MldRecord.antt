@@ -11,7 +11,7 @@
 -- +- - - -
 use Rattle.std.specs.Prelude.{◌≡◌, ℕ, ◌+◌, ◌*◌, ◌<◌, ◌^◌, List, [], ◌∷◌, length, drop}
 use Rattle.std.specs.Borrow.{Bor}
-use Rattle.wirebase.specs.Bytes.{Field, field, Reaches, Writes, bytes_of, byte_of, number_of, over}
+use Rattle.wirebase.specs.Bytes.{Field, field, Reaches, bytes_of, byte_of, number_of, over}
 use Rattle.wirebase.specs.ByteWriter.{be8, be16, fields}
 use Rattle.wirebase.specs.Format.{Format, RoundTrips}
 use Rattle.wirebase.specs.Numbered.{IsProper}
@@ -32,15 +32,6 @@ with_inner view buffer = record view { buffer = buffer }
 
 abbrev pub view_octets : AddressRecord (Bor (List ℕ)) → List ℕ
 view_octets view = (inner view).now
-
--- a field of the view is w, and all its other octets are unchanged
-abbrev pub Sets : {T : Type 0} → (T → List ℕ) → (T → List ℕ → T) → AddressRecord T → AddressRecord T → Field → List ℕ
-    → Type 0
-Sets bytes set old new f w = Writes bytes set (inner old) (inner new) f w
-
--- as many octets as there were
-abbrev pub KeepsLen : {T : Type 0} → (T → List ℕ) → AddressRecord T → AddressRecord T → Type 0
-KeepsLen bytes old new = length (bytes (inner new)) ≡ length (bytes (inner old))
 
 -- the fields
 abbrev pub record_type_field : Field

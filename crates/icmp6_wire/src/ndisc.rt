@@ -28,7 +28,8 @@ ghost use Rattle.byteorder.specs.Endian.{big_bytes};
 ghost use Rattle.wirebase.specs.Bytes.{Reaches, bytes_of, byte_of, number_of};
 ghost use Rattle.wirebase.specs.Duration.{micros_of, millis_of, seconds_of};
 ghost use Rattle.wirebase.specs.Ipv6Address.{octets_of};
-ghost use Rattle.icmp6_wire.specs.Icmpv6Packet.{inner, Sets, KeepsLen};
+ghost use Rattle.wirebase.specs.View.{Sets, KeepsLen};
+ghost use Rattle.icmp6_wire.specs.Icmpv6Packet.{inner};
 ghost use Rattle.icmp6_wire.specs.NdiscPacket.{hop_limit_field, router_flags_field, router_lifetime_field};
 ghost use Rattle.icmp6_wire.specs.NdiscPacket.{reachable_time_field, retrans_time_field, neighbor_flags_field};
 ghost use Rattle.icmp6_wire.specs.NdiscPacket.{target_addr_field, dest_addr_field};
@@ -183,8 +184,8 @@ impl<T: OctetsMut> Packet<T> {
     /// Writes the hop limit that hosts are to set. Requires at least 5 bytes.
     pub fn set_current_hop_limit(&mut self, value: u8)
         requires { Reaches hop_limit_field (T.bytes (inner self.old)) }
-        ensures writes { Sets T.bytes T.put self.old self.new hop_limit_field (value ∷ []) }
-        ensures len { KeepsLen T.bytes self.old self.new }
+        ensures writes { Sets inner T.bytes T.put self.old self.new hop_limit_field (value ∷ []) }
+        ensures len { KeepsLen inner T.bytes self.old self.new }
     {
         self.buffer.set_u8(field::HOP_LIMIT, value);
     }
@@ -192,9 +193,9 @@ impl<T: OctetsMut> Packet<T> {
     /// Writes the flags of a router advertisement, all their bits. Requires at least 6 bytes.
     pub fn set_router_flags(&mut self, flags: RouterFlags)
         requires { Reaches router_flags_field (T.bytes (inner self.old)) }
-        ensures writes { Sets T.bytes T.put self.old self.new router_flags_field
+        ensures writes { Sets inner T.bytes T.put self.old self.new router_flags_field
             (router_bits flags ∷ []) }
-        ensures len { KeepsLen T.bytes self.old self.new }
+        ensures len { KeepsLen inner T.bytes self.old self.new }
     {
         self.buffer.set_u8(field::ROUTER_FLAGS, flags.bits());
     }
@@ -204,9 +205,9 @@ impl<T: OctetsMut> Packet<T> {
     pub fn set_router_lifetime(&mut self, value: Duration)
         requires room { Reaches router_lifetime_field (T.bytes (inner self.old)) }
         requires fits { seconds_of value ≤ 65535 }
-        ensures writes { Sets T.bytes T.put self.old self.new router_lifetime_field
+        ensures writes { Sets inner T.bytes T.put self.old self.new router_lifetime_field
             (big_bytes 2 (seconds_of value)) }
-        ensures len { KeepsLen T.bytes self.old self.new }
+        ensures len { KeepsLen inner T.bytes self.old self.new }
     {
         self.buffer
             .set_u16(field::ROUTER_LIFETIME, value.secs() as u16);
@@ -217,9 +218,9 @@ impl<T: OctetsMut> Packet<T> {
     pub fn set_reachable_time(&mut self, value: Duration)
         requires room { Reaches reachable_time_field (T.bytes (inner self.old)) }
         requires fits { millis_of value ≤ 4294967295 }
-        ensures writes { Sets T.bytes T.put self.old self.new reachable_time_field
+        ensures writes { Sets inner T.bytes T.put self.old self.new reachable_time_field
             (big_bytes 4 (millis_of value)) }
-        ensures len { KeepsLen T.bytes self.old self.new }
+        ensures len { KeepsLen inner T.bytes self.old self.new }
     {
         self.buffer
             .set_u32(field::REACHABLE_TIME, value.total_millis() as u32);
@@ -230,9 +231,9 @@ impl<T: OctetsMut> Packet<T> {
     pub fn set_retrans_time(&mut self, value: Duration)
         requires room { Reaches retrans_time_field (T.bytes (inner self.old)) }
         requires fits { millis_of value ≤ 4294967295 }
-        ensures writes { Sets T.bytes T.put self.old self.new retrans_time_field
+        ensures writes { Sets inner T.bytes T.put self.old self.new retrans_time_field
             (big_bytes 4 (millis_of value)) }
-        ensures len { KeepsLen T.bytes self.old self.new }
+        ensures len { KeepsLen inner T.bytes self.old self.new }
     {
         self.buffer
             .set_u32(field::RETRANS_TIME, value.total_millis() as u32);
@@ -241,8 +242,8 @@ impl<T: OctetsMut> Packet<T> {
     /// Writes the target address of a neighbor message or a redirect. Requires at least 24 bytes.
     pub fn set_target_addr(&mut self, value: Ipv6Address)
         requires { Reaches target_addr_field (T.bytes (inner self.old)) }
-        ensures writes { Sets T.bytes T.put self.old self.new target_addr_field (octets_of value) }
-        ensures len { KeepsLen T.bytes self.old self.new }
+        ensures writes { Sets inner T.bytes T.put self.old self.new target_addr_field (octets_of value) }
+        ensures len { KeepsLen inner T.bytes self.old self.new }
     {
         self.buffer.set_bytes(field::TARGET_ADDR, &value.octets());
     }
@@ -250,9 +251,9 @@ impl<T: OctetsMut> Packet<T> {
     /// Writes the flags of a neighbor advertisement, all their bits. Requires at least 5 bytes.
     pub fn set_neighbor_flags(&mut self, flags: NeighborFlags)
         requires { Reaches neighbor_flags_field (T.bytes (inner self.old)) }
-        ensures writes { Sets T.bytes T.put self.old self.new neighbor_flags_field
+        ensures writes { Sets inner T.bytes T.put self.old self.new neighbor_flags_field
             (neighbor_bits flags ∷ []) }
-        ensures len { KeepsLen T.bytes self.old self.new }
+        ensures len { KeepsLen inner T.bytes self.old self.new }
     {
         self.buffer.set_u8(field::NEIGHBOR_FLAGS, flags.bits());
     }
@@ -260,8 +261,8 @@ impl<T: OctetsMut> Packet<T> {
     /// Writes the destination address of a redirect. Requires at least 40 bytes.
     pub fn set_dest_addr(&mut self, value: Ipv6Address)
         requires { Reaches dest_addr_field (T.bytes (inner self.old)) }
-        ensures writes { Sets T.bytes T.put self.old self.new dest_addr_field (octets_of value) }
-        ensures len { KeepsLen T.bytes self.old self.new }
+        ensures writes { Sets inner T.bytes T.put self.old self.new dest_addr_field (octets_of value) }
+        ensures len { KeepsLen inner T.bytes self.old self.new }
     {
         self.buffer.set_bytes(field::DEST_ADDR, &value.octets());
     }

@@ -5,7 +5,7 @@
 -- +---------------+---------------+- - - - - - - - - - - - - - - -
 use Rattle.std.specs.Prelude.{◌≡◌, ℕ, ◌+◌, ◌*◌, ◌≤◌, ◌<◌, List, [], ◌∷◌, length}
 use Rattle.std.specs.Borrow.{Bor}
-use Rattle.wirebase.specs.Bytes.{Field, field, Reaches, Writes, bytes_of, byte_of, over}
+use Rattle.wirebase.specs.Bytes.{Field, field, Reaches, bytes_of, byte_of, over}
 use Rattle.wirebase.specs.ByteWriter.{be8, fields}
 use Rattle.wirebase.specs.Ip.{protocol_number, protocol_of}
 use Rattle.wirebase.specs.declared.ip.IpProtocol.{IpProtocol}
@@ -23,14 +23,6 @@ with_inner view buffer = record view { buffer = buffer }
 
 abbrev pub view_octets : Header (Bor (List ℕ)) → List ℕ
 view_octets view = (inner view).now
-
--- a field of the view is w, and all its other octets are unchanged
-abbrev pub Sets : {T : Type 0} → (T → List ℕ) → (T → List ℕ → T) → Header T → Header T → Field → List ℕ → Type 0
-Sets bytes set old new f w = Writes bytes set (inner old) (inner new) f w
-
--- as many octets as there were
-abbrev pub KeepsLen : {T : Type 0} → (T → List ℕ) → Header T → Header T → Type 0
-KeepsLen bytes old new = length (bytes (inner new)) ≡ length (bytes (inner old))
 
 -- the fields; the length counts units of eight bytes, without the first eight bytes
 abbrev pub next_header_field : Field

@@ -9,7 +9,7 @@
 -- A Pad1 is its type alone.
 use Rattle.std.specs.Prelude.{◌≡◌, ◌≢◌, ℕ, ◌+◌, ◌*◌, ◌≤◌, ◌<◌, ◌^◌, List, [], ◌∷◌, ◌++◌, length, take, replicate}
 use Rattle.std.specs.Borrow.{Bor}
-use Rattle.wirebase.specs.Bytes.{Field, field, Reaches, Writes, byte_of, over}
+use Rattle.wirebase.specs.Bytes.{Field, field, Reaches, byte_of, over}
 use Rattle.wirebase.specs.ByteWriter.{be8, be16, fields}
 use Rattle.wirebase.specs.Format.{Format, RoundTrips}
 use Rattle.wirebase.specs.Numbered.{IsProper}
@@ -31,14 +31,6 @@ with_inner view buffer = record view { buffer = buffer }
 
 abbrev pub view_octets : Ipv6Option (Bor (List ℕ)) → List ℕ
 view_octets view = (inner view).now
-
--- a field of the view is w, and all its other octets are unchanged
-abbrev pub Sets : {T : Type 0} → (T → List ℕ) → (T → List ℕ → T) → Ipv6Option T → Ipv6Option T → Field → List ℕ → Type 0
-Sets bytes set old new f w = Writes bytes set (inner old) (inner new) f w
-
--- as many octets as there were
-abbrev pub KeepsLen : {T : Type 0} → (T → List ℕ) → Ipv6Option T → Ipv6Option T → Type 0
-KeepsLen bytes old new = length (bytes (inner new)) ≡ length (bytes (inner old))
 
 -- the fields
 abbrev pub option_type_field : Field

@@ -38,7 +38,7 @@
 -- +---------------------------------------------------------------+
 use Rattle.std.specs.Prelude.{◌≡◌, ℕ, ◌+◌, ◌-◌, ◌*◌, ◌≤◌, min, List, length}
 use Rattle.std.specs.Borrow.{Bor}
-use Rattle.wirebase.specs.Bytes.{Field, field, Reaches, Writes, byte_of}
+use Rattle.wirebase.specs.Bytes.{Field, field, Reaches, byte_of}
 use Rattle.opt_wire.specs.declared.ndiscoption.NdiscOption.{NdiscOption}
 
 -- the buffer of a view, and the view with another buffer
@@ -50,15 +50,6 @@ with_inner view buffer = record view { buffer = buffer }
 
 abbrev pub view_octets : NdiscOption (Bor (List ℕ)) → List ℕ
 view_octets view = (inner view).now
-
--- a field of the view is w, and all its other octets are unchanged
-abbrev pub Sets : {T : Type 0} → (T → List ℕ) → (T → List ℕ → T) → NdiscOption T → NdiscOption T → Field → List ℕ
-    → Type 0
-Sets bytes set old new f w = Writes bytes set (inner old) (inner new) f w
-
--- as many octets as there were
-abbrev pub KeepsLen : {T : Type 0} → (T → List ℕ) → NdiscOption T → NdiscOption T → Type 0
-KeepsLen bytes old new = length (bytes (inner new)) ≡ length (bytes (inner old))
 
 -- ---- the fields
 

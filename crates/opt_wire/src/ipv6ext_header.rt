@@ -17,7 +17,8 @@ ghost use Rattle.std.specs.Prelude.{IsOkAnd};
 ghost use Rattle.std.specs.Borrow.{sem, Lends, Array, u8 as byte};
 ghost use Rattle.wirebase.specs.Bytes.{splice, over, Reaches, byte_of, bytes_of};
 ghost use Rattle.wirebase.specs.Ip.{protocol_number, protocol_of};
-ghost use Rattle.opt_wire.specs.Ipv6ExtHeader.{inner, with_inner, view_octets, Sets, KeepsLen, next_header_field};
+ghost use Rattle.wirebase.specs.View.{Sets, KeepsLen};
+ghost use Rattle.opt_wire.specs.Ipv6ExtHeader.{inner, with_inner, view_octets, next_header_field};
 ghost use Rattle.opt_wire.specs.Ipv6ExtHeader.{length_field, header_end, payload_field, IsWhole, HeaderValue, value_of};
 ghost use Rattle.opt_wire.specs.Ipv6ExtHeader.{IsHeader, text, Emits, CarriesOptions};
 ghost use Rattle.opt_wire.specs.contracts.ipv6ext_header.Header.{the_row};
@@ -127,9 +128,9 @@ impl<T: OctetsMut> Header<T> {
     /// Writes the protocol of what follows the header. Requires at least 1 byte.
     pub fn set_next_header(&mut self, value: IpProtocol)
         requires { Reaches next_header_field (T.bytes (inner self.old)) }
-        ensures writes { Sets T.bytes T.put self.old self.new next_header_field
+        ensures writes { Sets inner T.bytes T.put self.old self.new next_header_field
             (protocol_number value ∷ []) }
-        ensures len { KeepsLen T.bytes self.old self.new }
+        ensures len { KeepsLen inner T.bytes self.old self.new }
     {
         self.buffer.set_u8(field::NEXT_HEADER, value.into());
     }
@@ -137,8 +138,8 @@ impl<T: OctetsMut> Header<T> {
     /// Writes the length in units of eight bytes, without the first eight bytes. Requires at least 2 bytes.
     pub fn set_header_len(&mut self, value: u8)
         requires { Reaches length_field (T.bytes (inner self.old)) }
-        ensures writes { Sets T.bytes T.put self.old self.new length_field (value ∷ []) }
-        ensures len { KeepsLen T.bytes self.old self.new }
+        ensures writes { Sets inner T.bytes T.put self.old self.new length_field (value ∷ []) }
+        ensures len { KeepsLen inner T.bytes self.old self.new }
     {
         self.buffer.set_u8(field::LENGTH, value);
     }

@@ -18,7 +18,8 @@ ghost use Rattle.std.specs.Fmt.{WritesOnOk};
 ghost use Rattle.wirebase.specs.Bytes.{Reaches, bytes_of, byte_of, with_field};
 ghost use Rattle.wirebase.specs.ByteWriter.{be8, free, Puts};
 ghost use Rattle.wirebase.specs.Format.{Rewrites, SameText};
-ghost use Rattle.opt_wire.specs.Ipv6Option.{inner, with_inner, view_octets, Sets, KeepsLen, option_type_field};
+ghost use Rattle.wirebase.specs.View.{Sets, KeepsLen};
+ghost use Rattle.opt_wire.specs.Ipv6Option.{inner, with_inner, view_octets, option_type_field};
 ghost use Rattle.opt_wire.specs.Ipv6Option.{opt_data_len_field, option_data_field, BeginsWhole, OptionValue, value_of};
 ghost use Rattle.opt_wire.specs.Ipv6Option.{pad_n, router_alert, unknown, text, text_len, HasData};
 ghost use Rattle.opt_wire.specs.Ipv6Option.{BeginsWith, format, Emits};
@@ -144,9 +145,9 @@ impl<T: OctetsMut> Ipv6Option<T> {
     /// Writes the type. Requires at least 1 byte.
     pub fn set_option_type(&mut self, value: Type)
         requires { Reaches option_type_field (T.bytes (inner self.old)) }
-        ensures writes { Sets T.bytes T.put self.old self.new option_type_field
+        ensures writes { Sets inner T.bytes T.put self.old self.new option_type_field
             (type_number value ∷ []) }
-        ensures len { KeepsLen T.bytes self.old self.new }
+        ensures len { KeepsLen inner T.bytes self.old self.new }
     {
         self.buffer.set_u8(field::TYPE, value.into());
     }
@@ -154,8 +155,8 @@ impl<T: OctetsMut> Ipv6Option<T> {
     /// Writes the length field: the number of bytes of data. Requires at least 2 bytes.
     pub fn set_data_len(&mut self, value: u8)
         requires { Reaches opt_data_len_field (T.bytes (inner self.old)) }
-        ensures writes { Sets T.bytes T.put self.old self.new opt_data_len_field (value ∷ []) }
-        ensures len { KeepsLen T.bytes self.old self.new }
+        ensures writes { Sets inner T.bytes T.put self.old self.new opt_data_len_field (value ∷ []) }
+        ensures len { KeepsLen inner T.bytes self.old self.new }
     {
         self.buffer.set_u8(field::LENGTH, value);
     }

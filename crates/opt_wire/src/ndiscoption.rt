@@ -21,7 +21,8 @@ ghost use Rattle.wirebase.specs.Bytes.{Reaches, field as bytes_field, bytes_of, 
 ghost use Rattle.wirebase.specs.Duration.{micros_of, seconds_of};
 ghost use Rattle.wirebase.specs.HardwareAddress.{raw_bytes};
 ghost use Rattle.wirebase.specs.Ipv6Address.{octets_of};
-ghost use Rattle.opt_wire.specs.NdiscOption.{inner, with_inner, Sets, KeepsLen, type_field, length_field, units_in};
+ghost use Rattle.wirebase.specs.View.{Sets, KeepsLen};
+ghost use Rattle.opt_wire.specs.NdiscOption.{inner, with_inner, type_field, length_field, units_in};
 ghost use Rattle.opt_wire.specs.NdiscOption.{data_field, link_addr_field, mtu_field, prefix_len_field};
 ghost use Rattle.opt_wire.specs.NdiscOption.{prefix_flags_field, valid_lifetime_field, preferred_lifetime_field};
 ghost use Rattle.opt_wire.specs.NdiscOption.{prefix_reserved_field, prefix_field, redirected_reserved_field};
@@ -263,8 +264,8 @@ impl<T: OctetsMut> NdiscOption<T> {
     /// Writes the type. Requires at least 1 byte.
     pub fn set_option_type(&mut self, value: Type)
         requires { Reaches type_field (T.bytes (inner self.old)) }
-        ensures writes { Sets T.bytes T.put self.old self.new type_field (type_number value ∷ []) }
-        ensures len { KeepsLen T.bytes self.old self.new }
+        ensures writes { Sets inner T.bytes T.put self.old self.new type_field (type_number value ∷ []) }
+        ensures len { KeepsLen inner T.bytes self.old self.new }
     {
         self.buffer.set_u8(field::TYPE, value.into());
     }
@@ -272,8 +273,8 @@ impl<T: OctetsMut> NdiscOption<T> {
     /// Writes the units of 8 bytes that the option counts. Requires at least 2 bytes.
     pub fn set_data_len(&mut self, value: u8)
         requires { Reaches length_field (T.bytes (inner self.old)) }
-        ensures writes { Sets T.bytes T.put self.old self.new length_field (value ∷ []) }
-        ensures len { KeepsLen T.bytes self.old self.new }
+        ensures writes { Sets inner T.bytes T.put self.old self.new length_field (value ∷ []) }
+        ensures len { KeepsLen inner T.bytes self.old self.new }
     {
         self.buffer.set_u8(field::LENGTH, value);
     }
@@ -281,9 +282,9 @@ impl<T: OctetsMut> NdiscOption<T> {
     /// Writes the link-layer address of a source or target. Requires at least 2 bytes and those of the address.
     pub fn set_link_layer_addr(&mut self, addr: RawHardwareAddress)
         requires { 2 + length (raw_bytes addr) ≤ length (T.bytes (inner self.old)) }
-        ensures writes { Sets T.bytes T.put self.old self.new
+        ensures writes { Sets inner T.bytes T.put self.old self.new
             (bytes_field 2 (2 + length (raw_bytes addr))) (raw_bytes addr) }
-        ensures len { KeepsLen T.bytes self.old self.new }
+        ensures len { KeepsLen inner T.bytes self.old self.new }
     {
         self.buffer
             .set_bytes(field::link_layer_addr(addr.len()), addr.as_bytes());
@@ -292,8 +293,8 @@ impl<T: OctetsMut> NdiscOption<T> {
     /// Writes the MTU of the link, in bytes. Requires at least 8 bytes.
     pub fn set_mtu(&mut self, value: u32)
         requires { Reaches mtu_field (T.bytes (inner self.old)) }
-        ensures writes { Sets T.bytes T.put self.old self.new mtu_field (big_bytes 4 value) }
-        ensures len { KeepsLen T.bytes self.old self.new }
+        ensures writes { Sets inner T.bytes T.put self.old self.new mtu_field (big_bytes 4 value) }
+        ensures len { KeepsLen inner T.bytes self.old self.new }
     {
         self.buffer.set_u32(field::MTU, value);
     }
@@ -301,8 +302,8 @@ impl<T: OctetsMut> NdiscOption<T> {
     /// Writes the length of a prefix, in bits. Requires at least 3 bytes.
     pub fn set_prefix_len(&mut self, value: u8)
         requires { Reaches prefix_len_field (T.bytes (inner self.old)) }
-        ensures writes { Sets T.bytes T.put self.old self.new prefix_len_field (value ∷ []) }
-        ensures len { KeepsLen T.bytes self.old self.new }
+        ensures writes { Sets inner T.bytes T.put self.old self.new prefix_len_field (value ∷ []) }
+        ensures len { KeepsLen inner T.bytes self.old self.new }
     {
         self.buffer.set_u8(field::PREFIX_OPTION_LEN, value);
     }
@@ -310,9 +311,9 @@ impl<T: OctetsMut> NdiscOption<T> {
     /// Writes the flags of a prefix, all their bits. Requires at least 4 bytes.
     pub fn set_prefix_flags(&mut self, flags: PrefixInfoFlags)
         requires { Reaches prefix_flags_field (T.bytes (inner self.old)) }
-        ensures writes { Sets T.bytes T.put self.old self.new prefix_flags_field
+        ensures writes { Sets inner T.bytes T.put self.old self.new prefix_flags_field
             (flag_bits flags ∷ []) }
-        ensures len { KeepsLen T.bytes self.old self.new }
+        ensures len { KeepsLen inner T.bytes self.old self.new }
     {
         self.buffer.set_u8(field::PREFIX_FLAGS, flags.bits());
     }
@@ -322,9 +323,9 @@ impl<T: OctetsMut> NdiscOption<T> {
     pub fn set_valid_lifetime(&mut self, time: Duration)
         requires room { Reaches valid_lifetime_field (T.bytes (inner self.old)) }
         requires fits { seconds_of time ≤ 4294967295 }
-        ensures writes { Sets T.bytes T.put self.old self.new valid_lifetime_field
+        ensures writes { Sets inner T.bytes T.put self.old self.new valid_lifetime_field
             (big_bytes 4 (seconds_of time)) }
-        ensures len { KeepsLen T.bytes self.old self.new }
+        ensures len { KeepsLen inner T.bytes self.old self.new }
     {
         self.buffer
             .set_u32(field::VALID_LIFETIME, time.secs() as u32);
@@ -335,9 +336,9 @@ impl<T: OctetsMut> NdiscOption<T> {
     pub fn set_preferred_lifetime(&mut self, time: Duration)
         requires room { Reaches preferred_lifetime_field (T.bytes (inner self.old)) }
         requires fits { seconds_of time ≤ 4294967295 }
-        ensures writes { Sets T.bytes T.put self.old self.new preferred_lifetime_field
+        ensures writes { Sets inner T.bytes T.put self.old self.new preferred_lifetime_field
             (big_bytes 4 (seconds_of time)) }
-        ensures len { KeepsLen T.bytes self.old self.new }
+        ensures len { KeepsLen inner T.bytes self.old self.new }
     {
         self.buffer
             .set_u32(field::PREFERRED_LIFETIME, time.secs() as u32);
@@ -346,9 +347,9 @@ impl<T: OctetsMut> NdiscOption<T> {
     /// Writes zeros into the reserved bytes of a prefix. Requires at least 16 bytes.
     pub fn clear_prefix_reserved(&mut self)
         requires { Reaches prefix_reserved_field (T.bytes (inner self.old)) }
-        ensures writes { Sets T.bytes T.put self.old self.new prefix_reserved_field
+        ensures writes { Sets inner T.bytes T.put self.old self.new prefix_reserved_field
             (replicate 4 0) }
-        ensures len { KeepsLen T.bytes self.old self.new }
+        ensures len { KeepsLen inner T.bytes self.old self.new }
     {
         self.buffer.set_u32(field::PREFIX_RESERVED, 0);
     }
@@ -356,8 +357,8 @@ impl<T: OctetsMut> NdiscOption<T> {
     /// Writes the prefix. Requires at least 32 bytes.
     pub fn set_prefix(&mut self, addr: Ipv6Address)
         requires { Reaches prefix_field (T.bytes (inner self.old)) }
-        ensures writes { Sets T.bytes T.put self.old self.new prefix_field (octets_of addr) }
-        ensures len { KeepsLen T.bytes self.old self.new }
+        ensures writes { Sets inner T.bytes T.put self.old self.new prefix_field (octets_of addr) }
+        ensures len { KeepsLen inner T.bytes self.old self.new }
     {
         self.buffer.set_bytes(field::PREFIX, &addr.octets());
     }
@@ -365,9 +366,9 @@ impl<T: OctetsMut> NdiscOption<T> {
     /// Writes zeros into the reserved bytes of a redirected header. Requires at least 8 bytes.
     pub fn clear_redirected_reserved(&mut self)
         requires { Reaches redirected_reserved_field (T.bytes (inner self.old)) }
-        ensures writes { Sets T.bytes T.put self.old self.new redirected_reserved_field
+        ensures writes { Sets inner T.bytes T.put self.old self.new redirected_reserved_field
             (replicate 6 0) }
-        ensures len { KeepsLen T.bytes self.old self.new }
+        ensures len { KeepsLen inner T.bytes self.old self.new }
     {
         self.buffer.set_bytes(field::REDIRECTED_RESERVED, &[0; 6]);
     }

@@ -9,7 +9,8 @@ ghost use Rattle.wirebase.specs.Ethernet.{octets_of as ethernet_octets};
 ghost use Rattle.wirebase.specs.HardwareAddress.{ethernet_of};
 ghost use Rattle.wirebase.specs.Hardware.{hardware_number, hardware_of};
 ghost use Rattle.wirebase.specs.Ipv4.{octets_of};
-ghost use Rattle.dhcp_wire.specs.Dhcpv4Packet.{inner, with_inner, Sets, KeepsLen, op_field, htype_field, hlen_field};
+ghost use Rattle.wirebase.specs.View.{Sets, KeepsLen};
+ghost use Rattle.dhcp_wire.specs.Dhcpv4Packet.{inner, with_inner, op_field, htype_field, hlen_field};
 ghost use Rattle.dhcp_wire.specs.Dhcpv4Packet.{hops_field};
 ghost use Rattle.dhcp_wire.specs.Dhcpv4Packet.{xid_field, secs_field, flags_field, ciaddr_field, yiaddr_field};
 ghost use Rattle.dhcp_wire.specs.Dhcpv4Packet.{siaddr_field, giaddr_field, chaddr_field, names_field, magic_field};
@@ -285,8 +286,8 @@ impl<T: OctetsMut> Packet<T> {
     /// Writes zeros for the names of a server and of a file to start from. Requires at least 236 bytes.
     pub fn set_sname_and_boot_file_to_zero(&mut self)
         requires { Reaches names_field (T.bytes (inner self.old)) }
-        ensures writes { Sets T.bytes T.put self.old self.new names_field (replicate 202 0) }
-        ensures len { KeepsLen T.bytes self.old self.new }
+        ensures writes { Sets inner T.bytes T.put self.old self.new names_field (replicate 202 0) }
+        ensures len { KeepsLen inner T.bytes self.old self.new }
     {
         self.buffer.field_mut(field::SNAME_AND_FILE).fill(0);
     }
@@ -294,8 +295,8 @@ impl<T: OctetsMut> Packet<T> {
     /// Writes whether the packet is a client's request or a server's reply. Requires at least 1 byte.
     pub fn set_opcode(&mut self, value: OpCode)
         requires { Reaches op_field (T.bytes (inner self.old)) }
-        ensures writes { Sets T.bytes T.put self.old self.new op_field (opcode_number value ∷ []) }
-        ensures len { KeepsLen T.bytes self.old self.new }
+        ensures writes { Sets inner T.bytes T.put self.old self.new op_field (opcode_number value ∷ []) }
+        ensures len { KeepsLen inner T.bytes self.old self.new }
     {
         self.buffer.set_u8(field::OP, value.into());
     }
@@ -304,9 +305,9 @@ impl<T: OctetsMut> Packet<T> {
     pub fn set_hardware_type(&mut self, value: Hardware)
         requires room { Reaches htype_field (T.bytes (inner self.old)) }
         requires small { hardware_number value ≤ 255 }
-        ensures writes { Sets T.bytes T.put self.old self.new htype_field
+        ensures writes { Sets inner T.bytes T.put self.old self.new htype_field
             (hardware_number value ∷ []) }
-        ensures len { KeepsLen T.bytes self.old self.new }
+        ensures len { KeepsLen inner T.bytes self.old self.new }
     {
         self.buffer.set_u8(field::HTYPE, u16::from(value) as u8);
     }
@@ -314,8 +315,8 @@ impl<T: OctetsMut> Packet<T> {
     /// Writes the bytes of a hardware address. Requires at least 3 bytes.
     pub fn set_hardware_len(&mut self, value: u8)
         requires { Reaches hlen_field (T.bytes (inner self.old)) }
-        ensures writes { Sets T.bytes T.put self.old self.new hlen_field (value ∷ []) }
-        ensures len { KeepsLen T.bytes self.old self.new }
+        ensures writes { Sets inner T.bytes T.put self.old self.new hlen_field (value ∷ []) }
+        ensures len { KeepsLen inner T.bytes self.old self.new }
     {
         self.buffer.set_u8(field::HLEN, value);
     }
@@ -323,8 +324,8 @@ impl<T: OctetsMut> Packet<T> {
     /// Writes the number that a client chose for this exchange. Requires at least 8 bytes.
     pub fn set_transaction_id(&mut self, value: u32)
         requires { Reaches xid_field (T.bytes (inner self.old)) }
-        ensures writes { Sets T.bytes T.put self.old self.new xid_field (big_bytes 4 value) }
-        ensures len { KeepsLen T.bytes self.old self.new }
+        ensures writes { Sets inner T.bytes T.put self.old self.new xid_field (big_bytes 4 value) }
+        ensures len { KeepsLen inner T.bytes self.old self.new }
     {
         self.buffer.set_u32(field::XID, value);
     }
@@ -332,9 +333,9 @@ impl<T: OctetsMut> Packet<T> {
     /// Writes the client's address on its network. Requires at least 34 bytes.
     pub fn set_client_hardware_address(&mut self, value: EthernetAddress)
         requires { Reaches chaddr_field (T.bytes (inner self.old)) }
-        ensures writes { Sets T.bytes T.put self.old self.new chaddr_field
+        ensures writes { Sets inner T.bytes T.put self.old self.new chaddr_field
             (ethernet_octets (ethernet_of value)) }
-        ensures len { KeepsLen T.bytes self.old self.new }
+        ensures len { KeepsLen inner T.bytes self.old self.new }
     {
         self.buffer.set_bytes(field::CHADDR, value.as_bytes());
     }
@@ -342,8 +343,8 @@ impl<T: OctetsMut> Packet<T> {
     /// Writes how many relays the packet has passed. Requires at least 4 bytes.
     pub fn set_hops(&mut self, value: u8)
         requires { Reaches hops_field (T.bytes (inner self.old)) }
-        ensures writes { Sets T.bytes T.put self.old self.new hops_field (value ∷ []) }
-        ensures len { KeepsLen T.bytes self.old self.new }
+        ensures writes { Sets inner T.bytes T.put self.old self.new hops_field (value ∷ []) }
+        ensures len { KeepsLen inner T.bytes self.old self.new }
     {
         self.buffer.set_u8(field::HOPS, value);
     }
@@ -351,8 +352,8 @@ impl<T: OctetsMut> Packet<T> {
     /// Writes the seconds since the client began. Requires at least 10 bytes.
     pub fn set_secs(&mut self, value: u16)
         requires { Reaches secs_field (T.bytes (inner self.old)) }
-        ensures writes { Sets T.bytes T.put self.old self.new secs_field (big_bytes 2 value) }
-        ensures len { KeepsLen T.bytes self.old self.new }
+        ensures writes { Sets inner T.bytes T.put self.old self.new secs_field (big_bytes 2 value) }
+        ensures len { KeepsLen inner T.bytes self.old self.new }
     {
         self.buffer.set_u16(field::SECS, value);
     }
@@ -360,8 +361,8 @@ impl<T: OctetsMut> Packet<T> {
     /// Writes the number before the options. Requires at least 240 bytes.
     pub fn set_magic_number(&mut self, value: u32)
         requires { Reaches magic_field (T.bytes (inner self.old)) }
-        ensures writes { Sets T.bytes T.put self.old self.new magic_field (big_bytes 4 value) }
-        ensures len { KeepsLen T.bytes self.old self.new }
+        ensures writes { Sets inner T.bytes T.put self.old self.new magic_field (big_bytes 4 value) }
+        ensures len { KeepsLen inner T.bytes self.old self.new }
     {
         self.buffer.set_u32(field::MAGIC_NUMBER, value);
     }
@@ -369,8 +370,8 @@ impl<T: OctetsMut> Packet<T> {
     /// Writes the address that the client has. Requires at least 16 bytes.
     pub fn set_client_ip(&mut self, value: Ipv4Address)
         requires { Reaches ciaddr_field (T.bytes (inner self.old)) }
-        ensures writes { Sets T.bytes T.put self.old self.new ciaddr_field (octets_of value) }
-        ensures len { KeepsLen T.bytes self.old self.new }
+        ensures writes { Sets inner T.bytes T.put self.old self.new ciaddr_field (octets_of value) }
+        ensures len { KeepsLen inner T.bytes self.old self.new }
     {
         self.buffer.set_bytes(field::CIADDR, &value.octets());
     }
@@ -378,8 +379,8 @@ impl<T: OctetsMut> Packet<T> {
     /// Writes the address that the client is given. Requires at least 20 bytes.
     pub fn set_your_ip(&mut self, value: Ipv4Address)
         requires { Reaches yiaddr_field (T.bytes (inner self.old)) }
-        ensures writes { Sets T.bytes T.put self.old self.new yiaddr_field (octets_of value) }
-        ensures len { KeepsLen T.bytes self.old self.new }
+        ensures writes { Sets inner T.bytes T.put self.old self.new yiaddr_field (octets_of value) }
+        ensures len { KeepsLen inner T.bytes self.old self.new }
     {
         self.buffer.set_bytes(field::YIADDR, &value.octets());
     }
@@ -387,8 +388,8 @@ impl<T: OctetsMut> Packet<T> {
     /// Writes the server to start from. Requires at least 24 bytes.
     pub fn set_server_ip(&mut self, value: Ipv4Address)
         requires { Reaches siaddr_field (T.bytes (inner self.old)) }
-        ensures writes { Sets T.bytes T.put self.old self.new siaddr_field (octets_of value) }
-        ensures len { KeepsLen T.bytes self.old self.new }
+        ensures writes { Sets inner T.bytes T.put self.old self.new siaddr_field (octets_of value) }
+        ensures len { KeepsLen inner T.bytes self.old self.new }
     {
         self.buffer.set_bytes(field::SIADDR, &value.octets());
     }
@@ -396,8 +397,8 @@ impl<T: OctetsMut> Packet<T> {
     /// Writes the relay that the packet came by. Requires at least 28 bytes.
     pub fn set_relay_agent_ip(&mut self, value: Ipv4Address)
         requires { Reaches giaddr_field (T.bytes (inner self.old)) }
-        ensures writes { Sets T.bytes T.put self.old self.new giaddr_field (octets_of value) }
-        ensures len { KeepsLen T.bytes self.old self.new }
+        ensures writes { Sets inner T.bytes T.put self.old self.new giaddr_field (octets_of value) }
+        ensures len { KeepsLen inner T.bytes self.old self.new }
     {
         self.buffer.set_bytes(field::GIADDR, &value.octets());
     }
@@ -405,9 +406,9 @@ impl<T: OctetsMut> Packet<T> {
     /// Writes the flags, with every bit of the value. Requires at least 12 bytes.
     pub fn set_flags(&mut self, value: Flags)
         requires { Reaches flags_field (T.bytes (inner self.old)) }
-        ensures writes { Sets T.bytes T.put self.old self.new flags_field
+        ensures writes { Sets inner T.bytes T.put self.old self.new flags_field
             (big_bytes 2 (flag_bits value)) }
-        ensures len { KeepsLen T.bytes self.old self.new }
+        ensures len { KeepsLen inner T.bytes self.old self.new }
     {
         self.buffer.set_u16(field::FLAGS, value.bits());
     }

@@ -4,8 +4,9 @@ ghost use Rattle.std.specs.Prelude.{◌≡◌, ◌<◌, ◌-◌, ◌↔◌, leng
 ghost use Rattle.std.specs.Borrow.{sem, Lends, Array, u8 as byte};
 ghost use Rattle.byteorder.specs.Endian.{big_bytes};
 ghost use Rattle.wirebase.specs.Bytes.{splice, Reaches, number_of};
+ghost use Rattle.wirebase.specs.View.{Sets, KeepsLen};
 ghost use Rattle.dns_wire.specs.DnsTables.{opcode_number, opcode_of, rcode_of, flag_bits, IsKnown};
-ghost use Rattle.dns_wire.specs.DnsPacket.{inner, with_inner, Sets, KeepsLen, id_field, flags_field};
+ghost use Rattle.dns_wire.specs.DnsPacket.{inner, with_inner, id_field, flags_field};
 ghost use Rattle.dns_wire.specs.DnsPacket.{question_count_field, answer_count_field, authority_count_field};
 ghost use Rattle.dns_wire.specs.DnsPacket.{additional_count_field, header, payload_in, flags_in, opcode_in, rcode_in};
 ghost use Rattle.dns_wire.specs.DnsPacket.{with_flags, with_opcode};
@@ -192,8 +193,8 @@ impl<T: OctetsMut> Packet<T> {
     /// Writes the number by which a response is matched to its query. Requires at least 2 bytes.
     pub fn set_transaction_id(&mut self, value: u16)
         requires { Reaches id_field (T.bytes (inner self.old)) }
-        ensures writes { Sets T.bytes T.put self.old self.new id_field (big_bytes 2 value) }
-        ensures len { KeepsLen T.bytes self.old self.new }
+        ensures writes { Sets inner T.bytes T.put self.old self.new id_field (big_bytes 2 value) }
+        ensures len { KeepsLen inner T.bytes self.old self.new }
     {
         self.buffer.set_u16(field::ID, value);
     }
@@ -203,10 +204,10 @@ impl<T: OctetsMut> Packet<T> {
     pub fn set_flags(&mut self, value: Flags)
         requires known { IsKnown (flag_bits value) }
         requires room { Reaches flags_field (T.bytes (inner self.old)) }
-        ensures writes { Sets T.bytes T.put self.old self.new flags_field
+        ensures writes { Sets inner T.bytes T.put self.old self.new flags_field
             (big_bytes 2 (with_flags (number_of flags_field (T.bytes (inner self.old)))
             (flag_bits value))) }
-        ensures len { KeepsLen T.bytes self.old self.new }
+        ensures len { KeepsLen inner T.bytes self.old self.new }
     {
         let word = self.buffer.u16_at(field::FLAGS);
         self.buffer
@@ -217,10 +218,10 @@ impl<T: OctetsMut> Packet<T> {
     pub fn set_opcode(&mut self, value: Opcode)
         requires four_bits { opcode_number value < 16 }
         requires room { Reaches flags_field (T.bytes (inner self.old)) }
-        ensures writes { Sets T.bytes T.put self.old self.new flags_field
+        ensures writes { Sets inner T.bytes T.put self.old self.new flags_field
             (big_bytes 2 (with_opcode (number_of flags_field (T.bytes (inner self.old)))
             (opcode_number value))) }
-        ensures len { KeepsLen T.bytes self.old self.new }
+        ensures len { KeepsLen inner T.bytes self.old self.new }
     {
         let word = self.buffer.u16_at(field::FLAGS);
         let opcode = u8::from(value) as u16;
@@ -230,9 +231,9 @@ impl<T: OctetsMut> Packet<T> {
     /// Writes how many questions there are. Requires at least 6 bytes.
     pub fn set_question_count(&mut self, value: u16)
         requires { Reaches question_count_field (T.bytes (inner self.old)) }
-        ensures writes { Sets T.bytes T.put self.old self.new
+        ensures writes { Sets inner T.bytes T.put self.old self.new
             question_count_field (big_bytes 2 value) }
-        ensures len { KeepsLen T.bytes self.old self.new }
+        ensures len { KeepsLen inner T.bytes self.old self.new }
     {
         self.buffer.set_u16(field::QUESTION_COUNT, value);
     }
@@ -240,9 +241,9 @@ impl<T: OctetsMut> Packet<T> {
     /// Writes how many records answer. Requires at least 8 bytes.
     pub fn set_answer_record_count(&mut self, value: u16)
         requires { Reaches answer_count_field (T.bytes (inner self.old)) }
-        ensures writes { Sets T.bytes T.put self.old self.new
+        ensures writes { Sets inner T.bytes T.put self.old self.new
             answer_count_field (big_bytes 2 value) }
-        ensures len { KeepsLen T.bytes self.old self.new }
+        ensures len { KeepsLen inner T.bytes self.old self.new }
     {
         self.buffer.set_u16(field::ANSWER_COUNT, value);
     }
@@ -250,9 +251,9 @@ impl<T: OctetsMut> Packet<T> {
     /// Writes how many records name an authority. Requires at least 10 bytes.
     pub fn set_authority_record_count(&mut self, value: u16)
         requires { Reaches authority_count_field (T.bytes (inner self.old)) }
-        ensures writes { Sets T.bytes T.put self.old self.new
+        ensures writes { Sets inner T.bytes T.put self.old self.new
             authority_count_field (big_bytes 2 value) }
-        ensures len { KeepsLen T.bytes self.old self.new }
+        ensures len { KeepsLen inner T.bytes self.old self.new }
     {
         self.buffer.set_u16(field::AUTHORITY_COUNT, value);
     }
@@ -260,9 +261,9 @@ impl<T: OctetsMut> Packet<T> {
     /// Writes how many more records there are. Requires at least 12 bytes.
     pub fn set_additional_record_count(&mut self, value: u16)
         requires { Reaches additional_count_field (T.bytes (inner self.old)) }
-        ensures writes { Sets T.bytes T.put self.old self.new
+        ensures writes { Sets inner T.bytes T.put self.old self.new
             additional_count_field (big_bytes 2 value) }
-        ensures len { KeepsLen T.bytes self.old self.new }
+        ensures len { KeepsLen inner T.bytes self.old self.new }
     {
         self.buffer.set_u16(field::ADDITIONAL_COUNT, value);
     }

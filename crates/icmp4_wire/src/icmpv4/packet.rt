@@ -11,8 +11,9 @@ ghost use Rattle.wirebase.specs.Display.{Shows};
 ghost use Rattle.wirebase.specs.Icmp.{type_field, code_field, checksum_field, ident_field, seq_no_field, header};
 ghost use Rattle.wirebase.specs.Icmp.{data_in};
 ghost use Rattle.wirebase.specs.declared.capabilities.Checksum.TheVariants.{Both};
+ghost use Rattle.wirebase.specs.View.{Sets, KeepsLen};
 ghost use Rattle.icmp4_wire.specs.Icmpv4Tables.{message_number, message_of};
-ghost use Rattle.icmp4_wire.specs.Icmpv4.{inner, with_inner, view_octets, Sets, KeepsLen, IsMessage};
+ghost use Rattle.icmp4_wire.specs.Icmpv4.{inner, with_inner, view_octets, IsMessage};
 ghost use Rattle.icmp4_wire.specs.Icmpv4Display.{repr_display, refused_display};
 ghost use Rattle.icmp4_wire.specs.contracts.icmpv4.packet.Packet.{the_row};
 
@@ -142,9 +143,9 @@ impl<T: OctetsMut> Packet<T> {
     /// Writes the type. Requires at least 1 byte.
     pub fn set_msg_type(&mut self, value: Message)
         requires { Reaches type_field (T.bytes (inner self.old)) }
-        ensures writes { Sets T.bytes T.put self.old self.new type_field
+        ensures writes { Sets inner T.bytes T.put self.old self.new type_field
             (message_number value ∷ []) }
-        ensures len { KeepsLen T.bytes self.old self.new }
+        ensures len { KeepsLen inner T.bytes self.old self.new }
     {
         self.buffer.set_u8(field::TYPE, value.into());
     }
@@ -152,8 +153,8 @@ impl<T: OctetsMut> Packet<T> {
     /// Writes the code. Requires at least 2 bytes.
     pub fn set_msg_code(&mut self, value: u8)
         requires { Reaches code_field (T.bytes (inner self.old)) }
-        ensures writes { Sets T.bytes T.put self.old self.new code_field (value ∷ []) }
-        ensures len { KeepsLen T.bytes self.old self.new }
+        ensures writes { Sets inner T.bytes T.put self.old self.new code_field (value ∷ []) }
+        ensures len { KeepsLen inner T.bytes self.old self.new }
     {
         self.buffer.set_u8(field::CODE, value);
     }
@@ -161,8 +162,8 @@ impl<T: OctetsMut> Packet<T> {
     /// Writes the checksum. Requires at least 4 bytes.
     pub fn set_checksum(&mut self, value: u16)
         requires { Reaches checksum_field (T.bytes (inner self.old)) }
-        ensures writes { Sets T.bytes T.put self.old self.new checksum_field (big_bytes 2 value) }
-        ensures len { KeepsLen T.bytes self.old self.new }
+        ensures writes { Sets inner T.bytes T.put self.old self.new checksum_field (big_bytes 2 value) }
+        ensures len { KeepsLen inner T.bytes self.old self.new }
     {
         self.buffer.set_u16(field::CHECKSUM, value);
     }
@@ -170,8 +171,8 @@ impl<T: OctetsMut> Packet<T> {
     /// Writes the identifier of an echo. Requires at least 6 bytes.
     pub fn set_echo_ident(&mut self, value: u16)
         requires { Reaches ident_field (T.bytes (inner self.old)) }
-        ensures writes { Sets T.bytes T.put self.old self.new ident_field (big_bytes 2 value) }
-        ensures len { KeepsLen T.bytes self.old self.new }
+        ensures writes { Sets inner T.bytes T.put self.old self.new ident_field (big_bytes 2 value) }
+        ensures len { KeepsLen inner T.bytes self.old self.new }
     {
         self.buffer.set_u16(field::ECHO_IDENT, value);
     }
@@ -179,8 +180,8 @@ impl<T: OctetsMut> Packet<T> {
     /// Writes the sequence number of an echo. Requires at least 8 bytes.
     pub fn set_echo_seq_no(&mut self, value: u16)
         requires { Reaches seq_no_field (T.bytes (inner self.old)) }
-        ensures writes { Sets T.bytes T.put self.old self.new seq_no_field (big_bytes 2 value) }
-        ensures len { KeepsLen T.bytes self.old self.new }
+        ensures writes { Sets inner T.bytes T.put self.old self.new seq_no_field (big_bytes 2 value) }
+        ensures len { KeepsLen inner T.bytes self.old self.new }
     {
         self.buffer.set_u16(field::ECHO_SEQNO, value);
     }
@@ -190,7 +191,7 @@ impl<T: OctetsMut> Packet<T> {
         requires { Reaches checksum_field (T.bytes (inner self.old)) }
         ensures sealed { inner self.new ≡ T.put (inner self.old)
             (sealed checksum_field (T.bytes (inner self.old)) 0) }
-        ensures len { KeepsLen T.bytes self.old self.new }
+        ensures len { KeepsLen inner T.bytes self.old self.new }
         ensures good { IsGood (T.bytes (inner self.new)) 0 }
     {
         checksum::fill(self.buffer.octets_mut(), field::CHECKSUM, 0);

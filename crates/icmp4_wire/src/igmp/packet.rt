@@ -7,7 +7,8 @@ ghost use Rattle.wirebase.specs.Bytes.{Reaches, byte_of, bytes_of, number_of};
 ghost use Rattle.wirebase.specs.Checksum.{IsGood, sealed};
 ghost use Rattle.wirebase.specs.Display.{Shows};
 ghost use Rattle.wirebase.specs.Ipv4.{octets_of};
-ghost use Rattle.icmp4_wire.specs.Igmp.{message_number, message_of, inner, Sets, KeepsLen, IsMessage};
+ghost use Rattle.wirebase.specs.View.{Sets, KeepsLen};
+ghost use Rattle.icmp4_wire.specs.Igmp.{message_number, message_of, inner, IsMessage};
 ghost use Rattle.icmp4_wire.specs.Igmp.{type_field, code_field, checksum_field, group_field};
 ghost use Rattle.icmp4_wire.specs.IgmpDisplay.{repr_display, refused_display};
 
@@ -103,9 +104,9 @@ impl<T: OctetsMut> Packet<T> {
     /// Writes the type. Requires at least 1 byte.
     pub fn set_msg_type(&mut self, value: Message)
         requires { Reaches type_field (T.bytes (inner self.old)) }
-        ensures writes { Sets T.bytes T.put self.old self.new type_field
+        ensures writes { Sets inner T.bytes T.put self.old self.new type_field
             (message_number value ∷ []) }
-        ensures len { KeepsLen T.bytes self.old self.new }
+        ensures len { KeepsLen inner T.bytes self.old self.new }
     {
         self.buffer.set_u8(field::TYPE, value.into());
     }
@@ -113,8 +114,8 @@ impl<T: OctetsMut> Packet<T> {
     /// Writes the code of the maximum response time of a query (RFC 3376 section 4.1.1). Requires at least 2 bytes.
     pub fn set_max_resp_code(&mut self, value: u8)
         requires { Reaches code_field (T.bytes (inner self.old)) }
-        ensures writes { Sets T.bytes T.put self.old self.new code_field (value ∷ []) }
-        ensures len { KeepsLen T.bytes self.old self.new }
+        ensures writes { Sets inner T.bytes T.put self.old self.new code_field (value ∷ []) }
+        ensures len { KeepsLen inner T.bytes self.old self.new }
     {
         self.buffer.set_u8(field::MAX_RESP_CODE, value);
     }
@@ -122,8 +123,8 @@ impl<T: OctetsMut> Packet<T> {
     /// Writes the checksum. Requires at least 4 bytes.
     pub fn set_checksum(&mut self, value: u16)
         requires { Reaches checksum_field (T.bytes (inner self.old)) }
-        ensures writes { Sets T.bytes T.put self.old self.new checksum_field (big_bytes 2 value) }
-        ensures len { KeepsLen T.bytes self.old self.new }
+        ensures writes { Sets inner T.bytes T.put self.old self.new checksum_field (big_bytes 2 value) }
+        ensures len { KeepsLen inner T.bytes self.old self.new }
     {
         self.buffer.set_u16(field::CHECKSUM, value);
     }
@@ -131,8 +132,8 @@ impl<T: OctetsMut> Packet<T> {
     /// Writes the group of the message. Requires at least 8 bytes.
     pub fn set_group_address(&mut self, value: Ipv4Address)
         requires { Reaches group_field (T.bytes (inner self.old)) }
-        ensures writes { Sets T.bytes T.put self.old self.new group_field (octets_of value) }
-        ensures len { KeepsLen T.bytes self.old self.new }
+        ensures writes { Sets inner T.bytes T.put self.old self.new group_field (octets_of value) }
+        ensures len { KeepsLen inner T.bytes self.old self.new }
     {
         self.buffer.set_bytes(field::GROUP_ADDRESS, &value.octets());
     }
@@ -142,7 +143,7 @@ impl<T: OctetsMut> Packet<T> {
         requires { Reaches checksum_field (T.bytes (inner self.old)) }
         ensures sealed { inner self.new ≡ T.put (inner self.old)
             (sealed checksum_field (T.bytes (inner self.old)) 0) }
-        ensures len { KeepsLen T.bytes self.old self.new }
+        ensures len { KeepsLen inner T.bytes self.old self.new }
         ensures good { IsGood (T.bytes (inner self.new)) 0 }
     {
         checksum::fill(self.buffer.octets_mut(), field::CHECKSUM, 0);

@@ -6,8 +6,9 @@ ghost use Rattle.byteorder.specs.Endian.{big_bytes};
 ghost use Rattle.wirebase.specs.Bytes.{splice, Reaches, byte_of, number_of};
 ghost use Rattle.wirebase.specs.Checksum.{fold, IsGood, sealed};
 ghost use Rattle.wirebase.specs.Icmp.{type_field, code_field, checksum_field, ident_field, seq_no_field};
+ghost use Rattle.wirebase.specs.View.{Sets, KeepsLen};
 ghost use Rattle.icmp6_wire.specs.Icmpv6Tables.{message_number};
-ghost use Rattle.icmp6_wire.specs.Icmpv6Packet.{inner, with_inner, view_octets, Sets, KeepsLen, word_field, message_in};
+ghost use Rattle.icmp6_wire.specs.Icmpv6Packet.{inner, with_inner, view_octets, word_field, message_in};
 ghost use Rattle.icmp6_wire.specs.Icmpv6Packet.{header_len_of, header_len_in, payload_in, BeginsWhole, cleared};
 ghost use Rattle.icmp6_wire.specs.Icmpv6Packet.{CanClear, message_sum};
 ghost use Rattle.icmp6_wire.specs.contracts.icmpv6.packet.Packet.{the_row};
@@ -188,9 +189,9 @@ impl<T: OctetsMut> Packet<T> {
     /// Writes the type. Requires at least 1 byte.
     pub fn set_msg_type(&mut self, value: Message)
         requires { Reaches type_field (T.bytes (inner self.old)) }
-        ensures writes { Sets T.bytes T.put self.old self.new type_field
+        ensures writes { Sets inner T.bytes T.put self.old self.new type_field
             (message_number value ∷ []) }
-        ensures len { KeepsLen T.bytes self.old self.new }
+        ensures len { KeepsLen inner T.bytes self.old self.new }
     {
         self.buffer.set_u8(field::TYPE, value.into());
     }
@@ -198,8 +199,8 @@ impl<T: OctetsMut> Packet<T> {
     /// Writes the code. Requires at least 2 bytes.
     pub fn set_msg_code(&mut self, value: u8)
         requires { Reaches code_field (T.bytes (inner self.old)) }
-        ensures writes { Sets T.bytes T.put self.old self.new code_field (value ∷ []) }
-        ensures len { KeepsLen T.bytes self.old self.new }
+        ensures writes { Sets inner T.bytes T.put self.old self.new code_field (value ∷ []) }
+        ensures len { KeepsLen inner T.bytes self.old self.new }
     {
         self.buffer.set_u8(field::CODE, value);
     }
@@ -214,7 +215,7 @@ impl<T: OctetsMut> Packet<T> {
             (T.bytes (inner self.old)) }
         ensures clears { inner self.new ≡ T.put (inner self.old)
             (cleared (message_in (T.bytes (inner self.old))) (T.bytes (inner self.old))) }
-        ensures len { KeepsLen T.bytes self.old self.new }
+        ensures len { KeepsLen inner T.bytes self.old self.new }
     {
         match self.msg_type() {
             Message::MldQuery => {
@@ -230,8 +231,8 @@ impl<T: OctetsMut> Packet<T> {
     /// Writes the checksum. Requires at least 4 bytes.
     pub fn set_checksum(&mut self, value: u16)
         requires { Reaches checksum_field (T.bytes (inner self.old)) }
-        ensures writes { Sets T.bytes T.put self.old self.new checksum_field (big_bytes 2 value) }
-        ensures len { KeepsLen T.bytes self.old self.new }
+        ensures writes { Sets inner T.bytes T.put self.old self.new checksum_field (big_bytes 2 value) }
+        ensures len { KeepsLen inner T.bytes self.old self.new }
     {
         self.buffer.set_u16(field::CHECKSUM, value);
     }
@@ -239,8 +240,8 @@ impl<T: OctetsMut> Packet<T> {
     /// Writes the identifier of an echo. Requires at least 6 bytes.
     pub fn set_echo_ident(&mut self, value: u16)
         requires { Reaches ident_field (T.bytes (inner self.old)) }
-        ensures writes { Sets T.bytes T.put self.old self.new ident_field (big_bytes 2 value) }
-        ensures len { KeepsLen T.bytes self.old self.new }
+        ensures writes { Sets inner T.bytes T.put self.old self.new ident_field (big_bytes 2 value) }
+        ensures len { KeepsLen inner T.bytes self.old self.new }
     {
         self.buffer.set_u16(field::ECHO_IDENT, value);
     }
@@ -248,8 +249,8 @@ impl<T: OctetsMut> Packet<T> {
     /// Writes the sequence number of an echo. Requires at least 8 bytes.
     pub fn set_echo_seq_no(&mut self, value: u16)
         requires { Reaches seq_no_field (T.bytes (inner self.old)) }
-        ensures writes { Sets T.bytes T.put self.old self.new seq_no_field (big_bytes 2 value) }
-        ensures len { KeepsLen T.bytes self.old self.new }
+        ensures writes { Sets inner T.bytes T.put self.old self.new seq_no_field (big_bytes 2 value) }
+        ensures len { KeepsLen inner T.bytes self.old self.new }
     {
         self.buffer.set_u16(field::ECHO_SEQNO, value);
     }
@@ -258,8 +259,8 @@ impl<T: OctetsMut> Packet<T> {
     /// bytes.
     pub fn set_pkt_too_big_mtu(&mut self, value: u32)
         requires { Reaches word_field (T.bytes (inner self.old)) }
-        ensures writes { Sets T.bytes T.put self.old self.new word_field (big_bytes 4 value) }
-        ensures len { KeepsLen T.bytes self.old self.new }
+        ensures writes { Sets inner T.bytes T.put self.old self.new word_field (big_bytes 4 value) }
+        ensures len { KeepsLen inner T.bytes self.old self.new }
     {
         self.buffer.set_u32(field::MTU, value);
     }
@@ -267,8 +268,8 @@ impl<T: OctetsMut> Packet<T> {
     /// Writes the place of a parameter problem in the quoted packet (RFC 4443 section 3.4). Requires at least 8 bytes.
     pub fn set_param_problem_ptr(&mut self, value: u32)
         requires { Reaches word_field (T.bytes (inner self.old)) }
-        ensures writes { Sets T.bytes T.put self.old self.new word_field (big_bytes 4 value) }
-        ensures len { KeepsLen T.bytes self.old self.new }
+        ensures writes { Sets inner T.bytes T.put self.old self.new word_field (big_bytes 4 value) }
+        ensures len { KeepsLen inner T.bytes self.old self.new }
     {
         self.buffer.set_u32(field::POINTER, value);
     }
@@ -280,7 +281,7 @@ impl<T: OctetsMut> Packet<T> {
         ensures sealed { inner self.new ≡ T.put (inner self.old)
             (sealed checksum_field (T.bytes (inner self.old))
             (message_sum src_addr.now dst_addr.now (length (T.bytes (inner self.old))))) }
-        ensures len { KeepsLen T.bytes self.old self.new }
+        ensures len { KeepsLen inner T.bytes self.old self.new }
         ensures good { IsGood (T.bytes (inner self.new))
             (message_sum src_addr.now dst_addr.now (length (T.bytes (inner self.old)))) }
     {

@@ -5,7 +5,8 @@ ghost use Rattle.byteorder.specs.Endian.{big_bytes};
 ghost use Rattle.wirebase.specs.Bytes.{Reaches, byte_of, bytes_of, number_of};
 ghost use Rattle.wirebase.specs.Duration.{micros_of};
 ghost use Rattle.wirebase.specs.Ipv6Address.{octets_of};
-ghost use Rattle.icmp6_wire.specs.Icmpv6Packet.{inner, Sets, KeepsLen, sqrv_field};
+ghost use Rattle.wirebase.specs.View.{Sets, KeepsLen};
+ghost use Rattle.icmp6_wire.specs.Icmpv6Packet.{inner, sqrv_field};
 ghost use Rattle.icmp6_wire.specs.MldPacket.{max_resp_code_field, mcast_addr_field, qqic_field, num_srcs_field};
 ghost use Rattle.icmp6_wire.specs.MldPacket.{nr_mcast_addr_rcrds_field, resp_millis, s_flag_in, qrv_in};
 
@@ -104,9 +105,9 @@ impl<T: OctetsMut> Packet<T> {
     /// Writes the code of the maximum response time of a query. Requires at least 6 bytes.
     pub fn set_max_resp_code(&mut self, value: u16)
         requires { Reaches max_resp_code_field (T.bytes (inner self.old)) }
-        ensures writes { Sets T.bytes T.put self.old self.new max_resp_code_field
+        ensures writes { Sets inner T.bytes T.put self.old self.new max_resp_code_field
             (big_bytes 2 value) }
-        ensures len { KeepsLen T.bytes self.old self.new }
+        ensures len { KeepsLen inner T.bytes self.old self.new }
     {
         self.buffer.set_u16(field::MAX_RESP_CODE, value);
     }
@@ -114,8 +115,8 @@ impl<T: OctetsMut> Packet<T> {
     /// Writes the group that a query asks for. Requires at least 24 bytes.
     pub fn set_mcast_addr(&mut self, value: Ipv6Address)
         requires { Reaches mcast_addr_field (T.bytes (inner self.old)) }
-        ensures writes { Sets T.bytes T.put self.old self.new mcast_addr_field (octets_of value) }
-        ensures len { KeepsLen T.bytes self.old self.new }
+        ensures writes { Sets inner T.bytes T.put self.old self.new mcast_addr_field (octets_of value) }
+        ensures len { KeepsLen inner T.bytes self.old self.new }
     {
         self.buffer
             .set_bytes(field::QUERY_MCAST_ADDR, &value.octets());
@@ -124,9 +125,9 @@ impl<T: OctetsMut> Packet<T> {
     /// Sets the flag S, and writes zeros into the reserved bits beside it. Requires at least 25 bytes.
     pub fn set_s_flag(&mut self)
         requires { Reaches sqrv_field (T.bytes (inner self.old)) }
-        ensures writes { Sets T.bytes T.put self.old self.new sqrv_field
+        ensures writes { Sets inner T.bytes T.put self.old self.new sqrv_field
             ((8 + qrv_in (T.bytes (inner self.old))) ∷ []) }
-        ensures len { KeepsLen T.bytes self.old self.new }
+        ensures len { KeepsLen inner T.bytes self.old self.new }
     {
         let qrv = self.qrv();
         self.buffer.set_u8(field::SQRV, S_FLAG + qrv);
@@ -135,9 +136,9 @@ impl<T: OctetsMut> Packet<T> {
     /// Clears the flag S, and the reserved bits beside it. Requires at least 25 bytes.
     pub fn clear_s_flag(&mut self)
         requires { Reaches sqrv_field (T.bytes (inner self.old)) }
-        ensures writes { Sets T.bytes T.put self.old self.new sqrv_field
+        ensures writes { Sets inner T.bytes T.put self.old self.new sqrv_field
             (qrv_in (T.bytes (inner self.old)) ∷ []) }
-        ensures len { KeepsLen T.bytes self.old self.new }
+        ensures len { KeepsLen inner T.bytes self.old self.new }
     {
         let qrv = self.qrv();
         self.buffer.set_u8(field::SQRV, qrv);
@@ -148,9 +149,9 @@ impl<T: OctetsMut> Packet<T> {
     pub fn set_qrv(&mut self, value: u8)
         requires small { value < 8 }
         requires room { Reaches sqrv_field (T.bytes (inner self.old)) }
-        ensures writes { Sets T.bytes T.put self.old self.new sqrv_field
+        ensures writes { Sets inner T.bytes T.put self.old self.new sqrv_field
             ((8 * s_flag_in (T.bytes (inner self.old)) + value) ∷ []) }
-        ensures len { KeepsLen T.bytes self.old self.new }
+        ensures len { KeepsLen inner T.bytes self.old self.new }
     {
         let flag = self.buffer.u8_at(field::SQRV) / S_FLAG % 2;
         self.buffer.set_u8(field::SQRV, S_FLAG * flag + value);
@@ -159,8 +160,8 @@ impl<T: OctetsMut> Packet<T> {
     /// Writes the code of the querier's interval. Requires at least 26 bytes.
     pub fn set_qqic(&mut self, value: u8)
         requires { Reaches qqic_field (T.bytes (inner self.old)) }
-        ensures writes { Sets T.bytes T.put self.old self.new qqic_field (value ∷ []) }
-        ensures len { KeepsLen T.bytes self.old self.new }
+        ensures writes { Sets inner T.bytes T.put self.old self.new qqic_field (value ∷ []) }
+        ensures len { KeepsLen inner T.bytes self.old self.new }
     {
         self.buffer.set_u8(field::QQIC, value);
     }
@@ -168,8 +169,8 @@ impl<T: OctetsMut> Packet<T> {
     /// Writes the number of sources in a query. Requires at least 28 bytes.
     pub fn set_num_srcs(&mut self, value: u16)
         requires { Reaches num_srcs_field (T.bytes (inner self.old)) }
-        ensures writes { Sets T.bytes T.put self.old self.new num_srcs_field (big_bytes 2 value) }
-        ensures len { KeepsLen T.bytes self.old self.new }
+        ensures writes { Sets inner T.bytes T.put self.old self.new num_srcs_field (big_bytes 2 value) }
+        ensures len { KeepsLen inner T.bytes self.old self.new }
     {
         self.buffer.set_u16(field::QUERY_NUM_SRCS, value);
     }
@@ -177,9 +178,9 @@ impl<T: OctetsMut> Packet<T> {
     /// Writes the number of records in a report. Requires at least 8 bytes.
     pub fn set_nr_mcast_addr_rcrds(&mut self, value: u16)
         requires { Reaches nr_mcast_addr_rcrds_field (T.bytes (inner self.old)) }
-        ensures writes { Sets T.bytes T.put self.old self.new nr_mcast_addr_rcrds_field
+        ensures writes { Sets inner T.bytes T.put self.old self.new nr_mcast_addr_rcrds_field
             (big_bytes 2 value) }
-        ensures len { KeepsLen T.bytes self.old self.new }
+        ensures len { KeepsLen inner T.bytes self.old self.new }
     {
         self.buffer.set_u16(field::NR_MCAST_RCRDS, value);
     }

@@ -7,8 +7,9 @@ ghost use Rattle.byteorder.specs.Endian.{big_bytes};
 ghost use Rattle.wirebase.specs.Bytes.{splice, Reaches, byte_of, bytes_of, number_of, over};
 ghost use Rattle.wirebase.specs.Format.{Rewrites, SameText};
 ghost use Rattle.wirebase.specs.Ipv6Address.{octets_of, IsMulticast};
+ghost use Rattle.wirebase.specs.View.{Sets, KeepsLen};
 ghost use Rattle.icmp6_wire.specs.MldTables.{record_type_number, record_type_of};
-ghost use Rattle.icmp6_wire.specs.MldRecord.{inner, with_inner, view_octets, Sets, KeepsLen, record_type_field};
+ghost use Rattle.icmp6_wire.specs.MldRecord.{inner, with_inner, view_octets, record_type_field};
 ghost use Rattle.icmp6_wire.specs.MldRecord.{aux_data_len_field, num_srcs_field, mcast_addr_field, payload_in};
 ghost use Rattle.icmp6_wire.specs.MldRecord.{RecordValue, address_record, value_of, text, group_of, IsRecord, format};
 ghost use Rattle.icmp6_wire.specs.MldRecord.{Emits};
@@ -114,9 +115,9 @@ impl<T: OctetsMut> AddressRecord<T> {
     /// Writes the type. Requires at least 1 byte.
     pub fn set_record_type(&mut self, value: RecordType)
         requires { Reaches record_type_field (T.bytes (inner self.old)) }
-        ensures writes { Sets T.bytes T.put self.old self.new record_type_field
+        ensures writes { Sets inner T.bytes T.put self.old self.new record_type_field
             (record_type_number value ∷ []) }
-        ensures len { KeepsLen T.bytes self.old self.new }
+        ensures len { KeepsLen inner T.bytes self.old self.new }
     {
         self.buffer.set_u8(field::RECORD_TYPE, value.into());
     }
@@ -124,8 +125,8 @@ impl<T: OctetsMut> AddressRecord<T> {
     /// Writes the words of 4 bytes that the auxiliary data has. Requires at least 2 bytes.
     pub fn set_aux_data_len(&mut self, value: u8)
         requires { Reaches aux_data_len_field (T.bytes (inner self.old)) }
-        ensures writes { Sets T.bytes T.put self.old self.new aux_data_len_field (value ∷ []) }
-        ensures len { KeepsLen T.bytes self.old self.new }
+        ensures writes { Sets inner T.bytes T.put self.old self.new aux_data_len_field (value ∷ []) }
+        ensures len { KeepsLen inner T.bytes self.old self.new }
     {
         self.buffer.set_u8(field::AUX_DATA_LEN, value);
     }
@@ -133,8 +134,8 @@ impl<T: OctetsMut> AddressRecord<T> {
     /// Writes the number of sources. Requires at least 4 bytes.
     pub fn set_num_srcs(&mut self, value: u16)
         requires { Reaches num_srcs_field (T.bytes (inner self.old)) }
-        ensures writes { Sets T.bytes T.put self.old self.new num_srcs_field (big_bytes 2 value) }
-        ensures len { KeepsLen T.bytes self.old self.new }
+        ensures writes { Sets inner T.bytes T.put self.old self.new num_srcs_field (big_bytes 2 value) }
+        ensures len { KeepsLen inner T.bytes self.old self.new }
     {
         self.buffer.set_u16(field::RECORD_NUM_SRCS, value);
     }
@@ -143,8 +144,8 @@ impl<T: OctetsMut> AddressRecord<T> {
     pub fn set_mcast_addr(&mut self, value: Ipv6Address)
         requires room { Reaches mcast_addr_field (T.bytes (inner self.old)) }
         requires group { IsMulticast value }
-        ensures writes { Sets T.bytes T.put self.old self.new mcast_addr_field (octets_of value) }
-        ensures len { KeepsLen T.bytes self.old self.new }
+        ensures writes { Sets inner T.bytes T.put self.old self.new mcast_addr_field (octets_of value) }
+        ensures len { KeepsLen inner T.bytes self.old self.new }
     {
         self.buffer
             .set_bytes(field::RECORD_MCAST_ADDR, &value.octets());
