@@ -107,10 +107,10 @@ def units_of(sources):
     units = [Unit(pathlib.Path(), library, modules, root, outside)]
     for crate in library:
         read_crate(sources, units[0], crate, public.get(crate, crate), False)
-    for crate in kinds["package"]:
-        units.append(Unit(folder_of(kinds, crate), [crate], outside, crate, outside))
-        read_crate(sources, units[-1], crate, crate, True)
     inside = {f"{crate}::{module}": "control_wire::inside" for crate, [module] in kinds["inside"].items()}
+    for crate in kinds["package"]:
+        units.append(Unit(folder_of(kinds, crate), [crate], {**outside, **inside}, crate, outside))
+        read_crate(sources, units[-1], crate, crate, True)
     for crate, [of, name] in kinds["tests"].items():
         units.append(Unit(folder_of(kinds, of), [crate], {**outside, **inside}, crate, outside, name))
         read_crate(sources, units[-1], crate, name, True)

@@ -288,7 +288,13 @@ def nothing(file, i):
 
 @rule(STD)
 def formatter(file, i):
-    """`fn fmt<W: fmt::Write>(.., f: &mut fmt::Formatter<W>)` loses its writer, for which Rust has no parameter."""
+    """`fn fmt<W: fmt::Write>(.., f: &mut fmt::Formatter<W>)` loses its writer, for which Rust has no parameter, and so
+    does `impl<W: fmt::Write> Sink<fmt::Formatter<W>> for ..`."""
+    if file.texts(i, "impl", "<", "W", ":", "fmt", "::", "Write", ">"):
+        for k in range(i, file.close(file.body(i))):
+            if file.texts(k, "Formatter", "<", "W", ">"):
+                file.replace(k + 2, k + 3, "'_")
+        return file.remove(i + 1, i + 8, comment=False)
     if file.text(i) != "fn" or file.text(i + 2) != "<":
         return None
     close = file.close_angle(i + 2)
@@ -299,19 +305,6 @@ def formatter(file, i):
             file.replace(k + 2, k + 3, "'_")
             return file.remove(i + 2, close + 1, comment=False)
     return None
-
-
-@rule(STD)
-def hex_groups(file, i):
-    """`Ipv6Addr::from(..).hex_groups()`, which Rust's std does not have, is `HexGroups(..)` of the files by hand."""
-    if not file.texts(i, "Ipv6Addr", "::", "from", "("):
-        return None
-    close = file.close(i + 3)
-    if not file.texts(close + 1, ".", "hex_groups", "(", ")"):
-        file.refuse(i, "an Ipv6Addr that is not printed by its groups")
-    file.remove(close + 1, close + 5, comment=False)
-    file.replace(i, i + 3, "crate::by_hand::HexGroups")
-    return i
 
 
 @rule(STD)

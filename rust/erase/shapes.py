@@ -39,7 +39,6 @@ SHAPES = {
     "debug": (r"Debug ,", ""),
     "nothing": (ATTRIBUTES + r"fn \w+ [^{};]*\{ \.\. \}|(\w+ :: )*\w+ \( \.\. \) ;|, \w+|\w+ ,", ""),
     "formatter": (r"W|< W : fmt :: Write >", r"('_)?"),
-    "hex_groups": (r"Ipv6Addr :: from|\. hex_groups \( \.\. \)", r"(crate :: by_hand :: HexGroups)?"),
     "from_utf8": (r"str", r"core :: str"),
     "label": (r"'\w+ :", ""),
     "flag_set": (r"# \[ \.\. \] pub struct \w+ \( \.\. \) ;|impl [^{};]*\{ \.\. \}",

@@ -5,7 +5,4 @@ mod names;
 mod octets;
 mod packets;
 pub mod smoltcp;
-mod text;
 mod values;
-
-pub(crate) use text::HexGroups;

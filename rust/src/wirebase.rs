@@ -15,6 +15,7 @@ pub mod ip;
 pub mod ipv4;
 pub mod ipv6;
 pub mod octets;
+pub mod text;
 
 pub use byte_writer::ByteWriter;
 pub use capabilities::{Checksum, ChecksumCapabilities};

@@ -7,12 +7,9 @@ use Rattle.capture.specs.Packet.{PacketValue, packet_in}
 use Rattle.capture.specs.Pcapng.{IsOption, option_end, TellsOption, here, later, HasResolution, told, microseconds}
 use Rattle.capture.specs.Pcapng.{HasOffset, moved_by, not_moved, link_type_field, snap_len_field, IsInterface}
 use Rattle.capture.specs.Pcapng.{IsHead, BeginsPacket, ShowsPacket, first, behind}
+use Rattle.capture.specs.Pcapng.{obsolete_kind, simple_kind, enhanced_kind, interface_field, short_interface_field}
 use Rattle.capture.specs.Pcapng.{IsTimed, IsSimple, IsPacket, obsolete, simple, enhanced}
-use Rattle.capture.specs.declared.ending.Refusal.{Refusal}
-use Rattle.capture.specs.declared.order.Order.{Order}
-use Rattle.capture.specs.declared.pcapng.Head.{Head}
-use Rattle.capture.specs.declared.pcapng.Interface.{Interface}
-use Rattle.capture.specs.declared.packet.Packet.{Packet}
+use Rattle.capture.specs.Types.{Refusal, Order, Head, Interface, Packet}
 
 -- ---- options
 
@@ -125,30 +122,34 @@ module _ (order : Order) (interfaces : List Interface) (bytes : List ℕ) (kind 
   abbrev pub OfKind : PacketValue → Type 0
   OfKind p = IsPacket order interfaces bytes p kind
 
-  pub obsolete_sound : kind ≡ 2 → place ≡ number_in order (field 8 10) bytes → (r : Result Packet Refusal)
-      → IfOk r (λ packet. Timed (packet_in packet bytes)) → IfOk r (λ packet. OfKind (packet_in packet bytes))
+  pub obsolete_sound : kind ≡ obsolete_kind → place ≡ number_in order short_interface_field bytes
+      → (r : Result Packet Refusal) → IfOk r (λ packet. Timed (packet_in packet bytes))
+      → IfOk r (λ packet. OfKind (packet_in packet bytes))
   obsolete_sound is e (Ok packet) h =
       obsolete is (subst (λ i. IsTimed order interfaces i bytes (packet_in packet bytes)) e h)
   obsolete_sound is e (Err error) h = tt
 
-  pub enhanced_sound : kind ≡ 6 → place ≡ number_in order (field 8 12) bytes → (r : Result Packet Refusal)
-      → IfOk r (λ packet. Timed (packet_in packet bytes)) → IfOk r (λ packet. OfKind (packet_in packet bytes))
+  pub enhanced_sound : kind ≡ enhanced_kind → place ≡ number_in order interface_field bytes
+      → (r : Result Packet Refusal) → IfOk r (λ packet. Timed (packet_in packet bytes))
+      → IfOk r (λ packet. OfKind (packet_in packet bytes))
   enhanced_sound is e (Ok packet) h =
       enhanced is (subst (λ i. IsTimed order interfaces i bytes (packet_in packet bytes)) e h)
   enhanced_sound is e (Err error) h = tt
 
-  pub simple_sound : kind ≡ 3 → (r : Result Packet Refusal)
+  pub simple_sound : kind ≡ simple_kind → (r : Result Packet Refusal)
       → IfOk r (λ packet. IsSimple order interfaces bytes (packet_in packet bytes))
       → IfOk r (λ packet. OfKind (packet_in packet bytes))
   simple_sound is (Ok packet) h = simple is h
   simple_sound is (Err error) h = tt
 
-  pub obsolete_timed : kind ≡ 2 → place ≡ number_in order (field 8 10) bytes → (p : PacketValue) → OfKind p → Timed p
+  pub obsolete_timed : kind ≡ obsolete_kind → place ≡ number_in order short_interface_field bytes
+      → (p : PacketValue) → OfKind p → Timed p
   obsolete_timed is e p (obsolete k h) = subst (λ i. IsTimed order interfaces i bytes p) (sym e) h
   obsolete_timed is e p (simple k h) = absurd (omega (arith, is, k))
   obsolete_timed is e p (enhanced k h) = absurd (omega (arith, is, k))
 
-  pub enhanced_timed : kind ≡ 6 → place ≡ number_in order (field 8 12) bytes → (p : PacketValue) → OfKind p → Timed p
+  pub enhanced_timed : kind ≡ enhanced_kind → place ≡ number_in order interface_field bytes
+      → (p : PacketValue) → OfKind p → Timed p
   enhanced_timed is e p (enhanced k h) = subst (λ i. IsTimed order interfaces i bytes p) (sym e) h
   enhanced_timed is e p (simple k h) = absurd (omega (arith, is, k))
   enhanced_timed is e p (obsolete k h) = absurd (omega (arith, is, k))

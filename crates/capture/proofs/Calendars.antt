@@ -5,7 +5,7 @@ use Rattle.std.proofs.lemmas.Bool.{le-ltb, eqb-true, eqb-false}
 use Rattle.std.specs.Prelude.{◌==◌, ◌&&◌, ◌||◌, not, nat_lt, if◌then◌else◌}
 use Rattle.capture.specs.Calendar.{is_leap, month_days, date, next_date, date_of, days_of_months, year_days}
 use Rattle.capture.specs.Calendar.{days_of_years}
-use Rattle.capture.specs.declared.calendar.Date.{Date}
+use Rattle.capture.specs.Types.{Date}
 
 -- ---- days
 

@@ -11,14 +11,7 @@ use Rattle.capture.specs.Taken.{Splits}
 use Rattle.capture.specs.Time.{IsTime, value_of, time_value, fraction_of, digits_in}
 use Rattle.capture.specs.Unit as unit
 use Rattle.capture.specs.Unit.{record_form, RecordHeadEnds, UnitEnds, none, no_head, UnitReads}
-use Rattle.capture.specs.declared.ending.Ending.{Ending}
-use Rattle.capture.specs.declared.ending.Ending.TheVariants.{Whole, Cut, TooLarge, TooManyInterfaces, Malformed}
-use Rattle.capture.specs.declared.ending.Ending.TheVariants.{Version, NotACapture}
-use Rattle.capture.specs.declared.packet.Packet.{Packet}
-use Rattle.capture.specs.declared.pcap.FileHeader.{FileHeader}
-use Rattle.capture.specs.declared.pcap.RecordHeader.{RecordHeader}
-use Rattle.capture.specs.declared.time.Time.{Time}
-use Rattle.capture.specs.declared.unit.Taken.TheVariants.{Read}
+use Rattle.capture.specs.Types.{Ending, Packet, FileHeader, RecordHeader, Time, Taken}
 use Rattle.capture.proofs.Filling.{no_byte, reads_splits}
 
 -- the content of a time that is there
@@ -29,14 +22,14 @@ told_time (Some time) nanoseconds digits is = rw (is.sum, is.digits_are) refl
 
 module _ (h : FileHeader) (all : List ℕ) where
   head_ends : (ending : Ending) → RecordHeadEnds h.order (take 16 all) ending → RecordEnds most_octets h all ending
-  head_ends Whole none' = ends_whole (no_byte all (omega (arith, ap length none', length-take 16 all)))
-  head_ends Cut short =
+  head_ends Ending.Whole none' = ends_whole (no_byte all (omega (arith, ap length none', length-take 16 all)))
+  head_ends Ending.Cut short =
       head_cut (λ e. short.0 (ap (take 16) e)) (omega (arith, short.1, length-take 16 all))
-  head_ends TooLarge many = large many.0 many.1 many.2
-  head_ends TooManyInterfaces no' = absurd no'
-  head_ends (Malformed refusal) no' = absurd no'
-  head_ends Version no' = absurd no'
-  head_ends NotACapture no' = absurd no'
+  head_ends Ending.TooLarge many = large many.0 many.1 many.2
+  head_ends Ending.TooManyInterfaces no' = absurd no'
+  head_ends (Ending.Malformed refusal) no' = absurd no'
+  head_ends Ending.Version no' = absurd no'
+  head_ends Ending.NotACapture no' = absurd no'
 
   pub record_ends : (ending : Ending) → UnitEnds 16 record_form h.order all ending → RecordEnds most_octets h all ending
   record_ends ending (none e is) = subst (RecordEnds most_octets h all) (sym is) (ends_whole e)
@@ -45,7 +38,7 @@ module _ (h : FileHeader) (all : List ℕ) where
       subst (RecordEnds most_octets h all) (sym e) (cut r is.0 is.1 short)
 
   pub record_read : (octets : List ℕ) (left : Option (List ℕ)) (r : RecordHeader) (k : Packet)
-      → UnitReads 16 record_form h.order all (Read r) octets left → k.start ≡ 16 → k.captured_len ≡ r.captured_len
+      → UnitReads 16 record_form h.order all (Taken.Read r) octets left → k.start ≡ 16 → k.captured_len ≡ r.captured_len
       → k.original_len ≡ r.original_len → k.link_type ≡ h.link_type
       → IsSomeAnd k.time (λ time. IsTime time (r.seconds * 1000000000 + fraction_of h.precision r.fraction)
       (digits_in h.precision))

@@ -8,17 +8,12 @@ use Rattle.capture.specs.Capture as block
 use Rattle.capture.specs.Capture.{State, state, IsBlock, passed, header, described, held, BlockEnds}
 use Rattle.capture.specs.Capture.{refused, Refused, no_section, no_interface, many, no_packet, large}
 use Rattle.capture.specs.Packet.{packet_in}
-use Rattle.capture.specs.Pcapng.{IsHead, HeadEnds, IsRead, IsClosed, section_kind}
-use Rattle.capture.specs.Taken.{Splits, SectionTakes, InterfaceTakes, PacketTakes, BlockTakes, BlockGives, IsWholeBlock}
+use Rattle.capture.specs.Pcapng.{IsHead, HeadEnds, IsRead, IsClosed, section_kind, interface_kind}
+use Rattle.capture.specs.Taken.{Splits, SectionTakes, InterfaceTakes, PacketTakes, BlockTakes, BlockGives}
+use Rattle.capture.specs.Taken.{IsWholeBlock}
 use Rattle.capture.specs.Unit as unit
 use Rattle.capture.specs.Unit.{block_form, UnitEnds, none, no_head}
-use Rattle.capture.specs.declared.capture.Stage.TheVariants.{Section}
-use Rattle.capture.specs.declared.capture.Step.{Step}
-use Rattle.capture.specs.declared.capture.Step.TheVariants as step
-use Rattle.capture.specs.declared.ending.Ending.{Ending}
-use Rattle.capture.specs.declared.order.Order.{Order}
-use Rattle.capture.specs.declared.pcapng.Head.{Head}
-use Rattle.capture.specs.declared.pcapng.Interface.{Interface}
+use Rattle.capture.specs.Types.{Stage, Step, Ending, Order, Head, Interface}
 
 pub if_ok : {T E : Type 0} (P Q : T → Type 0) (r : Result T E) → ((x : T) → P x → Q x) → IfOk r P → IfOk r Q
 if_ok P Q (Ok x) f h = f x h
@@ -45,27 +40,28 @@ module _ (section : Order) (h : Head) (interfaces : List Interface) (octets : Li
     (w : IsWholeBlock section octets h) (closed : IsClosed h.order octets) where
   pub section_takes : h.kind ≡ section_kind → (s : Step) (new : State) → SectionTakes h.order octets s new
       → BlockTakes section h interfaces octets s new
-  section_takes kind step.Passed new t = header h w.head w.whole closed kind t.0 t.1 refl
-  section_takes kind (step.Packet k) new t = absurd t
-  section_takes kind (step.Ended e) new t = no_section closed kind t
+  section_takes kind Step.Passed new t = header h w.head w.whole closed kind t.0 t.1 refl
+  section_takes kind (Step.Packet k) new t = absurd t
+  section_takes kind (Step.Ended e) new t = no_section closed kind t
 
-  pub interface_takes : h.kind ≡ 1 → (s : Step) (new : State)
-      → InterfaceTakes h.order (state (Section section) interfaces) octets s new
+  pub interface_takes : h.kind ≡ interface_kind → (s : Step) (new : State)
+      → InterfaceTakes h.order (state (Stage.Section section) interfaces) octets s new
       → BlockTakes section h interfaces octets s new
-  interface_takes kind step.Passed new t = described h t.0 w.head w.whole closed kind t.1 t.2 t.3 refl
-  interface_takes kind (step.Packet k) new t = absurd t
-  interface_takes kind (step.Ended e) new (inl t) = no_interface closed kind t.0 t.1
-  interface_takes kind (step.Ended e) new (inr t) = many t.0 closed kind t.1 t.2 t.3
+  interface_takes kind Step.Passed new t = described h t.0 w.head w.whole closed kind t.1 t.2 t.3 refl
+  interface_takes kind (Step.Packet k) new t = absurd t
+  interface_takes kind (Step.Ended e) new (inl t) = no_interface closed kind t.0 t.1
+  interface_takes kind (Step.Ended e) new (inr t) = many t.0 closed kind t.1 t.2 t.3
 
-  pub packet_takes : h.kind ≢ section_kind → h.kind ≢ 1 → (s : Step) → PacketTakes h.order h.kind interfaces octets s
-      → BlockTakes section h interfaces octets s (state (Section section) interfaces)
-  packet_takes no_section' no_interface' step.Passed t = absurd t
-  packet_takes no_section' no_interface' (step.Packet k) t =
+  pub packet_takes : h.kind ≢ section_kind → h.kind ≢ interface_kind → (s : Step)
+      → PacketTakes h.order h.kind interfaces octets s
+      → BlockTakes section h interfaces octets s (state (Stage.Section section) interfaces)
+  packet_takes no_section' no_interface' Step.Passed t = absurd t
+  packet_takes no_section' no_interface' (Step.Packet k) t =
       held h (packet_in k octets) w.head w.whole closed t.0
       (omega (arith, t.1, length-part octets k.start (k.start + k.captured_len) (omega arith) t.2.within)) refl refl
-  packet_takes no_section' no_interface' (step.Ended e) (inl t) =
+  packet_takes no_section' no_interface' (Step.Ended e) (inl t) =
       no_packet t.0 closed no_section' no_interface' t.1 t.2
-  packet_takes no_section' no_interface' (step.Ended e) (inr t) =
+  packet_takes no_section' no_interface' (Step.Ended e) (inr t) =
       large (packet_in t.0 octets) closed t.1
       (omega (arith, t.2, length-part octets t.0.start (t.0.start + t.0.captured_len) (omega arith) t.3.within)) t.4
 
@@ -97,13 +93,14 @@ module _ (section : Order) (interfaces : List Interface) (all : List ℕ) (left 
 
   pub block_passed : (IsRead h.kind → ⊥)
       → (front : List ℕ) × Splits all front left
-      × IsBlock section interfaces front (state (Section section) interfaces) None
+      × IsBlock section interfaces front (state (Stage.Section section) interfaces) None
   block_passed other =
       (take h.total_len all, front_splits, passed h front_head front_length other refl refl)
 
   pub block_read : (octets : List ℕ) → octets ≡ take h.total_len all → IsRead h.kind → (s : Step) (new : State)
-      → BlockTakes section h interfaces octets s new → BlockGives section interfaces all s octets new left
-  block_read octets e read step.Passed new t = (octets, subst (λ l. Splits all l left) (sym e) front_splits, t)
-  block_read octets e read (step.Packet k) new t = (subst (λ l. Splits all l left) (sym e) front_splits, t)
-  block_read octets e read (step.Ended ending) new t =
+      → BlockTakes section h interfaces octets s new
+      → BlockGives section interfaces all s (record { octets = octets; state = new; left = left })
+  block_read octets e read Step.Passed new t = (octets, subst (λ l. Splits all l left) (sym e) front_splits, t)
+  block_read octets e read (Step.Packet k) new t = (subst (λ l. Splits all l left) (sym e) front_splits, t)
+  block_read octets e read (Step.Ended ending) new t =
       refused h is fits read (subst (λ l. Refused h interfaces l ending) e t)

@@ -10,26 +10,15 @@ use Rattle.capture.specs.Packet.{PacketValue, packet_in}
 use Rattle.capture.specs.Pcap.{IsFileHeader, FileEnds}
 use Rattle.capture.specs.Pcapng.{IsHead, IsSectionKind}
 use Rattle.capture.specs.Reader.{Reads}
-use Rattle.capture.specs.Taken.{Splits, RecordGives, BlockGives, StepGives}
-use Rattle.capture.specs.declared.capture.Next.TheVariants as next
-use Rattle.capture.specs.declared.capture.Record.{Record}
-use Rattle.capture.specs.declared.capture.Stage.TheVariants as stage
-use Rattle.capture.specs.declared.capture.Step.{Step}
-use Rattle.capture.specs.declared.capture.Step.TheVariants as step
-use Rattle.capture.specs.declared.ending.Ending.{Ending}
-use Rattle.capture.specs.declared.order.Order.{Order}
-use Rattle.capture.specs.declared.order.Order.TheVariants.{Big}
-use Rattle.capture.specs.declared.pcap.FileHeader.{FileHeader}
-use Rattle.capture.specs.declared.pcapng.Head.{Head}
-use Rattle.capture.specs.declared.packet.Packet.{Packet}
-use Rattle.capture.specs.declared.pcapng.Interface.{Interface}
+use Rattle.capture.specs.Taken.{Splits, After, RecordGives, BlockGives, StepGives}
+use Rattle.capture.specs.Types.{Next, Record, Stage, Step, Ending, Order, FileHeader, Head, Packet, Interface}
 use Rattle.capture.proofs.Filling.{reads_splits, reads_fits, fits_or_not, no_byte}
 
 -- a block has twelve bytes at least
 head_long : (section : Order) (bytes : List ℕ) (h : Head) → IsHead section (take 12 bytes) h → 12 ≤ length bytes
 head_long section bytes h is = omega (arith, is.whole, length-take 12 bytes)
 
-block_long : (section : Order) (interfaces : List Interface) (bytes : List ℕ) (new : State) (p : Option PacketValue)
+pub block_long : (section : Order) (interfaces : List Interface) (bytes : List ℕ) (new : State) (p : Option PacketValue)
     → IsBlock section interfaces bytes new p → 12 ≤ length bytes
 block_long section interfaces bytes new p (passed h is total other e none) = head_long section bytes h is
 block_long section interfaces bytes new p (header h is total closed kind good e none) = head_long section bytes h is
@@ -45,36 +34,37 @@ front_begins all front left s long begins =
 
 -- ---- what was read, by how far the capture was read before
 
-module _ (old : State) (all octets : List ℕ) (new : State) (left : Option (List ℕ)) where
-  pub first_gives : old.stage ≡ stage.Start → BeginsSection all → (s : Step)
-      → BlockGives Big old.interfaces all s octets new left → StepGives old all s octets new left
-  first_gives start begins step.Passed t =
-      (t.0, t.1, first start (front_begins all t.0 left t.1 (block_long _ _ _ _ _ t.2) begins) t.2)
-  first_gives start begins (step.Packet k) t =
-      (t.0, first start (front_begins all octets left t.0 (block_long _ _ _ _ _ t.1) begins) t.1)
-  first_gives start begins (step.Ended ending) t = no_first start begins t
+module _ (old : State) (all : List ℕ) (now : After) where
+  pub first_gives : old.stage ≡ Stage.Start → BeginsSection all → (s : Step)
+      → BlockGives Order.Big old.interfaces all s now → StepGives old all s now
+  first_gives start begins Step.Passed t =
+      (t.0, t.1, first start (front_begins all t.0 now.left t.1 (block_long _ _ _ _ _ t.2) begins) t.2)
+  first_gives start begins (Step.Packet k) t =
+      (t.0, first start (front_begins all now.octets now.left t.0 (block_long _ _ _ _ _ t.1) begins) t.1)
+  first_gives start begins (Step.Ended ending) t = no_first start begins t
 
-  pub block_gives : (section : Order) → old.stage ≡ stage.Section section → (s : Step)
-      → BlockGives section old.interfaces all s octets new left → StepGives old all s octets new left
-  block_gives section at step.Passed t = (t.0, t.1, block section at t.2)
-  block_gives section at (step.Packet k) t = (t.0, block section at t.1)
-  block_gives section at (step.Ended ending) t = no_block section at t
+  pub block_gives : (section : Order) → old.stage ≡ Stage.Section section → (s : Step)
+      → BlockGives section old.interfaces all s now → StepGives old all s now
+  block_gives section at Step.Passed t = (t.0, t.1, block section at t.2)
+  block_gives section at (Step.Packet k) t = (t.0, block section at t.1)
+  block_gives section at (Step.Ended ending) t = no_block section at t
 
-  pub record_gives : (h : FileHeader) → old.stage ≡ stage.File h → new.stage ≡ stage.File h → (s : Step)
-      → RecordGives h all s octets left → StepGives old all s octets new left
-  record_gives h at still step.Passed t = absurd t
-  record_gives h at still (step.Packet k) t = (t.0, kept h (packet_in k octets) at t.1 still refl)
-  record_gives h at still (step.Ended ending) t = no_record h at t
+  pub record_gives : (h : FileHeader) → old.stage ≡ Stage.File h → now.state.stage ≡ Stage.File h → (s : Step)
+      → RecordGives h all s now → StepGives old all s now
+  record_gives h at still Step.Passed t = absurd t
+  record_gives h at still (Step.Packet k) t = (t.0, kept h (packet_in k now.octets) at t.1 still refl)
+  record_gives h at still (Step.Ended ending) t = no_record h at t
 
-  pub file_gives : (h : FileHeader) → old.stage ≡ stage.Start → new.stage ≡ stage.File h → Reads all left octets 24
-      → IsFileHeader octets h → (front : List ℕ) × Splits all front left × IsUnit old front new None
+  pub file_gives : (h : FileHeader) → old.stage ≡ Stage.Start → now.state.stage ≡ Stage.File h
+      → Reads all now.left now.octets 24 → IsFileHeader now.octets h
+      → (front : List ℕ) × Splits all front now.left × IsUnit old front now.state None
   file_gives h start then reads is = (
-    octets,
-    reads_splits all octets left 24 reads,
-    file h start ((reads_fits all octets left 24 reads is.whole).0) is then refl,
+    now.octets,
+    reads_splits all now.octets now.left 24 reads,
+    file h start ((reads_fits all now.octets now.left 24 reads is.whole).0) is then refl,
   )
 
-pub file_ends : (old : State) (all octets front : List ℕ) (left : Option (List ℕ)) → old.stage ≡ stage.Start
+pub file_ends : (old : State) (all octets front : List ℕ) (left : Option (List ℕ)) → old.stage ≡ Stage.Start
     → front ≡ take 4 all → (IsSectionKind front → ⊥) → Reads all left octets 24 → (ending : Ending)
     → FileEnds octets ending → Ends old all ending
 file_ends old all octets front left start e other reads ending is =
@@ -97,41 +87,41 @@ so_far-init s (Some all) = record { rest = all; left_is = refl; holds = λ packe
 behind : (mid : Option (List ℕ)) (rest : List ℕ) → mid ≡ Some rest → Reads rest mid [] 0
 behind mid rest e = record { front = refl; rest = e }
 
-module _ (begin old new : State) (octets : List ℕ) (mid left : Option (List ℕ)) (s : Step)
-    (gives : (all : List ℕ) → Reads all mid [] 0 → StepGives old all s octets new left) where
-  given : (all : List ℕ) (t : Step) → s ≡ t → Reads all mid [] 0 → StepGives old all t octets new left
-  given all t e none = subst (λ x. StepGives old all x octets new left) e (gives all none)
+module _ (begin old : State) (mid : Option (List ℕ)) (after : After) (s : Step)
+    (gives : (all : List ℕ) → Reads all mid [] 0 → StepGives old all s after) where
+  given : (all : List ℕ) (t : Step) → s ≡ t → Reads all mid [] 0 → StepGives old all t after
+  given all t e none = subst (λ x. StepGives old all x after) e (gives all none)
 
-  pub so_far-more : s ≡ step.Passed → (o : Option (List ℕ)) → IfSome o (λ all. SoFar begin old all mid)
-      → IfSome o (λ all. SoFar begin new all left)
+  pub so_far-more : s ≡ Step.Passed → (o : Option (List ℕ)) → IfSome o (λ all. SoFar begin old all mid)
+      → IfSome o (λ all. SoFar begin after.state all after.left)
   so_far-more e None so = tt
   so_far-more e (Some all) so =
-      let is = given so.rest step.Passed e (behind mid so.rest so.left_is) in
+      let is = given so.rest Step.Passed e (behind mid so.rest so.left_is) in
       record {
         rest = is.1.rest;
         left_is = is.1.left_is;
-        holds = λ packets ending h. so.holds packets ending (passes is.0 is.1.rest new is.1.split is.2 h);
+        holds = λ packets ending h. so.holds packets ending (passes is.0 is.1.rest after.state is.1.split is.2 h);
       }
 
-  pub so_far-ended : (ending : Ending) → s ≡ step.Ended ending → (o : Option (List ℕ))
+  pub so_far-ended : (ending : Ending) → s ≡ Step.Ended ending → (o : Option (List ℕ))
       → IfSome o (λ all. SoFar begin old all mid)
-      → IfSome o (λ all. GivesNext begin all (next.Ended ending) [] (state (stage.End ending) []) left)
+      → IfSome o (λ all. GivesNext begin all (Next.Ended ending) [] (state (Stage.End ending) []) after.left)
   so_far-ended ending e None so = tt
   so_far-ended ending e (Some all) so =
-      (so.holds [] ending (ends (given so.rest (step.Ended ending) e (behind mid so.rest so.left_is))), refl)
+      (so.holds [] ending (ends (given so.rest (Step.Ended ending) e (behind mid so.rest so.left_is))), refl)
 
-  pub so_far-packet : (k : Packet) → s ≡ step.Packet k → (r : Record) (now : State) (stored : List ℕ)
-      → packet_of r stored ≡ packet_in k octets → now ≡ new → (o : Option (List ℕ))
+  pub so_far-packet : (k : Packet) → s ≡ Step.Packet k → (r : Record) (now : State) (stored : List ℕ)
+      → packet_of r stored ≡ packet_in k after.octets → now ≡ after.state → (o : Option (List ℕ))
       → IfSome o (λ all. SoFar begin old all mid)
-      → IfSome o (λ all. GivesNext begin all (next.Record r) stored now left)
+      → IfSome o (λ all. GivesNext begin all (Next.Record r) stored now after.left)
   so_far-packet k e r now stored same still None so = tt
   so_far-packet k e r now stored same still (Some all) so =
-      let is = given so.rest (step.Packet k) e (behind mid so.rest so.left_is) in (
+      let is = given so.rest (Step.Packet k) e (behind mid so.rest so.left_is) in (
         is.0.rest,
         is.0.left_is,
         λ packets ending h. so.holds (packet_of r stored ∷ packets) ending
-            (packet octets is.0.rest new (packet_of r stored) is.0.split
-            (subst (λ p. IsUnit old octets new (Some p)) (sym same) is.1)
+            (packet after.octets is.0.rest after.state (packet_of r stored) is.0.split
+            (subst (λ p. IsUnit old after.octets after.state (Some p)) (sym same) is.1)
             (subst (λ x. Holds x is.0.rest packets ending) still h)),
       )
 

@@ -1,6 +1,6 @@
 -- The days since 1970-01-01 as dates of the Gregorian calendar (RFC 3339 section 5.7 and appendix C).
 use Rattle.std.specs.Prelude.{ℕ, zero, suc, ◌+◌, ◌%◌, ◌==◌, ◌&&◌, ◌||◌, not, nat_lt, Bool, if◌then◌else◌}
-use Rattle.capture.specs.declared.calendar.Date.{Date}
+use Rattle.capture.specs.Types.{Date}
 
 -- ---- tables
 

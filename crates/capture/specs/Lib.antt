@@ -10,4 +10,5 @@ pub mod Taken
 pub mod Text
 pub mod Time
 pub mod TimeText
+pub mod Types
 pub mod Unit

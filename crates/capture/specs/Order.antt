@@ -3,13 +3,12 @@ use Rattle.std.specs.Int.{w64, cast_signed}
 use Rattle.std.specs.Prelude.{ℕ, ◌-◌, ℤ, List}
 use Rattle.byteorder.specs.Endian.{big_number, little_number}
 use Rattle.wirebase.specs.Bytes.{Field, bytes_of}
-use Rattle.capture.specs.declared.order.Order.{Order}
-use Rattle.capture.specs.declared.order.Order.TheVariants.{Big, Little}
+use Rattle.capture.specs.Types.{Order}
 
 -- the number in the first n bytes
 abbrev pub number : Order → ℕ → List ℕ → ℕ
-number Big n bytes = big_number n bytes
-number Little n bytes = little_number n bytes
+number Order.Big n bytes = big_number n bytes
+number Order.Little n bytes = little_number n bytes
 
 -- the signed number in the first eight bytes, in two's complement
 abbrev pub signed_number : Order → List ℕ → ℤ

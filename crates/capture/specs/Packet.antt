@@ -3,7 +3,7 @@ use Rattle.std.specs.Prelude.{ℕ, ◌+◌, ◌<◌, ◌≤◌, List, length, Op
 use Rattle.std.specs.Option.{option_map}
 use Rattle.wirebase.specs.Bytes.{part}
 use Rattle.capture.specs.Time.{TimeValue, value_of}
-use Rattle.capture.specs.declared.packet.Packet.{Packet}
+use Rattle.capture.specs.Types.{Packet}
 
 -- a packet by its content; a simple packet of a pcapng file has no time
 pub record PacketValue : Type 0 where

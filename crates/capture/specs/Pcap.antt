@@ -30,14 +30,7 @@ use Rattle.wirebase.specs.Bytes.{Field, field, Reaches, part}
 use Rattle.capture.specs.Order.{number_in}
 use Rattle.capture.specs.Packet.{PacketValue}
 use Rattle.capture.specs.Time.{time_value, fraction_of, digits_in}
-use Rattle.capture.specs.declared.ending.Ending.{Ending}
-use Rattle.capture.specs.declared.ending.Ending.TheVariants.{Whole, Cut, TooLarge, Version, NotACapture}
-use Rattle.capture.specs.declared.order.Order.{Order}
-use Rattle.capture.specs.declared.order.Order.TheVariants.{Big, Little}
-use Rattle.capture.specs.declared.pcap.FileHeader.{FileHeader}
-use Rattle.capture.specs.declared.pcap.Precision.{Precision}
-use Rattle.capture.specs.declared.pcap.Precision.TheVariants.{Micro, Nano}
-use Rattle.capture.specs.declared.pcap.RecordHeader.{RecordHeader}
+use Rattle.capture.specs.Types.{Ending, Order, FileHeader, Precision, RecordHeader}
 
 -- ---- the header of a file
 
@@ -53,17 +46,20 @@ minor_field = field 6 8
 abbrev pub link_type_field : Field
 link_type_field = field 20 24
 
+abbrev pub file_header_len : ℕ
+file_header_len = 24
+
 -- the magic number, its highest byte first, of each byte order and precision of times
 abbrev pub magic_of : Order → Precision → ℕ
-magic_of Big Micro = 0xa1b2c3d4
-magic_of Big Nano = 0xa1b23c4d
-magic_of Little Micro = 0xd4c3b2a1
-magic_of Little Nano = 0x4d3cb2a1
+magic_of Order.Big Precision.Micro = 0xa1b2c3d4
+magic_of Order.Big Precision.Nano = 0xa1b23c4d
+magic_of Order.Little Precision.Micro = 0xd4c3b2a1
+magic_of Order.Little Precision.Nano = 0x4d3cb2a1
 
 -- the bytes begin with the magic number of a byte order and a precision
 pub record HasMagic (bytes : List ℕ) (order : Order) (precision : Precision) : Type 0 where
   pub there : Reaches magic_field bytes
-  pub magic : number_in Big magic_field bytes ≡ magic_of order precision
+  pub magic : number_in Order.Big magic_field bytes ≡ magic_of order precision
 
 -- The grammar of a header, of version 2.4; the upper half of the link type tells of the frames' ends.
 pub record IsFileHeader (bytes : List ℕ) (h : FileHeader) : Type 0 where
@@ -75,9 +71,10 @@ pub record IsFileHeader (bytes : List ℕ) (h : FileHeader) : Type 0 where
 
 -- what ends a capture whose bytes begin with no header: another magic number, fewer bytes, another version
 abbrev pub FileEnds : List ℕ → Ending → Type 0
-FileEnds bytes NotACapture = (order : Order) (precision : Precision) → HasMagic bytes order precision → ⊥
-FileEnds bytes Cut = (length bytes < 24) × ((order : Order) × (precision : Precision) × HasMagic bytes order precision)
-FileEnds bytes Version = (24 ≤ length bytes) × ((h : FileHeader) → IsFileHeader bytes h → ⊥)
+FileEnds bytes Ending.NotACapture = (order : Order) (precision : Precision) → HasMagic bytes order precision → ⊥
+FileEnds bytes Ending.Cut =
+    (length bytes < file_header_len) × ((order : Order) × (precision : Precision) × HasMagic bytes order precision)
+FileEnds bytes Ending.Version = (file_header_len ≤ length bytes) × ((h : FileHeader) → IsFileHeader bytes h → ⊥)
     × ((order : Order) × (precision : Precision) × HasMagic bytes order precision)
 FileEnds bytes _ = ⊥
 
@@ -95,6 +92,9 @@ captured_len_field = field 8 12
 abbrev pub original_len_field : Field
 original_len_field = field 12 16
 
+abbrev pub record_header_len : ℕ
+record_header_len = 16
+
 -- The grammar of a record's header.
 pub record IsRecordHeader (order : Order) (bytes : List ℕ) (r : RecordHeader) : Type 0 where
   pub whole : Reaches original_len_field bytes
@@ -106,26 +106,26 @@ pub record IsRecordHeader (order : Order) (bytes : List ℕ) (r : RecordHeader) 
 -- The grammar of a record of at most this many bytes, in a file with a header.
 pub record IsRecord (most : ℕ) (h : FileHeader) (bytes : List ℕ) (p : PacketValue) : Type 0 where
   pub head : RecordHeader
-  pub is_head : IsRecordHeader h.order (take 16 bytes) head
-  pub whole : length bytes ≡ 16 + head.captured_len
+  pub is_head : IsRecordHeader h.order (take record_header_len bytes) head
+  pub whole : length bytes ≡ record_header_len + head.captured_len
   pub few : head.captured_len ≤ most
   pub time_is : p.time ≡ Some (time_value (head.seconds * 1000000000 + fraction_of h.precision head.fraction)
       (digits_in h.precision))
   pub link_type : p.link_type ≡ h.link_type
   pub original_len : p.original_len ≡ head.original_len
-  pub octets : p.octets ≡ part bytes 16 (16 + head.captured_len)
+  pub octets : p.octets ≡ part bytes record_header_len (record_header_len + head.captured_len)
 
 -- the bytes begin with a whole record of at most this many bytes, by the length that its header tells
 pub record ShowsRecord (most : ℕ) (order : Order) (bytes : List ℕ) : Type 0 where
   pub head : Reaches original_len_field bytes
   pub few : number_in order captured_len_field bytes ≤ most
-  pub whole : 16 + number_in order captured_len_field bytes ≤ length bytes
+  pub whole : record_header_len + number_in order captured_len_field bytes ≤ length bytes
 
 -- what ends a file that goes on with these bytes, and so with no record of at most this many bytes
 pub data RecordEnds (most : ℕ) (h : FileHeader) (bytes : List ℕ) : Ending → Type 0 where
-  ends_whole : bytes ≡ [] → RecordEnds most h bytes Whole
-  head_cut : bytes ≢ [] → length bytes < 16 → RecordEnds most h bytes Cut
-  cut : (head : RecordHeader) → IsRecordHeader h.order (take 16 bytes) head → head.captured_len ≤ most
-      → length bytes < 16 + head.captured_len → RecordEnds most h bytes Cut
-  large : (head : RecordHeader) → IsRecordHeader h.order (take 16 bytes) head → most < head.captured_len
-      → RecordEnds most h bytes TooLarge
+  ends_whole : bytes ≡ [] → RecordEnds most h bytes Ending.Whole
+  head_cut : bytes ≢ [] → length bytes < record_header_len → RecordEnds most h bytes Ending.Cut
+  cut : (head : RecordHeader) → IsRecordHeader h.order (take record_header_len bytes) head → head.captured_len ≤ most
+      → length bytes < record_header_len + head.captured_len → RecordEnds most h bytes Ending.Cut
+  large : (head : RecordHeader) → IsRecordHeader h.order (take record_header_len bytes) head → most < head.captured_len
+      → RecordEnds most h bytes Ending.TooLarge

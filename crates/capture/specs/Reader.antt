@@ -2,7 +2,7 @@
 use Rattle.std.specs.Prelude.{◌≡◌, ℕ, Bool, true, false, ◌<◌, ◌≤◌, List, ◌++◌, length, take, drop, Option, Some, OnSome}
 use Rattle.std.specs.Prelude.{IfSome, Result, IfOk}
 use Rattle.std.specs.Io.KnownBytes.{Consumes, Keeps, IsAtEnd}
-use Rattle.capture.specs.declared.ending.Fault.{Fault}
+use Rattle.capture.specs.Types.{Fault}
 use denote.Ref.{Bor}
 
 -- bytes were taken from what a reader had left, at most this many, and fewer only at its end

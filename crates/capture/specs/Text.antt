@@ -4,27 +4,15 @@ use Rattle.std.specs.Fmt.{signed_decimal}
 use Rattle.wirebase.specs.Display.{pieces}
 use Rattle.capture.specs.Ending.{ending_text}
 use Rattle.capture.specs.TimeText.{time_text}
-use Rattle.capture.specs.declared.capture.Next.{Next}
-use Rattle.capture.specs.declared.capture.Next.TheVariants as next
-use Rattle.capture.specs.declared.capture.Record.{Record}
-use Rattle.capture.specs.declared.order.Order.{Order}
-use Rattle.capture.specs.declared.order.Order.TheVariants.{Big, Little}
-use Rattle.capture.specs.declared.packet.Packet.{Packet}
-use Rattle.capture.specs.declared.pcap.FileHeader.{FileHeader}
-use Rattle.capture.specs.declared.pcap.Precision.{Precision}
-use Rattle.capture.specs.declared.pcap.Precision.TheVariants.{Micro, Nano}
-use Rattle.capture.specs.declared.pcap.RecordHeader.{RecordHeader}
-use Rattle.capture.specs.declared.pcapng.Head.{Head}
-use Rattle.capture.specs.declared.pcapng.Interface.{Interface}
-use Rattle.capture.specs.declared.time.Time.{Time}
+use Rattle.capture.specs.Types.{Next, Record, Order, Packet, FileHeader, Precision, RecordHeader, Head, Interface, Time}
 
 abbrev pub order_text : Order → List ℕ
-order_text Big = codes "big-endian"
-order_text Little = codes "little-endian"
+order_text Order.Big = codes "big-endian"
+order_text Order.Little = codes "little-endian"
 
 abbrev pub precision_text : Precision → List ℕ
-precision_text Micro = codes "microseconds"
-precision_text Nano = codes "nanoseconds"
+precision_text Precision.Micro = codes "microseconds"
+precision_text Precision.Nano = codes "nanoseconds"
 
 -- a time, where there is one
 abbrev pub told_text : Option Time → List ℕ
@@ -40,8 +28,8 @@ record_text r =
     ∷ codes " original_len=" ∷ decimal r.original_len ∷ [])
 
 abbrev pub next_text : Next → List ℕ
-next_text (next.Record r) = record_text r
-next_text (next.Ended e) = ending_text e
+next_text (Next.Record r) = record_text r
+next_text (Next.Ended e) = ending_text e
 
 abbrev pub packet_text : Packet → List ℕ
 packet_text p =

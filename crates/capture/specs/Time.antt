@@ -1,8 +1,6 @@
 -- The time of a packet: the number of nanoseconds since 1970-01-01 00:00:00 UTC, and its digits.
 use Rattle.std.specs.Prelude.{◌≡◌, ℕ, ◌+◌, ◌-◌, ◌*◌, ◌/◌, ◌%◌, ◌^◌, ◌<◌, min, ℤ, pos, negsuc, nat_lt, if◌then◌else◌}
-use Rattle.capture.specs.declared.pcap.Precision.{Precision}
-use Rattle.capture.specs.declared.pcap.Precision.TheVariants.{Micro, Nano}
-use Rattle.capture.specs.declared.time.Time.{Time}
+use Rattle.capture.specs.Types.{Precision, Time}
 
 -- a time by its content: its nanoseconds, and the number of digits of a second in its file
 pub record TimeValue : Type 0 where
@@ -53,10 +51,10 @@ moved (negsuc seconds) nanoseconds = nanoseconds - (seconds + 1) * 1000000000
 
 -- the nanoseconds in a fraction of a second
 abbrev pub fraction_of : Precision → ℕ → ℕ
-fraction_of Micro fraction = fraction * 1000
-fraction_of Nano fraction = fraction
+fraction_of Precision.Micro fraction = fraction * 1000
+fraction_of Precision.Nano fraction = fraction
 
 -- the number of digits of such a fraction
 abbrev pub digits_in : Precision → ℕ
-digits_in Micro = 6
-digits_in Nano = 9
+digits_in Precision.Micro = 6
+digits_in Precision.Nano = 9

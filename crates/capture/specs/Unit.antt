@@ -1,15 +1,9 @@
 -- Records and blocks by their heads, and what is read of them.
 use Rattle.std.specs.Prelude.{◌≡◌, ◌≢◌, ℕ, ◌+◌, ◌<◌, ◌≤◌, List, [], length, take, drop, Option, Some, ⊤}
 use Rattle.capture.specs.Capture.{most_octets}
-use Rattle.capture.specs.Pcap.{IsRecordHeader}
+use Rattle.capture.specs.Pcap.{record_header_len, IsRecordHeader}
 use Rattle.capture.specs.Pcapng.{IsHead, HeadEnds, IsRead}
-use Rattle.capture.specs.declared.ending.Ending.{Ending}
-use Rattle.capture.specs.declared.ending.Ending.TheVariants.{Whole, Cut, TooLarge}
-use Rattle.capture.specs.declared.order.Order.{Order}
-use Rattle.capture.specs.declared.pcap.RecordHeader.{RecordHeader}
-use Rattle.capture.specs.declared.pcapng.Head.{Head}
-use Rattle.capture.specs.declared.unit.Taken.{Taken}
-use Rattle.capture.specs.declared.unit.Taken.TheVariants as taken
+use Rattle.capture.specs.Types.{Ending, Order, RecordHeader, Head, Taken}
 
 -- a kind of head: which bytes are a head, what ends a capture that goes on without one, the length in bytes of a record
 -- or block, the length of its head, and which ones are read
@@ -21,16 +15,17 @@ pub record Form (H : Type 0) : Type 1 where
 
 -- what ends a capture that goes on with these bytes, and so with no record whose header is of use
 abbrev pub RecordHeadEnds : Order → List ℕ → Ending → Type 0
-RecordHeadEnds order bytes Whole = bytes ≡ []
-RecordHeadEnds order bytes Cut = (bytes ≢ []) × (length bytes < 16)
-RecordHeadEnds order bytes TooLarge = (r : RecordHeader) × IsRecordHeader order bytes r × (most_octets < r.captured_len)
+RecordHeadEnds order bytes Ending.Whole = bytes ≡ []
+RecordHeadEnds order bytes Ending.Cut = (bytes ≢ []) × (length bytes < record_header_len)
+RecordHeadEnds order bytes Ending.TooLarge =
+    (r : RecordHeader) × IsRecordHeader order bytes r × (most_octets < r.captured_len)
 RecordHeadEnds order bytes _ = ⊥
 
 abbrev pub record_form : Form RecordHeader
 record_form = record {
   IsHead = λ order bytes r. IsRecordHeader order bytes r × (r.captured_len ≤ most_octets);
   HeadEnds = RecordHeadEnds;
-  unit_len = λ r. 16 + r.captured_len;
+  unit_len = λ r. record_header_len + r.captured_len;
   IsRead = λ r. ⊤;
 }
 
@@ -44,23 +39,23 @@ block_form = record {
 
 -- what ends a capture that goes on with these bytes, and so with no record or block whose head has this many
 pub data UnitEnds {H : Type 0} (n : ℕ) (form : Form H) (order : Order) (all : List ℕ) (ending : Ending) : Type 0 where
-  none : all ≡ [] → ending ≡ Whole → UnitEnds n form order all ending
+  none : all ≡ [] → ending ≡ Ending.Whole → UnitEnds n form order all ending
   no_head : form.HeadEnds order (take n all) ending → UnitEnds n form order all ending
-  cut : (h : H) → form.IsHead order (take n all) h → length all < form.unit_len h → ending ≡ Cut
+  cut : (h : H) → form.IsHead order (take n all) h → length all < form.unit_len h → ending ≡ Ending.Cut
       → UnitEnds n form order all ending
 
 -- a record or block was read into `octets`, or passed over
 abbrev pub UnitReads : {H : Type 0} → ℕ → Form H → Order → List ℕ → Taken H → List ℕ → Option (List ℕ) → Type 0
-UnitReads n form order all (taken.Passed h) octets left =
+UnitReads n form order all (Taken.Passed h) octets left =
     form.IsHead order (take n all) h × (form.IsRead h → ⊥) × (form.unit_len h ≤ length all)
     × (left ≡ Some (drop (form.unit_len h) all))
-UnitReads n form order all (taken.Read h) octets left =
+UnitReads n form order all (Taken.Read h) octets left =
     form.IsHead order (take n all) h × form.IsRead h × (form.unit_len h ≤ length all)
     × (octets ≡ take (form.unit_len h) all) × (left ≡ Some (drop (form.unit_len h) all))
-UnitReads n form order all (taken.Ended ending) octets left = UnitEnds n form order all ending
+UnitReads n form order all (Taken.Ended ending) octets left = UnitEnds n form order all ending
 
 -- of a record or block that was read
 abbrev pub IfRead : {H : Type 0} → Taken H → (H → Type 0) → Type 0
-IfRead (taken.Passed h) P = Unit {0}
-IfRead (taken.Read h) P = P h
-IfRead (taken.Ended ending) P = Unit {0}
+IfRead (Taken.Passed h) P = Unit {0}
+IfRead (Taken.Read h) P = P h
+IfRead (Taken.Ended ending) P = Unit {0}

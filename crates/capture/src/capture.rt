@@ -6,7 +6,7 @@ ghost use Rattle.capture.specs.Capture.{IsInOrder, ShowsUnit};
 ghost use Rattle.capture.specs.Packet.{packet_in, IsPlace};
 ghost use Rattle.capture.specs.Reader.{Reads};
 ghost use Rattle.capture.specs.Taken.{BlockTakes, BlockGives, StepGives, SectionTakes, InterfaceTakes, PacketTakes};
-ghost use Rattle.capture.specs.Taken.{IfPacket, RecordGives, IsWholeBlock};
+ghost use Rattle.capture.specs.Taken.{IfPacket, RecordGives, IsWholeBlock, after};
 
 use crate::ending::{Ending, Fault, Refusal};
 use crate::order::Order;
@@ -111,6 +111,7 @@ impl Capture {
             IsInOrder r (octets_of self.new) (count_of self.old) (count_of self.new))) }
         ensures fault { IfErr result (λ fault. (fault ≡ Fault.Read) ⊎ (fault ≡ Fault.Memory)) }
     {
+        // A bound that no input reaches: each loop has to end.
         'steps: for _ in 0..u64::MAX {
             match self.read_step(input)? {
                 Step::Passed => (),
@@ -172,8 +173,7 @@ impl Capture {
     // Reads the next header, record or block.
     fn read_step<R: BufRead>(&mut self, input: &mut R) -> Result<Step, Fault>
         ensures gives { IfOk result (λ step. (all : List ℕ) → Reads all (R.remaining input.old) [] 0
-            → StepGives (state_of self.old) all step self.new.octets.items (state_of self.new)
-            (R.remaining input.new)) }
+            → StepGives (state_of self.old) all step (after self.new (R.remaining input.new))) }
         ensures place { IfOk result (λ step. IfPacket step (λ k. IsPlace k self.new.octets.items)) }
         ensures count { count_of self.new ≡ count_of self.old }
         ensures fault { IfErr result (λ fault. (fault ≡ Fault.Read) ⊎ (fault ≡ Fault.Memory)) }
@@ -192,8 +192,7 @@ impl Capture {
         requires start { self.old.stage ≡ Stage.Start }
         requires empty { self.old.octets.items ≡ [] }
         ensures gives { IfOk result (λ step. (all : List ℕ) → Reads all (R.remaining input.old) [] 0
-            → StepGives (state_of self.old) all step self.new.octets.items (state_of self.new)
-            (R.remaining input.new)) }
+            → StepGives (state_of self.old) all step (after self.new (R.remaining input.new))) }
         ensures place { IfOk result (λ step. IfPacket step (λ k. IsPlace k self.new.octets.items)) }
         ensures count { count_of self.new ≡ count_of self.old }
         ensures fault { IfErr result (λ fault. (fault ≡ Fault.Read) ⊎ (fault ≡ Fault.Memory)) }
@@ -216,7 +215,7 @@ impl Capture {
     fn read_record<R: BufRead>(&mut self, input: &mut R, header: FileHeader) -> Result<Step, Fault>
         requires { self.old.octets.items ≡ [] }
         ensures gives { IfOk result (λ step. (all : List ℕ) → Reads all (R.remaining input.old) [] 0
-            → RecordGives header all step self.new.octets.items (R.remaining input.new)) }
+            → RecordGives header all step (after self.new (R.remaining input.new))) }
         ensures place { IfOk result (λ step. IfPacket step (λ k. IsPlace k self.new.octets.items)) }
         ensures state { state_of self.new ≡ state_of self.old }
         ensures count { count_of self.new ≡ count_of self.old }
@@ -235,8 +234,7 @@ impl Capture {
         requires { length self.old.octets.items ≤ 12 }
         ensures gives { IfOk result (λ step. (all : List ℕ) (done : ℕ) → done ≤ 12
             → Reads all (R.remaining input.old) self.old.octets.items done
-            → BlockGives section self.old.interfaces.items all step self.new.octets.items (state_of self.new)
-            (R.remaining input.new)) }
+            → BlockGives section self.old.interfaces.items all step (after self.new (R.remaining input.new))) }
         ensures place { IfOk result (λ step. IfPacket step (λ k. IsPlace k self.new.octets.items)) }
         ensures count { count_of self.new ≡ count_of self.old }
         ensures fault { IfErr result (λ fault. (fault ≡ Fault.Read) ⊎ (fault ≡ Fault.Memory)) }

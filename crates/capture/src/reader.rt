@@ -19,6 +19,7 @@ pub fn read_onto<R: BufRead>(input: &mut R, octets: &mut Vec<u8>, count: usize) 
     if octets.as_slice().len() == count {
         return Ok(());
     }
+    // A bound that no input reaches: each loop has to end.
     'parts: for _ in 0..u64::MAX {
         let missing = count - octets.as_slice().len();
         let ended = take_part(input, octets, missing)?;
@@ -53,6 +54,7 @@ pub fn skip<R: BufRead>(input: &mut R, count: usize) -> Result<bool, Fault>
     ensures fault { IfErr result (λ fault. fault ≡ Fault.Read) }
 {
     let mut missing = count;
+    // A bound that no input reaches: each loop has to end.
     'parts: for _ in 0..u64::MAX {
         let (skipped, ended) = skip_part(input, missing)?;
         missing -= skipped;

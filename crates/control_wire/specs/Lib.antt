@@ -51,7 +51,6 @@ pub use Rattle.icmp6_wire.specs.NdiscTables
 pub use Rattle.dhcp_wire.specs.Dhcpv4
 pub use Rattle.dhcp_wire.specs.Dhcpv4Writing
 pub use Rattle.dhcp_wire.specs.Dhcpv4Format
-pub use Rattle.dhcp_wire.specs.Dhcpv4OptionsSeen
 pub use Rattle.dhcp_wire.specs.Dhcpv4Options
 pub use Rattle.dhcp_wire.specs.Dhcpv4Packet
 pub use Rattle.dhcp_wire.specs.Dhcpv4Tables

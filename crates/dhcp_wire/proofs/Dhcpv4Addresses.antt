@@ -1,61 +1,50 @@
--- Whole addresses in bytes, one after another.
-use Rattle.std.proofs.Common.{◌≡◌, ℕ, zero, suc, ◌+◌, ◌-◌, ◌≤◌, ◌<◌, List, [], ◌∷◌, ◌++◌, length, take, drop, flat_map}
+-- Whole addresses in bytes, taken one after another.
+use Rattle.std.proofs.Common.{◌≡◌, ℕ, zero, suc, ◌+◌, ◌-◌, ◌≤◌, ◌<◌, List, [], ◌∷◌, ◌++◌, length, take, drop}
 use Rattle.std.proofs.Common.{refl, sym, ap, ◌∙◌, arith}
 use Rattle.std.proofs.lemmas.List.{append_assoc, append-nil}
-use Rattle.std.proofs.lemmas.List.Concat.{flat_map-append, flat_map-cons}
 use Rattle.wirebase.specs.Ipv4.{octets_of}
 use Rattle.wirebase.specs.declared.ipv4.Ipv4Address.{Ipv4Address}
-use Rattle.dhcp_wire.specs.Dhcpv4.{whole_addresses}
+use Rattle.dhcp_wire.specs.Dhcpv4OptionValue.{addresses_in, first_address}
+use Rattle.dhcp_wire.proofs.Dhcpv4OptionAddresses.{addresses_short}
 
-pub whole-short : (most : ℕ) (d : List ℕ) → length d < 4 → whole_addresses most d ≡ []
-unfolding whole_addresses
-whole-short zero d h = refl
-whole-short (suc most) [] h = refl
-whole-short (suc most) (a ∷ []) h = refl
-whole-short (suc most) (a ∷ b ∷ []) h = refl
-whole-short (suc most) (a ∷ b ∷ c ∷ []) h = refl
-whole-short (suc most) (a ∷ b ∷ c ∷ d ∷ rest) h = absurd (omega arith)
+address-more : (bytes : List ℕ) (address : Ipv4Address) → 4 ≤ length bytes → octets_of address ≡ take 4 bytes
+    → addresses_in bytes ≡ address ∷ addresses_in (drop 4 bytes)
+unfolding addresses_in
+address-more [] address long e = absurd (omega (arith, long))
+address-more (a ∷ []) address long e = absurd (omega (arith, long))
+address-more (a ∷ b ∷ []) address long e = absurd (omega (arith, long))
+address-more (a ∷ b ∷ c ∷ []) address long e = absurd (omega (arith, long))
+address-more (a ∷ b ∷ c ∷ d ∷ rest) address long e =
+    ap (λ (l : List ℕ). first_address l ∷ addresses_in rest) (sym e)
 
-whole-none : (d : List ℕ) → whole_addresses 0 d ≡ []
-unfolding whole_addresses
-whole-none d = refl
-
-whole-more : (most : ℕ) (d : List ℕ) → 4 ≤ length d → whole_addresses (suc most) d ≡ take 4 d
-    ++ whole_addresses most (drop 4 d)
-unfolding whole_addresses
-whole-more most [] h = absurd (omega arith)
-whole-more most (a ∷ []) h = absurd (omega arith)
-whole-more most (a ∷ b ∷ []) h = absurd (omega arith)
-whole-more most (a ∷ b ∷ c ∷ []) h = absurd (omega arith)
-whole-more most (a ∷ b ∷ c ∷ d ∷ rest) h = refl
+take-none : (n : ℕ) → take {A = Ipv4Address} n [] ≡ []
+take-none zero = refl
+take-none (suc n) = refl
 
 -- one more address is taken
-pub taken-more : (items more : List Ipv4Address) (address : Ipv4Address) (rest after whole : List ℕ) → length items < 5
+pub taken-more : (items more : List Ipv4Address) (address : Ipv4Address) (rest after : List ℕ)
+    (whole : List Ipv4Address) → length items < 5
     → more ≡ items ++ address ∷ [] → 4 ≤ length rest → octets_of address ≡ take 4 rest → after ≡ drop 4 rest
-    → flat_map octets_of items ++ whole_addresses (5 - length items) rest ≡ whole
-    → flat_map octets_of more ++ whole_addresses (5 - (length items + 1)) after ≡ whole
+    → items ++ take (5 - length items) (addresses_in rest) ≡ whole
+    → more ++ take (5 - (length items + 1)) (addresses_in after) ≡ whole
 taken-more items more address rest after whole l is room first last so_far =
-    let count : 5 - length items ≡ suc (5 - (length items + 1)) = omega arith in
-    let one : flat_map octets_of (address ∷ []) ≡ take 4 rest =
-    flat_map-cons octets_of address [] ∙ append-nil (octets_of address) ∙ first in
-    ap (λ (xs : List Ipv4Address). flat_map octets_of xs ++ whole_addresses (5 - (length items + 1)) after) is
-    ∙ ap (λ (b : List ℕ). b ++ whole_addresses (5 - (length items + 1)) after)
-    (flat_map-append octets_of items (address ∷ []) ∙ ap (λ (b : List ℕ). flat_map octets_of items ++ b) one)
-    ∙ append_assoc (flat_map octets_of items) (take 4 rest) (whole_addresses (5 - (length items + 1)) after)
-    ∙ ap (λ (b : List ℕ). flat_map octets_of items ++ (take 4 rest ++ whole_addresses (5 - (length items + 1)) b)) last
-    ∙ ap (λ (b : List ℕ). flat_map octets_of items ++ b) (sym (whole-more (5 - (length items + 1)) rest room))
-    ∙ ap (λ (n : ℕ). flat_map octets_of items ++ whole_addresses n rest) (sym count) ∙ so_far
+    let left : ℕ = 5 - (length items + 1) in
+    let count : 5 - length items ≡ suc left = omega arith in
+    ap (λ (xs : List Ipv4Address). xs ++ take left (addresses_in after)) is
+    ∙ ap (λ (b : List ℕ). (items ++ address ∷ []) ++ take left (addresses_in b)) last
+    ∙ append_assoc items (address ∷ []) (take left (addresses_in (drop 4 rest)))
+    ∙ ap (λ (xs : List Ipv4Address). items ++ take (suc left) xs) (sym (address-more rest address room first))
+    ∙ ap (λ (n : ℕ). items ++ take n (addresses_in rest)) (sym count) ∙ so_far
 
 -- no more is: there is no whole one, or no room
-pub taken-short : (items : List Ipv4Address) (most : ℕ) (rest whole : List ℕ) → length rest < 4
-    → flat_map octets_of items ++ whole_addresses most rest ≡ whole → flat_map octets_of items ≡ whole
-taken-short items most rest whole l so_far =
-    sym (append-nil (flat_map octets_of items)) ∙ ap (λ (b : List ℕ). flat_map octets_of items ++ b)
-    (sym (whole-short most rest l)) ∙ so_far
+pub taken-short : (items whole : List Ipv4Address) (most : ℕ) (rest : List ℕ) → length rest < 4
+    → items ++ take most (addresses_in rest) ≡ whole → items ≡ whole
+taken-short items whole most rest l so_far =
+    sym (append-nil items) ∙ ap (λ (xs : List Ipv4Address). items ++ xs) (sym (take-none most))
+    ∙ ap (λ (xs : List Ipv4Address). items ++ take most xs) (sym (addresses_short rest l)) ∙ so_far
 
-pub taken-full : (items : List Ipv4Address) (rest whole : List ℕ) → length items ≡ 5
-    → flat_map octets_of items ++ whole_addresses (5 - length items) rest ≡ whole → flat_map octets_of items ≡ whole
-taken-full items rest whole e so_far =
+pub taken-full : (items whole : List Ipv4Address) (rest : List ℕ) → length items ≡ 5
+    → items ++ take (5 - length items) (addresses_in rest) ≡ whole → items ≡ whole
+taken-full items whole rest e so_far =
     let none : 5 - length items ≡ 0 = omega arith in
-    sym (append-nil (flat_map octets_of items)) ∙ ap (λ (b : List ℕ). flat_map octets_of items ++ b)
-    (sym (whole-none rest)) ∙ ap (λ (n : ℕ). flat_map octets_of items ++ whole_addresses n rest) (sym none) ∙ so_far
+    sym (append-nil items) ∙ ap (λ (n : ℕ). items ++ take n (addresses_in rest)) (sym none) ∙ so_far

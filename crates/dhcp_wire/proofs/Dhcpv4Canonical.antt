@@ -1,10 +1,10 @@
 -- A value that was read is canonical: it can be written again.
-use Rattle.std.proofs.Common.{◌≡◌, ℕ, zero, suc, ◌+◌, ◌-◌, ◌*◌, ◌≤◌, ◌<◌, ◌^◌, Bool, true, false, cond, eqb, List, []}
+use Rattle.std.proofs.Common.{◌≡◌, ℕ, suc, ◌+◌, ◌-◌, ◌≤◌, ◌<◌, ◌^◌, Bool, true, false, cond, eqb, List, []}
 use Rattle.std.proofs.Common.{◌∷◌, ◌++◌, length, take, drop, flat_map, slice_index, Option, None, Some, refl, sym, ap}
 use Rattle.std.proofs.Common.{subst}
 use Rattle.std.proofs.Common.{◌∙◌, ◌⊎◌, inl, inr, arith, length-append}
 use Rattle.std.specs.Option.{option_map, option_or}
-use Rattle.std.proofs.lemmas.List.{append-nil, take-append-drop}
+use Rattle.std.proofs.lemmas.List.{append-nil, take-append-drop, length-take}
 use Rattle.byteorder.specs.Endian.{big_number}
 use Rattle.byteorder.specs.Numbers.{big_from-lt}
 use Rattle.wirebase.specs.Bytes.{IsBytes, part, byte_of}
@@ -16,16 +16,22 @@ use Rattle.wirebase.specs.declared.ipv4.Ipv4Address.{Ipv4Address}
 use Rattle.wirebase.proofs.ByteParts.{IsBytes-drop, IsBytes-front, IsBytes-rest}
 use Rattle.wirebase.proofs.Numbered.{case-read}
 use Rattle.wirebase.specs.LastOf.{last_of}
+use Rattle.dhcp_wire.specs.declared.dhcpv4.option_kinds.TheConstants.{OPT_DHCP_MESSAGE_TYPE, OPT_DOMAIN_NAME_SERVER}
+use Rattle.dhcp_wire.specs.declared.dhcpv4.option_kinds.TheConstants.{OPT_IP_LEASE_TIME, OPT_MAX_DHCP_MESSAGE_SIZE}
+use Rattle.dhcp_wire.specs.declared.dhcpv4.option_kinds.TheConstants.{OPT_PARAMETER_REQUEST_LIST}
+use Rattle.dhcp_wire.specs.declared.dhcpv4.option_kinds.TheConstants.{OPT_REBINDING_TIME_VALUE}
+use Rattle.dhcp_wire.specs.declared.dhcpv4.option_kinds.TheConstants.{OPT_RENEWAL_TIME_VALUE}
 use Rattle.dhcp_wire.specs.declared.dhcpv4.tables.MessageType.{MessageType}
-use Rattle.dhcp_wire.specs.declared.dhcpv4.tables.MessageType.TheVariants as message
 use Rattle.dhcp_wire.specs.Dhcpv4.{Value, of_slot, of_slots, slots_of, options_of, options_text, text}
-use Rattle.dhcp_wire.specs.Dhcpv4.{said, number_in, whole_addresses, addresses_in, type_in, IsPacket}
+use Rattle.dhcp_wire.specs.Dhcpv4.{said, number_in, servers_in, type_in, with_options, IsPacket}
 use Rattle.dhcp_wire.specs.Dhcpv4Format.{AllShort, AreAdditional, IsBelow, IsFew, IsCanonical, text_len}
 use Rattle.dhcp_wire.specs.Dhcpv4Options.{OptionValue, option, option_text, Options, none, ended, padded, lone, torn}
 use Rattle.dhcp_wire.specs.Dhcpv4Options.{goes_on}
-use Rattle.dhcp_wire.specs.Dhcpv4Packet.{op_field}
+use Rattle.dhcp_wire.specs.Dhcpv4OptionValue.{addresses_in}
+use Rattle.dhcp_wire.specs.Dhcpv4Packet.{op_field, ethernet_type}
 use Rattle.dhcp_wire.specs.Dhcpv4Tables.{message_number, messages, message_of, message_rows}
 use Rattle.dhcp_wire.proofs.Dhcpv4Data.{octets-len, be16-len, be32-len}
+use Rattle.dhcp_wire.proofs.Dhcpv4Kept.{given-last, no-additional}
 use Rattle.dhcp_wire.proofs.Dhcpv4Lengths.{text_len-options, text_len-whole}
 
 -- ---- what holds of each option holds of the last
@@ -113,30 +119,20 @@ list-within kind os None h e = tt
 list-within kind os (Some d) h e =
     last-holds (said kind Some) (λ l. length l ≤ 255) (list-small kind) os d h (sym e)
 
-whole-len : (n : ℕ) (d : List ℕ) → length (whole_addresses n d) ≤ 4 * n
-unfolding whole_addresses
-whole-len zero d = omega arith
-whole-len (suc n) [] = omega arith
-whole-len (suc n) (a ∷ []) = omega arith
-whole-len (suc n) (a ∷ b ∷ []) = omega arith
-whole-len (suc n) (a ∷ b ∷ c ∷ []) = omega arith
-whole-len (suc n) (a ∷ b ∷ c ∷ d ∷ rest) = omega (arith, whole-len n rest)
-
-servers-small : (o : OptionValue) (x : List ℕ) → IsSmall o → said 6 addresses_in o ≡ Some x → length x ≤ 20
-servers-small o x small e =
-    let one : Some (whole_addresses 5 o.body) ≡ Some x =
-    where-true (eqb o.kind 6) (Some (whole_addresses 5 o.body)) x e in
-    let same : whole_addresses 5 o.body ≡ x = cc in
-    let most = whole-len 5 o.body in
-    subst (λ (l : List ℕ). length l ≤ 20) same (omega (arith, most))
+servers-small : (o : OptionValue) (xs : List Ipv4Address) → IsSmall o
+    → said OPT_DOMAIN_NAME_SERVER servers_in o ≡ Some xs → length xs ≤ 5
+servers-small o xs small e =
+    let first : List Ipv4Address = take 5 (addresses_in o.body) in
+    let one : Some first ≡ Some xs = where-true (eqb o.kind OPT_DOMAIN_NAME_SERVER) (Some first) xs e in
+    let same : first ≡ xs = cc in
+    subst (λ (l : List Ipv4Address). length l ≤ 5) same
+    (omega (arith, length-take 5 (addresses_in o.body)))
 
 servers-few : (os : List OptionValue) (a : Option (List Ipv4Address)) → AreSmall os
-    → option_map (flat_map octets_of) a ≡ last_of (said 6 addresses_in) os → IsFew a
+    → a ≡ last_of (said OPT_DOMAIN_NAME_SERVER servers_in) os → IsFew a
 servers-few os None h e = tt
 servers-few os (Some xs) h e =
-    let most : length (flat_map octets_of xs) ≤ 20 =
-    last-holds (said 6 addresses_in) (λ l. length l ≤ 20) servers-small os (flat_map octets_of xs) h (sym e) in
-    omega (arith, most, octets-len xs)
+    last-holds (said OPT_DOMAIN_NAME_SERVER servers_in) (λ l. length l ≤ 5) servers-small os xs h (sym e)
 
 servers-within : (a : Option (List Ipv4Address)) → IsFew a → IsWithin 20 (option_map (flat_map octets_of) a)
 servers-within None h = tt
@@ -150,18 +146,19 @@ map-within f n long (Some x) = omega (arith, long x)
 -- ---- the type of a message
 
 is_unknown : MessageType → Bool
-is_unknown (message.Unknown n) = true
+is_unknown (MessageType.Unknown n) = true
 is_unknown _ = false
 
-type-small : (op : ℕ) (o : OptionValue) (t : MessageType) → IsSmall o → said 53 (type_in op) o ≡ Some t
-    → IsProper message.Unknown message_rows t
+type-small : (op : ℕ) (o : OptionValue) (t : MessageType) → IsSmall o
+    → said OPT_DHCP_MESSAGE_TYPE (type_in op) o ≡ Some t
+    → IsProper MessageType.Unknown message_rows t
 unfolding is_unknown
 type-small op o t small e =
     let n : ℕ = slice_index o.body 0 in
-    let one : type_in op o.body ≡ Some t = where-true (eqb o.kind 53) (type_in op o.body) t e in
+    let one : type_in op o.body ≡ Some t = where-true (eqb o.kind OPT_DHCP_MESSAGE_TYPE) (type_in op o.body) t e in
     let two : Some (message_of n) ≡ Some t = where-true _ (Some (message_of n)) t one in
     let same : t ≡ message_of n = cc in
-    (case-read message_number message.Unknown (λ k. refl) is_unknown (λ k. refl) messages n refl same).0
+    (case-read message_number MessageType.Unknown (λ k. refl) is_unknown (λ k. refl) messages n refl same).0
 
 -- ---- the options of the fields
 
@@ -193,20 +190,20 @@ be8-len n = omega arith
 bounded-slots : (v : Value) → IsWithin 255 v.parameter_request_list → IsFew v.dns_servers
     → Bounded 337 (of_slots (slots_of v))
 bounded-slots v list few =
-    bounded-slot 1 334 53 (Some (be8 (message_number v.message_type))) _ (omega arith) (be8-len
+    bounded-slot 1 334 _ (Some (be8 (message_number v.message_type))) _ (omega arith) (be8-len
     (message_number v.message_type))
-    (bounded-slot 7 325 61 _ _ (omega arith)
-    (map-within (λ address. 1 ∷ ethernet_octets address) 7 (λ x. refl) v.client_identifier)
-    (bounded-slot 4 319 54 _ _ (omega arith) (map-within octets_of 4 (λ x. refl) v.server_identifier)
-    (bounded-slot 4 313 3 _ _ (omega arith) (map-within octets_of 4 (λ x. refl) v.router)
-    (bounded-slot 4 307 1 _ _ (omega arith) (map-within octets_of 4 (λ x. refl) v.subnet_mask)
-    (bounded-slot 4 301 50 _ _ (omega arith) (map-within octets_of 4 (λ x. refl) v.requested_ip)
-    (bounded-slot 2 297 57 _ _ (omega arith) (map-within be16 2 be16-len v.max_size)
-    (bounded-slot 4 291 51 _ _ (omega arith) (map-within be32 4 be32-len v.lease_duration)
-    (bounded-slot 4 285 58 _ _ (omega arith) (map-within be32 4 be32-len v.renew_duration)
-    (bounded-slot 4 279 59 _ _ (omega arith) (map-within be32 4 be32-len v.rebind_duration)
-    (bounded-slot 255 22 55 _ _ (omega arith) list
-    (bounded-slot 20 0 6 _ _ (omega arith) (servers-within v.dns_servers few) bounded-none)))))))))))
+    (bounded-slot 7 325 _ _ _ (omega arith)
+    (map-within (λ address. ethernet_type ∷ ethernet_octets address) 7 (λ x. refl) v.client_identifier)
+    (bounded-slot 4 319 _ _ _ (omega arith) (map-within octets_of 4 (λ x. refl) v.server_identifier)
+    (bounded-slot 4 313 _ _ _ (omega arith) (map-within octets_of 4 (λ x. refl) v.router)
+    (bounded-slot 4 307 _ _ _ (omega arith) (map-within octets_of 4 (λ x. refl) v.subnet_mask)
+    (bounded-slot 4 301 _ _ _ (omega arith) (map-within octets_of 4 (λ x. refl) v.requested_ip)
+    (bounded-slot 2 297 _ _ _ (omega arith) (map-within be16 2 be16-len v.max_size)
+    (bounded-slot 4 291 _ _ _ (omega arith) (map-within be32 4 be32-len v.lease_duration)
+    (bounded-slot 4 285 _ _ _ (omega arith) (map-within be32 4 be32-len v.renew_duration)
+    (bounded-slot 4 279 _ _ _ (omega arith) (map-within be32 4 be32-len v.rebind_duration)
+    (bounded-slot 255 22 _ _ _ (omega arith) list
+    (bounded-slot 20 0 _ _ _ (omega arith) (servers-within v.dns_servers few) bounded-none)))))))))))
 
 text-bounded : (v : Value) → Bounded 337 (options_of v) → text_len v ≤ 65535
 text-bounded v b =
@@ -217,28 +214,43 @@ text-bounded v b =
 -- ---- a value that was read
 
 pub canonical-read : (bytes : List ℕ) (v : Value) → IsBytes bytes → IsPacket bytes v → IsCanonical v
+unfolding with_options
 canonical-read bytes v are p =
-    let small : AreSmall p.options = small-options p.listed (IsBytes-drop 240 bytes are) in
-    let few : IsFew v.dns_servers = servers-few p.options v.dns_servers small p.dns_servers in
+    let os : List OptionValue = p.options in
+    let small : AreSmall os = small-options p.listed (IsBytes-drop 240 bytes are) in
+    let none : v.additional_options ≡ [] = no-additional bytes v p in
+    let few : IsFew v.dns_servers =
+    servers-few os v.dns_servers small (given-last (ap (λ (w : Value). w.dns_servers) p.value)) in
     let list : IsWithin 255 v.parameter_request_list =
-    list-within 55 p.options v.parameter_request_list small p.parameter_request_list in
+    list-within OPT_PARAMETER_REQUEST_LIST os v.parameter_request_list small
+    (given-last (ap (λ (w : Value). w.parameter_request_list) p.value)) in
     let alone : of_slots (slots_of v) ≡ options_of v =
     sym (append-nil (of_slots (slots_of v)))
-    ∙ ap (λ (os : List OptionValue). of_slots (slots_of v) ++ os) (sym p.additional_options) in
+    ∙ ap (λ (more : List OptionValue). of_slots (slots_of v) ++ more) (sym none) in
     let all : Bounded 337 (options_of v) =
-    subst (λ (os : List OptionValue). Bounded 337 os) alone (bounded-slots v list few) in
+    subst (λ (l : List OptionValue). Bounded 337 l) alone (bounded-slots v list few) in
     record {
       whole = text-bounded v all;
       short = all.short;
-      additional = subst (λ (os : List OptionValue). AreAdditional os) (sym p.additional_options) tt;
+      additional = subst (λ (more : List OptionValue). AreAdditional (slots_of v) more) (sym none) tt;
       message_type =
-          last-holds (said 53 (type_in (byte_of op_field bytes))) (λ t. IsProper message.Unknown message_rows t)
-          (type-small (byte_of op_field bytes)) p.options v.message_type small p.message_type;
-      transaction_id = subst (λ (n : ℕ). n < 2 ^ 32) (sym p.transaction_id) (part-small bytes 4 8 4 are);
-      secs = subst (λ (n : ℕ). n < 2 ^ 16) (sym p.secs) (part-small bytes 8 10 2 are);
+          last-holds (said OPT_DHCP_MESSAGE_TYPE (type_in (byte_of op_field bytes)))
+          (λ t. IsProper MessageType.Unknown message_rows t) (type-small (byte_of op_field bytes)) os v.message_type small
+          p.message_type;
+      transaction_id =
+          subst (λ (n : ℕ). n < 2 ^ 32) (sym (ap (λ (w : Value). w.transaction_id) p.value)) (part-small bytes 4 8 4 are);
+      secs = subst (λ (n : ℕ). n < 2 ^ 16) (sym (ap (λ (w : Value). w.secs) p.value)) (part-small bytes 8 10 2 are);
       dns_servers = few;
-      max_size = number-below 57 2 p.options v.max_size small p.max_size;
-      lease_duration = number-below 51 4 p.options v.lease_duration small p.lease_duration;
-      renew_duration = number-below 58 4 p.options v.renew_duration small p.renew_duration;
-      rebind_duration = number-below 59 4 p.options v.rebind_duration small p.rebind_duration;
+      max_size =
+          number-below OPT_MAX_DHCP_MESSAGE_SIZE 2 os v.max_size small
+          (given-last (ap (λ (w : Value). w.max_size) p.value));
+      lease_duration =
+          number-below OPT_IP_LEASE_TIME 4 os v.lease_duration small
+          (given-last (ap (λ (w : Value). w.lease_duration) p.value));
+      renew_duration =
+          number-below OPT_RENEWAL_TIME_VALUE 4 os v.renew_duration small
+          (given-last (ap (λ (w : Value). w.renew_duration) p.value));
+      rebind_duration =
+          number-below OPT_REBINDING_TIME_VALUE 4 os v.rebind_duration small
+          (given-last (ap (λ (w : Value). w.rebind_duration) p.value));
     }

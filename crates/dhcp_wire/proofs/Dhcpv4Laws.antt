@@ -16,7 +16,7 @@ use Rattle.dhcp_wire.specs.Dhcpv4Options.{OptionValue, option_text}
 use Rattle.dhcp_wire.proofs.Dhcpv4Canonical.{canonical-read}
 use Rattle.dhcp_wire.proofs.Dhcpv4Packet.{Emitted}
 use Rattle.dhcp_wire.proofs.Dhcpv4Lengths.{text_len-options, text_len-whole}
-use Rattle.dhcp_wire.proofs.Dhcpv4Kept.{packet-unique}
+use Rattle.dhcp_wire.proofs.Dhcpv4Kept.{packet-unique, no-additional}
 use Rattle.dhcp_wire.proofs.Dhcpv4Reading.{packet-read}
 
 -- ---- the normal form
@@ -74,8 +74,8 @@ dhcp_format = record {
   norm_norm = λ v. refl;
   norm_text = λ v c regular. ap text (norm-same v (none-left v.additional_options regular));
   accepted = λ bytes v are small p. canonical-read bytes v are p;
-  regular = λ bytes v p exception. exception p.additional_options;
-  kept = λ bytes v are c p whole. norm-same v p.additional_options;
+  regular = λ bytes v p exception. exception (no-additional bytes v p);
+  kept = λ bytes v are c p whole. norm-same v (no-additional bytes v p);
 }
 
 pub dhcp_same_text : (a b : Value) → SameText format a b

@@ -1,18 +1,11 @@
 -- How many bytes a value takes.
 use Rattle.std.proofs.Common.{◌≡◌, ℕ, ◌+◌, List, [], ◌∷◌, ◌++◌, length, Option, None, Some}
 use Rattle.std.proofs.Common.{refl, sym, ap, ◌∙◌, arith, length-append}
-use Rattle.std.specs.Option.{is_some, option_map}
 use Rattle.std.proofs.lemmas.Grind.{common_steps}
-use Rattle.wirebase.specs.ByteWriter.{be16, be32}
-use Rattle.wirebase.specs.Ethernet.{octets_of as ethernet_octets}
-use Rattle.wirebase.specs.Ipv4.{octets_of}
 use Rattle.dhcp_wire.specs.Dhcpv4.{Value, Slot, of_slot, of_slots, slots_of, options_of, options_text, header_text}
 use Rattle.dhcp_wire.specs.Dhcpv4.{text}
-use Rattle.dhcp_wire.specs.Dhcpv4Writing.{slots_len, counted_len}
-use Rattle.dhcp_wire.specs.Dhcpv4Format.{data_len, len_if, fields_len, options_len, text_len}
+use Rattle.dhcp_wire.specs.Dhcpv4Format.{data_len, slots_len, fields_len, options_len, text_len}
 use Rattle.dhcp_wire.specs.Dhcpv4Options.{OptionValue, option, option_text}
-use Rattle.dhcp_wire.specs.Dhcpv4Tables.{message_number}
-use Rattle.dhcp_wire.proofs.Dhcpv4Data.{be8-len, be16-len, be32-len}
 use Rattle.dhcp_wire.proofs.Dhcpv4Packet.{header_len-240}
 
 pub text_len-options : (v : Value) → length (text v) ≡ 240 + (length (options_text (options_of v)) + 1)
@@ -56,28 +49,6 @@ slots_len-whole [] = options_len-none
 slots_len-whole (s ∷ ss) =
     slot_len s.kind s.body (of_slots ss) ∙ ap (λ (n : ℕ). data_len s.body + n) (slots_len-whole ss)
 
-map_len : {A : Type 0} (f : A → List ℕ) (n : ℕ) → ((x : A) → length (f x) ≡ n) → (a : Option A)
-    → data_len (option_map f a) ≡ len_if (is_some a) (2 + n)
-map_len f n long None = refl
-map_len f n long (Some x) = ap (λ (k : ℕ). 2 + k) (long x)
-
--- each field's option by its length
-pub counted_len-fields : (v : Value) → counted_len v ≡ fields_len v
-counted_len-fields v =
-    omega (
-      arith,
-      be8-len (message_number v.message_type),
-      map_len (λ a. 1 ∷ ethernet_octets a) 7 (λ x. refl) v.client_identifier,
-      map_len octets_of 4 (λ x. refl) v.server_identifier,
-      map_len octets_of 4 (λ x. refl) v.router,
-      map_len octets_of 4 (λ x. refl) v.subnet_mask,
-      map_len octets_of 4 (λ x. refl) v.requested_ip,
-      map_len be16 2 be16-len v.max_size,
-      map_len be32 4 be32-len v.lease_duration,
-      map_len be32 4 be32-len v.renew_duration,
-      map_len be32 4 be32-len v.rebind_duration,
-    )
-
 with-ends : (a b : ℕ) → 240 + (a + b + 1) ≡ 241 + a + b
 with-ends a b = omega arith
 
@@ -88,7 +59,7 @@ text_len-fields v =
     ∙ ap (λ (n : ℕ). 240 + (n + 1)) (options_len-append (of_slots (slots_of v)) v.additional_options)
     ∙ with-ends (length (options_text (of_slots (slots_of v)))) (length (options_text v.additional_options))
     ∙ ap (λ (n : ℕ). n + length (options_text v.additional_options))
-    (ap (λ (n : ℕ). 241 + n) (slots_len-whole (slots_of v)) ∙ counted_len-fields v)
+    (ap (λ (n : ℕ). 241 + n) (slots_len-whole (slots_of v)))
 
 options_len-whole : (os : List OptionValue) → length (options_text os) ≡ options_len os
 options_len-whole [] = options_len-none

@@ -1,37 +1,41 @@
 -- What was written is read back: the options of a text, and the last option of each kind.
-use Rattle.std.proofs.Common.{◌≡◌, ◌≢◌, ℕ, zero, suc, ◌≤◌, ◌<◌, ◌^◌, Bool, true, false, cond, eqb, List}
-use Rattle.std.proofs.Common.{[]}
-use Rattle.std.proofs.Common.{◌∷◌, ◌++◌, length, drop, flat_map, Option, None, Some, refl, sym, ap, subst}
-use Rattle.std.proofs.Common.{◌∙◌, arith, length-append}
+use Rattle.std.proofs.Common.{◌≡◌, ◌≢◌, ℕ, ◌^◌, Bool, true, false, cond, eqb, ◌==◌, ◌&&◌, List, [], ◌∷◌}
+use Rattle.std.proofs.Common.{◌++◌, take, drop, flat_map, Option, None, Some, if◌then◌else◌, inl, inr}
+use Rattle.std.proofs.Common.{refl, sym, ap, subst, ◌∙◌, arith, length-append}
 use Rattle.std.specs.Option.{option_map, option_or}
-use Rattle.std.proofs.lemmas.Bool.{eqb-false, ne_eqb}
-use Rattle.std.proofs.lemmas.List.{append_assoc, drop_at}
+use Rattle.std.proofs.lemmas.Bool.{ne_eqb, cases_eq}
+use Rattle.std.proofs.lemmas.List.{append_assoc, drop_at, take_all}
 use Rattle.std.proofs.lemmas.List.Concat.{flat_map-cons}
 use Rattle.byteorder.specs.Endian.{big_number, big_bytes}
 use Rattle.byteorder.specs.Numbers.{big_number-reads_back}
-use Rattle.wirebase.specs.Bytes.{part, byte_of, bytes_of, number_of}
+use Rattle.wirebase.specs.Bytes.{part, byte_of}
 use Rattle.wirebase.specs.ByteWriter.{be8, be16, be32, fields}
 use Rattle.wirebase.specs.Ethernet.{Ethernet}
 use Rattle.wirebase.specs.Ethernet.{octets_of as ethernet_octets}
 use Rattle.wirebase.specs.Ipv4.{octets_of}
+use Rattle.wirebase.specs.LastOf.{last_of}
 use Rattle.wirebase.specs.Numbered.{IsProper}
 use Rattle.wirebase.specs.declared.ipv4.Ipv4Address.{Ipv4Address}
+use Rattle.wirebase.proofs.LastOf.{or-assoc, or-none}
 use Rattle.wirebase.proofs.Numbered.{case_in-unnamed}
-use Rattle.wirebase.specs.LastOf.{last_of}
+use Rattle.dhcp_wire.specs.declared.dhcpv4.option_kinds.TheConstants.{OPT_CLIENT_ID, OPT_DHCP_MESSAGE_TYPE}
+use Rattle.dhcp_wire.specs.declared.dhcpv4.option_kinds.TheConstants.{OPT_DOMAIN_NAME_SERVER, OPT_IP_LEASE_TIME}
+use Rattle.dhcp_wire.specs.declared.dhcpv4.option_kinds.TheConstants.{OPT_MAX_DHCP_MESSAGE_SIZE, OPT_REQUESTED_IP}
+use Rattle.dhcp_wire.specs.declared.dhcpv4.option_kinds.TheConstants.{OPT_PARAMETER_REQUEST_LIST, OPT_ROUTER}
+use Rattle.dhcp_wire.specs.declared.dhcpv4.option_kinds.TheConstants.{OPT_REBINDING_TIME_VALUE, OPT_SUBNET_MASK}
+use Rattle.dhcp_wire.specs.declared.dhcpv4.option_kinds.TheConstants.{OPT_RENEWAL_TIME_VALUE, OPT_SERVER_IDENTIFIER}
 use Rattle.dhcp_wire.specs.declared.dhcpv4.tables.MessageType.{MessageType}
-use Rattle.dhcp_wire.specs.declared.dhcpv4.tables.MessageType.TheVariants as message
 use Rattle.dhcp_wire.specs.Dhcpv4.{Value, Slot, of_slot, of_slots, slots_of, options_of, options_text, header_text}
-use Rattle.dhcp_wire.specs.Dhcpv4.{flags_of, said, of_len, number_in, identifier_in, whole_addresses}
-use Rattle.dhcp_wire.specs.Dhcpv4.{addresses_in, type_in, IsOfEthernet, AreOfEthernet, has_broadcast, IsPacket}
+use Rattle.dhcp_wire.specs.Dhcpv4.{flags_of, said, number_in, address_in, identifier_in, servers_in, type_in}
+use Rattle.dhcp_wire.specs.Dhcpv4.{type_among, with_options, fixed_value, IsOfEthernet, AreOfEthernet, has_broadcast}
+use Rattle.dhcp_wire.specs.Dhcpv4.{HasHeader, IsPacket}
 use Rattle.dhcp_wire.specs.Dhcpv4Format.{IsOther, AreAdditional, IsBelow, IsFew, IsCanonical, norm}
 use Rattle.dhcp_wire.specs.Dhcpv4Options.{OptionValue, option, option_text, IsKind, Options, ended, goes_on}
-use Rattle.dhcp_wire.specs.Dhcpv4Packet.{op_field, htype_field, hlen_field, xid_field, secs_field, flags_field}
-use Rattle.dhcp_wire.specs.Dhcpv4Packet.{ciaddr_field, yiaddr_field, siaddr_field, giaddr_field, chaddr_field}
-use Rattle.dhcp_wire.specs.Dhcpv4Packet.{magic_field}
+use Rattle.dhcp_wire.specs.Dhcpv4OptionValue.{addresses_in}
+use Rattle.dhcp_wire.specs.Dhcpv4Packet.{op_field, ethernet_type}
 use Rattle.dhcp_wire.specs.Dhcpv4Tables.{opcode_number, operation_of, message_number, message_rows}
-use Rattle.dhcp_wire.proofs.Dhcpv4Addresses.{whole-short}
 use Rattle.dhcp_wire.proofs.Dhcpv4Packet.{header_len-240}
-use Rattle.wirebase.proofs.LastOf.{or-assoc, or-none}
+use Rattle.dhcp_wire.proofs.Dhcpv4Writing.{both}
 
 -- ---- the options of a text
 
@@ -50,64 +54,43 @@ kinds-append : (xs ys : List OptionValue) → AreKinds xs → AreKinds ys → Ar
 kinds-append [] ys a b = b
 kinds-append (o ∷ xs) ys a b = (a.0, kinds-append xs ys a.1 b)
 
-abbrev Each : (Slot → Type 0) → List Slot → Type 0
-Each P [] = Unit {0}
-Each P (s ∷ ss) = P s × Each P ss
+is_kind : ℕ → Bool
+is_kind kind = if kind == 0 then false else if kind == 255 then false else true
+
+kind-of : (kind : ℕ) → is_kind kind ≡ true → IsKind kind
+unfolding is_kind
+kind-of kind h = record {
+  no_padding = λ e. let never : false ≡ true = subst (λ (k : ℕ). is_kind k ≡ true) e h in cc;
+  no_end = λ e. let never : false ≡ true = subst (λ (k : ℕ). is_kind k ≡ true) e h in cc;
+}
+
+-- whether all kinds of the fields' options are such
+abbrev all_kinds : (ℕ → Bool) → List Slot → Bool
+all_kinds is [] = true
+all_kinds is (s ∷ ss) = is s.kind && all_kinds is ss
 
 kinds-slot : (kind : ℕ) (body : Option (List ℕ)) (rest : List OptionValue) → IsKind kind → AreKinds rest
     → AreKinds (of_slot kind body rest)
 kinds-slot kind None rest k h = h
 kinds-slot kind (Some d) rest k h = (k, h)
 
-kinds-slots : (ss : List Slot) → Each (λ s. IsKind s.kind) ss → AreKinds (of_slots ss)
+kinds-slots : (ss : List Slot) → all_kinds is_kind ss ≡ true → AreKinds (of_slots ss)
 kinds-slots [] h = tt
-kinds-slots (s ∷ ss) h = kinds-slot s.kind s.body (of_slots ss) h.0 (kinds-slots ss h.1)
-
-kind-of : (k : ℕ) → 0 < k → k < 255 → IsKind k
-kind-of k low high = record { no_padding = λ e. omega (arith, e, low); no_end = λ e. omega (arith, e, high) }
+kinds-slots (s ∷ ss) h =
+    let each = both (is_kind s.kind) (all_kinds is_kind ss) h in
+    kinds-slot s.kind s.body (of_slots ss) (kind-of s.kind each.0) (kinds-slots ss each.1)
 
 kinds-fields : (v : Value) → AreKinds (of_slots (slots_of v))
-kinds-fields v = kinds-slots (slots_of v) (
-  kind-of 53 (omega arith) (omega arith),
-  (
-    kind-of 61 (omega arith) (omega arith),
-    (
-      kind-of 54 (omega arith) (omega arith),
-      (
-        kind-of 3 (omega arith) (omega arith),
-        (
-          kind-of 1 (omega arith) (omega arith),
-          (
-            kind-of 50 (omega arith) (omega arith),
-            (
-              kind-of 57 (omega arith) (omega arith),
-              (
-                kind-of 51 (omega arith) (omega arith),
-                (
-                  kind-of 58 (omega arith) (omega arith),
-                  (
-                    kind-of 59 (omega arith) (omega arith),
-                    (
-                      kind-of 55 (omega arith) (omega arith),
-                      (
-                        kind-of 6 (omega arith) (omega arith),
-                        tt,
-                      ),
-                    ),
-                  ),
-                ),
-              ),
-            ),
-          ),
-        ),
-      ),
-    ),
-  ),
-)
+unfolding is_kind
+kinds-fields v = kinds-slots (slots_of v) refl
 
-kinds-additional : (os : List OptionValue) → AreAdditional os → AreKinds os
-kinds-additional [] h = tt
-kinds-additional (o ∷ os) h = (record { no_padding = h.0.0; no_end = h.0.13 }, kinds-additional os h.1)
+kinds-additional : (slots : List Slot) (os : List OptionValue) → AreAdditional slots os → AreKinds os
+kinds-additional slots [] h = tt
+kinds-additional slots (o ∷ os) h = (kind-other slots o.kind h.0, kinds-additional slots os h.1)
+  where
+    kind-other : (slots : List Slot) (kind : ℕ) → IsOther slots kind → IsKind kind
+    kind-other [] kind h = h
+    kind-other (s ∷ ss) kind h = kind-other ss kind h.1
 
 -- ---- client identifiers
 
@@ -115,69 +98,57 @@ ethernet-append : (xs ys : List OptionValue) → AreOfEthernet xs → AreOfEther
 ethernet-append [] ys a b = b
 ethernet-append (o ∷ xs) ys a b = (a.0, ethernet-append xs ys a.1 b)
 
-abbrev OfEthernet : ℕ → Option (List ℕ) → Type 0
-OfEthernet kind None = Unit {0}
-OfEthernet kind (Some d) = IsOfEthernet (option kind d)
+is_no_identifier : ℕ → Bool
+is_no_identifier kind = if kind == OPT_CLIENT_ID then false else true
 
-ethernet-slot : (kind : ℕ) (body : Option (List ℕ)) (rest : List OptionValue) → OfEthernet kind body
+no-identifier : (kind : ℕ) (d : List ℕ) → is_no_identifier kind ≡ true → IsOfEthernet (option kind d)
+unfolding is_no_identifier
+no-identifier kind d h =
+    λ is _. let never : false ≡ true = subst (λ (k : ℕ). is_no_identifier k ≡ true) is h in absurd (cc)
+
+ethernet-slot : (kind : ℕ) (body : Option (List ℕ)) (rest : List OptionValue) → is_no_identifier kind ≡ true
     → AreOfEthernet rest → AreOfEthernet (of_slot kind body rest)
 ethernet-slot kind None rest e h = h
-ethernet-slot kind (Some d) rest e h = (e, h)
+ethernet-slot kind (Some d) rest e h = (no-identifier kind d e, h)
 
-ethernet-slots : (ss : List Slot) → Each (λ s. OfEthernet s.kind s.body) ss → AreOfEthernet (of_slots ss)
+ethernet-slots : (ss : List Slot) → all_kinds is_no_identifier ss ≡ true → AreOfEthernet (of_slots ss)
 ethernet-slots [] h = tt
-ethernet-slots (s ∷ ss) h = ethernet-slot s.kind s.body (of_slots ss) h.0 (ethernet-slots ss h.1)
+ethernet-slots (s ∷ ss) h =
+    let each = both (is_no_identifier s.kind) (all_kinds is_no_identifier ss) h in
+    ethernet-slot s.kind s.body (of_slots ss) each.0 (ethernet-slots ss each.1)
 
-ethernet-other : (kind : ℕ) (body : Option (List ℕ)) → eqb kind 61 ≡ false → OfEthernet kind body
-ethernet-other kind None e = tt
-ethernet-other kind (Some d) e = λ is _. absurd (eqb-false kind 61 e is)
-
-ethernet-own : (address : Option Ethernet) → OfEthernet 61 (option_map (λ a. 1 ∷ ethernet_octets a) address)
-ethernet-own None = tt
-ethernet-own (Some a) = λ _ _. refl
+ethernet-own : (address : Option Ethernet) (rest : List OptionValue) → AreOfEthernet rest
+    → AreOfEthernet (of_slot OPT_CLIENT_ID (option_map (λ a. ethernet_type ∷ ethernet_octets a) address) rest)
+ethernet-own None rest h = h
+ethernet-own (Some a) rest h = (λ _ _. refl, h)
 
 ethernet-fields : (v : Value) → AreOfEthernet (of_slots (slots_of v))
-ethernet-fields v = ethernet-slots (slots_of v) (
-  ethernet-other 53 (Some (be8 (message_number v.message_type))) refl,
-  (
-    ethernet-own v.client_identifier,
-    (
-      ethernet-other 54 (option_map octets_of v.server_identifier) refl,
-      (
-        ethernet-other 3 (option_map octets_of v.router) refl,
-        (
-          ethernet-other 1 (option_map octets_of v.subnet_mask) refl,
-          (
-            ethernet-other 50 (option_map octets_of v.requested_ip) refl,
-            (
-              ethernet-other 57 (option_map be16 v.max_size) refl,
-              (
-                ethernet-other 51 (option_map be32 v.lease_duration) refl,
-                (
-                  ethernet-other 58 (option_map be32 v.renew_duration) refl,
-                  (
-                    ethernet-other 59 (option_map be32 v.rebind_duration) refl,
-                    (
-                      ethernet-other 55 v.parameter_request_list refl,
-                      (
-                        ethernet-other 6 (option_map (flat_map octets_of) v.dns_servers) refl,
-                        tt,
-                      ),
-                    ),
-                  ),
-                ),
-              ),
-            ),
-          ),
-        ),
-      ),
-    ),
-  ),
+unfolding is_no_identifier
+ethernet-fields v = (
+  no-identifier OPT_DHCP_MESSAGE_TYPE (be8 (message_number v.message_type)) refl,
+  ethernet-own v.client_identifier (of_slots (drop 2 (slots_of v))) (ethernet-slots (drop 2 (slots_of v)) refl),
 )
 
-ethernet-additional : (os : List OptionValue) → AreAdditional os → AreOfEthernet os
-ethernet-additional [] h = tt
-ethernet-additional (o ∷ os) h = (λ is _. absurd (h.0.12 is), ethernet-additional os h.1)
+-- a kind that some field has
+abbrev has_kind : ℕ → List Slot → Bool
+has_kind kind [] = false
+has_kind kind (s ∷ ss) = if s.kind == kind then true else has_kind kind ss
+
+other-kind : (kind : ℕ) (slots : List Slot) → has_kind kind slots ≡ true → (k : ℕ) → IsOther slots k → k ≢ kind
+other-kind kind [] has k other is = absurd (cc)
+other-kind kind (s ∷ ss) has k other is = elim (cases_eq s.kind kind) as (λ _. ⊥) [
+  | inl same ↦ other.0 (is ∙ sym same)
+  | inr differs ↦
+      let here : eqb s.kind kind ≡ false = ne_eqb s.kind kind differs in
+      other-kind kind ss (sym (ap (λ (b : Bool). cond b true (has_kind kind ss)) here) ∙ has) k other.1 is
+]
+
+ethernet-additional : (v : Value) (os : List OptionValue) → AreAdditional (slots_of v) os → AreOfEthernet os
+ethernet-additional v [] h = tt
+ethernet-additional v (o ∷ os) h = (
+  λ is _. absurd (other-kind OPT_CLIENT_ID (slots_of v) refl o.kind h.0 is),
+  ethernet-additional v os h.1,
+)
 
 -- ---- the last option of each kind
 
@@ -192,9 +163,11 @@ abbrev AreNot : ℕ → List OptionValue → Type 0
 AreNot kind [] = Unit {0}
 AreNot kind (o ∷ os) = (eqb o.kind kind ≡ false) × AreNot kind os
 
-are_not : (kind : ℕ) → ((k : ℕ) → IsOther k → k ≢ kind) → (os : List OptionValue) → AreAdditional os → AreNot kind os
-are_not kind other [] h = tt
-are_not kind other (o ∷ os) h = (ne_eqb o.kind kind (other o.kind h.0), are_not kind other os h.1)
+are_not : (kind : ℕ) (slots : List Slot) → has_kind kind slots ≡ true → (os : List OptionValue)
+    → AreAdditional slots os → AreNot kind os
+are_not kind slots has [] h = tt
+are_not kind slots has (o ∷ os) h =
+    (ne_eqb o.kind kind (other-kind kind slots has o.kind h.0), are_not kind slots has os h.1)
 
 silent : {A : Type 0} (kind : ℕ) (says : List ℕ → Option A) (os : List OptionValue) → AreNot kind os
     → last_of (said kind says) os ≡ None
@@ -239,22 +212,27 @@ last-slots kind says (s ∷ ss) =
 
 -- of all options of a value, only those of its fields give a field
 last-options : {A : Type 0} (kind : ℕ) (says : List ℕ → Option A) (v : Value)
-    → ((k : ℕ) → IsOther k → k ≢ kind) → AreAdditional v.additional_options
+    → has_kind kind (slots_of v) ≡ true → AreAdditional (slots_of v) v.additional_options
     → last_of (said kind says) (options_of v) ≡ in_slots kind says (slots_of v)
-last-options kind says v other h =
+last-options kind says v has h =
     last-append (said kind says) (of_slots (slots_of v)) v.additional_options
     ∙ ap (λ a. option_or a (last_of (said kind says) (of_slots (slots_of v))))
-    (silent kind says v.additional_options (are_not kind other v.additional_options h))
+    (silent kind says v.additional_options (are_not kind (slots_of v) has v.additional_options h))
     ∙ last-slots kind says (slots_of v)
+
+back : {A : Type 0} (kind : ℕ) (says : List ℕ → Option A) (v : Value) → AreAdditional (slots_of v) v.additional_options
+    → has_kind kind (slots_of v) ≡ true
+    → in_slots kind says (slots_of v) ≡ option_or (last_of (said kind says) (options_of v)) None
+back kind says v h has = sym (last-options kind says v has h) ∙ sym (or-none (last_of (said kind says) (options_of v)))
 
 -- ---- what each of them gives
 
-address-back : (a : Option Ipv4Address) → option_map octets_of a ≡ said_of (of_len 4) (option_map octets_of a)
+address-back : (a : Option Ipv4Address) → a ≡ said_of address_in (option_map octets_of a)
 address-back None = refl
 address-back (Some a) = refl
 
-identifier-back : (a : Option Ethernet) → option_map ethernet_octets a
-    ≡ said_of identifier_in (option_map (λ address. 1 ∷ ethernet_octets address) a)
+identifier-back : (a : Option Ethernet)
+    → a ≡ said_of identifier_in (option_map (λ address. ethernet_type ∷ ethernet_octets address) a)
 identifier-back None = refl
 identifier-back (Some a) = refl
 
@@ -272,35 +250,33 @@ list-back : (d : Option (List ℕ)) → d ≡ said_of Some d
 list-back None = refl
 list-back (Some d) = refl
 
-whole-all : (n : ℕ) (xs : List Ipv4Address) → length xs ≤ n → whole_addresses n (flat_map octets_of xs)
-    ≡ flat_map octets_of xs
-unfolding whole_addresses
-whole-all n [] h = whole-short n [] (omega arith)
-whole-all zero (x ∷ xs) h = absurd (omega (arith, h))
-whole-all (suc n) (x ∷ xs) h =
-    ap (λ (l : List ℕ). whole_addresses (suc n) l) (flat_map-cons octets_of x xs)
-    ∙ ap (λ (l : List ℕ). octets_of x ++ l) (whole-all n xs (omega (arith, h)))
-    ∙ sym (flat_map-cons octets_of x xs)
+all-addresses : (xs : List Ipv4Address) → addresses_in (flat_map octets_of xs) ≡ xs
+unfolding addresses_in
+all-addresses [] = refl
+all-addresses (x ∷ xs) =
+    ap (λ (l : List ℕ). addresses_in l) (flat_map-cons octets_of x xs)
+    ∙ ap (λ (l : List Ipv4Address). x ∷ l) (all-addresses xs)
 
-servers-back : (l : Option (List Ipv4Address)) → IsFew l → option_map (flat_map octets_of) l
-    ≡ said_of addresses_in (option_map (flat_map octets_of) l)
+servers-back : (l : Option (List Ipv4Address)) → IsFew l
+    → l ≡ said_of servers_in (option_map (flat_map octets_of) l)
 servers-back None h = refl
-servers-back (Some xs) h = ap Some (sym (whole-all 5 xs h))
+servers-back (Some xs) h =
+    ap Some (sym (ap (λ (l : List Ipv4Address). take 5 l) (all-addresses xs) ∙ take_all 5 xs h))
 
-type-back : (t : MessageType) → IsProper message.Unknown message_rows t
+type-back : (t : MessageType) → IsProper MessageType.Unknown message_rows t
     → type_in (opcode_number (operation_of t)) (be8 (message_number t)) ≡ Some t
 unfolding be8
-type-back message.Discover h = refl
-type-back message.Offer h = refl
-type-back message.Request h = refl
-type-back message.Decline h = refl
-type-back message.Ack h = refl
-type-back message.Nak h = refl
-type-back message.Release h = refl
-type-back message.Inform h = refl
-type-back (message.Unknown n) h =
+type-back MessageType.Discover h = refl
+type-back MessageType.Offer h = refl
+type-back MessageType.Request h = refl
+type-back MessageType.Decline h = refl
+type-back MessageType.Ack h = refl
+type-back MessageType.Nak h = refl
+type-back MessageType.Release h = refl
+type-back MessageType.Inform h = refl
+type-back (MessageType.Unknown n) h =
     ap (λ (t : MessageType). cond (eqb (opcode_number (operation_of t)) 0) (Some t) None)
-    (case_in-unnamed message.Unknown message_rows n (h n refl))
+    (case_in-unnamed MessageType.Unknown message_rows n (h n refl))
 
 -- ---- the header
 
@@ -308,37 +284,54 @@ flag-back : (b : Bool) → b ≡ has_broadcast (big_number 2 (big_bytes 2 (flags
 flag-back true = refl
 flag-back false = refl
 
-record SaysHeader (v : Value) (bytes : List ℕ) : Type 0 where
-  op : byte_of op_field bytes ≡ opcode_number (operation_of v.message_type)
-  hardware : byte_of htype_field bytes ≡ 1
-  hardware_len : byte_of hlen_field bytes ≡ 6
-  cookie : number_of magic_field bytes ≡ 0x63825363
-  transaction_id : v.transaction_id ≡ number_of xid_field bytes
-  secs : v.secs ≡ number_of secs_field bytes
-  client_hardware_address : ethernet_octets v.client_hardware_address ≡ bytes_of chaddr_field bytes
-  client_ip : octets_of v.client_ip ≡ bytes_of ciaddr_field bytes
-  your_ip : octets_of v.your_ip ≡ bytes_of yiaddr_field bytes
-  server_ip : octets_of v.server_ip ≡ bytes_of siaddr_field bytes
-  relay_agent_ip : octets_of v.relay_agent_ip ≡ bytes_of giaddr_field bytes
-  broadcast : v.broadcast ≡ has_broadcast (number_of flags_field bytes)
-
-header-back : (v : Value) (more : List ℕ) → v.transaction_id < 2 ^ 32 → v.secs < 2 ^ 16
-    → SaysHeader v (header_text v ++ more)
+header-back : (v : Value) (more : List ℕ) → HasHeader (header_text v ++ more)
 unfolding header_text fields be8 be16 be32 part
-header-back v more id secs = record {
-  op = refl;
+header-back v more = record {
+  whole = omega (arith, length-append (header_text v) more, header_len-240 v);
   hardware = refl;
   hardware_len = refl;
   cookie = refl;
-  transaction_id = sym (big_number-reads_back 4 v.transaction_id [] id);
-  secs = sym (big_number-reads_back 2 v.secs [] secs);
-  client_hardware_address = refl;
-  client_ip = refl;
-  your_ip = refl;
-  server_ip = refl;
-  relay_agent_ip = refl;
-  broadcast = flag-back v.broadcast;
 }
+
+operation-back : (v : Value) (more : List ℕ)
+    → byte_of op_field (header_text v ++ more) ≡ opcode_number (operation_of v.message_type)
+unfolding header_text fields be8 part
+operation-back v more = refl
+
+-- the fixed part, and each field by the last option that gives it
+value-back : (v : Value) (more : List ℕ) → IsCanonical v
+    → norm v ≡ with_options (options_of v) (fixed_value (header_text v ++ more) v.message_type)
+unfolding header_text fields be8 be16 be32 part with_options
+value-back v text c =
+    let more = c.additional in
+    λ i. record {
+      message_type = v.message_type;
+      transaction_id = sym (big_number-reads_back 4 v.transaction_id [] c.transaction_id) i;
+      secs = sym (big_number-reads_back 2 v.secs [] c.secs) i;
+      client_hardware_address = v.client_hardware_address;
+      client_ip = v.client_ip;
+      your_ip = v.your_ip;
+      server_ip = v.server_ip;
+      router = (address-back v.router ∙ back OPT_ROUTER address_in v more refl) i;
+      subnet_mask = (address-back v.subnet_mask ∙ back OPT_SUBNET_MASK address_in v more refl) i;
+      relay_agent_ip = v.relay_agent_ip;
+      broadcast = flag-back v.broadcast i;
+      requested_ip = (address-back v.requested_ip ∙ back OPT_REQUESTED_IP address_in v more refl) i;
+      client_identifier = (identifier-back v.client_identifier ∙ back OPT_CLIENT_ID identifier_in v more refl) i;
+      server_identifier = (address-back v.server_identifier ∙ back OPT_SERVER_IDENTIFIER address_in v more refl) i;
+      parameter_request_list =
+          (list-back v.parameter_request_list ∙ back OPT_PARAMETER_REQUEST_LIST Some v more refl) i;
+      dns_servers =
+          (servers-back v.dns_servers c.dns_servers ∙ back OPT_DOMAIN_NAME_SERVER servers_in v more refl) i;
+      max_size = (size-back v.max_size c.max_size ∙ back OPT_MAX_DHCP_MESSAGE_SIZE (number_in 2) v more refl) i;
+      lease_duration =
+          (seconds-back v.lease_duration c.lease_duration ∙ back OPT_IP_LEASE_TIME (number_in 4) v more refl) i;
+      renew_duration =
+          (seconds-back v.renew_duration c.renew_duration ∙ back OPT_RENEWAL_TIME_VALUE (number_in 4) v more refl) i;
+      rebind_duration =
+          (seconds-back v.rebind_duration c.rebind_duration ∙ back OPT_REBINDING_TIME_VALUE (number_in 4) v more refl) i;
+      additional_options = [];
+    }
 
 -- ---- a packet
 
@@ -347,55 +340,19 @@ pub packet-read : (v : Value) (rest : List ℕ) → IsCanonical v
 packet-read v rest c =
     let os : List OptionValue = options_of v in
     let more : List ℕ = options_text os ++ 255 ∷ rest in
-    let h = header-back v more c.transaction_id c.secs in
-    let extra = c.additional in
     let kinds = kinds-append (of_slots (slots_of v)) v.additional_options (kinds-fields v)
-    (kinds-additional v.additional_options extra) in
+    (kinds-additional (slots_of v) v.additional_options c.additional) in
     let behind : drop 240 (header_text v ++ more) ≡ more = drop_at (header_text v) more 240 (header_len-240 v) in
     record {
       options = os;
-      header = record {
-        whole = omega (arith, length-append (header_text v) more, header_len-240 v);
-        hardware = h.hardware;
-        hardware_len = h.hardware_len;
-        cookie = h.cookie;
-      };
+      header = header-back v more;
       listed = subst (λ (l : List ℕ). Options l os) (sym behind) (listed os rest kinds);
       identifiers =
           ethernet-append (of_slots (slots_of v)) v.additional_options (ethernet-fields v)
-          (ethernet-additional v.additional_options extra);
+          (ethernet-additional v v.additional_options c.additional);
       message_type =
-          ap (λ (op : ℕ). last_of (said 53 (type_in op)) os) h.op
-          ∙ last-options 53 (type_in (opcode_number (operation_of v.message_type))) v (λ k other. other.6) extra
+          ap (λ (op : ℕ). type_among op os) (operation-back v more)
+          ∙ last-options OPT_DHCP_MESSAGE_TYPE (type_in (opcode_number (operation_of v.message_type))) v refl c.additional
           ∙ type-back v.message_type c.message_type;
-      transaction_id = h.transaction_id;
-      secs = h.secs;
-      client_hardware_address = h.client_hardware_address;
-      client_ip = h.client_ip;
-      your_ip = h.your_ip;
-      server_ip = h.server_ip;
-      relay_agent_ip = h.relay_agent_ip;
-      broadcast = h.broadcast;
-      router = address-back v.router ∙ sym (last-options 3 (of_len 4) v (λ k other. other.2) extra);
-      subnet_mask = address-back v.subnet_mask ∙ sym (last-options 1 (of_len 4) v (λ k other. other.1) extra);
-      requested_ip = address-back v.requested_ip ∙ sym (last-options 50 (of_len 4) v (λ k other. other.4) extra);
-      server_identifier =
-          address-back v.server_identifier ∙ sym (last-options 54 (of_len 4) v (λ k other. other.7) extra);
-      client_identifier =
-          identifier-back v.client_identifier ∙ sym (last-options 61 identifier_in v (λ k other. other.12) extra);
-      parameter_request_list =
-          list-back v.parameter_request_list ∙ sym (last-options 55 Some v (λ k other. other.8) extra);
-      dns_servers =
-          servers-back v.dns_servers c.dns_servers ∙ sym (last-options 6 addresses_in v (λ k other. other.3) extra);
-      max_size = size-back v.max_size c.max_size ∙ sym (last-options 57 (number_in 2) v (λ k other. other.9) extra);
-      lease_duration =
-          seconds-back v.lease_duration c.lease_duration
-          ∙ sym (last-options 51 (number_in 4) v (λ k other. other.5) extra);
-      renew_duration =
-          seconds-back v.renew_duration c.renew_duration
-          ∙ sym (last-options 58 (number_in 4) v (λ k other. other.10) extra);
-      rebind_duration =
-          seconds-back v.rebind_duration c.rebind_duration
-          ∙ sym (last-options 59 (number_in 4) v (λ k other. other.11) extra);
-      additional_options = refl;
+      value = value-back v more c;
     }

@@ -227,7 +227,7 @@ length-before [] room = before-none room
 length-before (o ∷ os) room = before-more (fits room o) room o os refl (length-before os (room - length
     (option_text o)))
 
-both : (a b : Bool) → (a && b) ≡ true → (a ≡ true) × (b ≡ true)
+pub both : (a b : Bool) → (a && b) ≡ true → (a ≡ true) × (b ≡ true)
 both true b h = (refl, h)
 both false b h = absurd (cc)
 

@@ -1,8 +1,7 @@
 -- The content of a DHCP packet: its value, its text, and the grammar that reads it (RFC 2131, RFC 2132).
-use Rattle.std.specs.Prelude.{◌≡◌, ℕ, zero, suc, ◌==◌, ◌&&◌, Bool}
-use Rattle.std.specs.Prelude.{true, false, List, [], ◌∷◌, ◌++◌, length, drop, map, flat_map, replicate}
-use Rattle.std.specs.Prelude.{slice_index, if◌then◌else◌, Option, None, Some}
-use Rattle.std.specs.Option.{option_map}
+use Rattle.std.specs.Prelude.{◌≡◌, ℕ, ◌==◌, ◌&&◌, Bool, true, false, List, [], ◌∷◌, ◌++◌, length, take, drop}
+use Rattle.std.specs.Prelude.{map, flat_map, replicate, slice_index, if◌then◌else◌, Option, None, Some}
+use Rattle.std.specs.Option.{option_map, option_or}
 use Rattle.std.specs.Int.RustNames.{bit_and}
 use Rattle.byteorder.specs.Endian.{big_number}
 use Rattle.wirebase.specs.Bytes.{Reaches, byte_of, bytes_of, number_of}
@@ -13,13 +12,20 @@ use Rattle.wirebase.specs.HardwareAddress.{ethernet_of}
 use Rattle.wirebase.specs.Ipv4.{octets_of}
 use Rattle.wirebase.specs.LastOf.{last_of}
 use Rattle.wirebase.specs.declared.ipv4.Ipv4Address.{Ipv4Address}
+use Rattle.dhcp_wire.specs.declared.dhcpv4.option_kinds.TheConstants.{OPT_CLIENT_ID, OPT_DHCP_MESSAGE_TYPE}
+use Rattle.dhcp_wire.specs.declared.dhcpv4.option_kinds.TheConstants.{OPT_DOMAIN_NAME_SERVER, OPT_IP_LEASE_TIME}
+use Rattle.dhcp_wire.specs.declared.dhcpv4.option_kinds.TheConstants.{OPT_MAX_DHCP_MESSAGE_SIZE, OPT_REQUESTED_IP}
+use Rattle.dhcp_wire.specs.declared.dhcpv4.option_kinds.TheConstants.{OPT_PARAMETER_REQUEST_LIST, OPT_ROUTER}
+use Rattle.dhcp_wire.specs.declared.dhcpv4.option_kinds.TheConstants.{OPT_REBINDING_TIME_VALUE, OPT_SUBNET_MASK}
+use Rattle.dhcp_wire.specs.declared.dhcpv4.option_kinds.TheConstants.{OPT_RENEWAL_TIME_VALUE, OPT_SERVER_IDENTIFIER}
 use Rattle.dhcp_wire.specs.declared.dhcpv4.repr.Repr.{Repr}
 use Rattle.dhcp_wire.specs.declared.dhcpv4.tables.MessageType.{MessageType}
 use Rattle.dhcp_wire.specs.Dhcpv4Options.{OptionValue, option, option_text, value_of_option, Options}
+use Rattle.dhcp_wire.specs.Dhcpv4OptionValue.{addresses_in, first_address}
 use Rattle.dhcp_wire.specs.Dhcpv4Packet.{op_field, htype_field, hlen_field, xid_field, secs_field, flags_field}
 use Rattle.dhcp_wire.specs.Dhcpv4Packet.{ciaddr_field, yiaddr_field, siaddr_field, giaddr_field, chaddr_field}
-use Rattle.dhcp_wire.specs.Dhcpv4Packet.{magic_field, options_in}
-use Rattle.dhcp_wire.specs.Dhcpv4Tables.{opcode_number, operation_of, message_number, message_of}
+use Rattle.dhcp_wire.specs.Dhcpv4Packet.{magic_field, options_in, ethernet_type, ethernet_len, magic_cookie}
+use Rattle.dhcp_wire.specs.Dhcpv4Tables.{opcode_number, operation_of, message_number, message_of, broadcast_bit}
 
 -- ---- the value by its content
 
@@ -74,13 +80,13 @@ value_of r = record {
 -- ---- its text
 
 abbrev pub flags_of : Bool → ℕ
-flags_of true = 0x8000
+flags_of true = broadcast_bit
 flags_of false = 0
 
 -- the fixed part: Ethernet, no relay passed, and no names
 abbrev pub header_fields : Value → List (List ℕ)
 header_fields v =
-    be8 (opcode_number (operation_of v.message_type)) ∷ be8 1 ∷ be8 6 ∷ be8 0
+    be8 (opcode_number (operation_of v.message_type)) ∷ be8 ethernet_type ∷ be8 ethernet_len ∷ be8 0
     ∷ be32 v.transaction_id
     ∷ be16 v.secs ∷ be16 (flags_of v.broadcast)
     ∷ octets_of v.client_ip
@@ -89,7 +95,7 @@ header_fields v =
     ∷ octets_of v.relay_agent_ip
     ∷ ethernet_octets v.client_hardware_address
     ∷ replicate 202 0
-    ∷ be32 0x63825363 ∷ []
+    ∷ be32 magic_cookie ∷ []
 
 -- an option of a kind, where there are data for it
 pub record Slot : Type 0 where
@@ -110,18 +116,18 @@ of_slots (s ∷ rest) = of_slot s.kind s.body (of_slots rest)
 -- the options that a value has for its fields, in the order in which they are written (RFC 2132 sections 3 and 9)
 abbrev pub slots_of : Value → List Slot
 slots_of v =
-    slot 53 (Some (be8 (message_number v.message_type)))
-    ∷ slot 61 (option_map (λ address. 1 ∷ ethernet_octets address) v.client_identifier)
-    ∷ slot 54 (option_map octets_of v.server_identifier)
-    ∷ slot 3 (option_map octets_of v.router)
-    ∷ slot 1 (option_map octets_of v.subnet_mask)
-    ∷ slot 50 (option_map octets_of v.requested_ip)
-    ∷ slot 57 (option_map be16 v.max_size)
-    ∷ slot 51 (option_map be32 v.lease_duration)
-    ∷ slot 58 (option_map be32 v.renew_duration)
-    ∷ slot 59 (option_map be32 v.rebind_duration)
-    ∷ slot 55 v.parameter_request_list
-    ∷ slot 6 (option_map (flat_map octets_of) v.dns_servers) ∷ []
+    slot OPT_DHCP_MESSAGE_TYPE (Some (be8 (message_number v.message_type)))
+    ∷ slot OPT_CLIENT_ID (option_map (λ address. ethernet_type ∷ ethernet_octets address) v.client_identifier)
+    ∷ slot OPT_SERVER_IDENTIFIER (option_map octets_of v.server_identifier)
+    ∷ slot OPT_ROUTER (option_map octets_of v.router)
+    ∷ slot OPT_SUBNET_MASK (option_map octets_of v.subnet_mask)
+    ∷ slot OPT_REQUESTED_IP (option_map octets_of v.requested_ip)
+    ∷ slot OPT_MAX_DHCP_MESSAGE_SIZE (option_map be16 v.max_size)
+    ∷ slot OPT_IP_LEASE_TIME (option_map be32 v.lease_duration)
+    ∷ slot OPT_RENEWAL_TIME_VALUE (option_map be32 v.renew_duration)
+    ∷ slot OPT_REBINDING_TIME_VALUE (option_map be32 v.rebind_duration)
+    ∷ slot OPT_PARAMETER_REQUEST_LIST v.parameter_request_list
+    ∷ slot OPT_DOMAIN_NAME_SERVER (option_map (flat_map octets_of) v.dns_servers) ∷ []
 
 abbrev pub options_of : Value → List OptionValue
 options_of v = of_slots (slots_of v) ++ v.additional_options
@@ -151,21 +157,27 @@ said kind says o = if o.kind == kind then says o.body else None
 abbrev pub number_in : ℕ → List ℕ → Option ℕ
 number_in n d = option_map (big_number n) (of_len n d)
 
+abbrev pub address_in : List ℕ → Option Ipv4Address
+address_in d = option_map first_address (of_len 4 d)
+
+-- an address of Ethernet by its octets
+abbrev pub ethernet_at : List ℕ → Ethernet
+ethernet_at l = record {
+  a = slice_index l 0;
+  b = slice_index l 1;
+  c = slice_index l 2;
+  d = slice_index l 3;
+  e = slice_index l 4;
+  f = slice_index l 5;
+}
+
 -- an address of Ethernet after the number of its kind of hardware (RFC 2132 section 9.14)
-abbrev pub identifier_in : List ℕ → Option (List ℕ)
-identifier_in d = option_map (drop 1) (of_len 7 d)
+abbrev pub identifier_in : List ℕ → Option Ethernet
+identifier_in d = option_map (λ l. ethernet_at (drop 1 l)) (of_len 7 d)
 
--- the first whole addresses of four bytes, at most a given number
-unfoldable pub whole_addresses : ℕ → List ℕ → List ℕ
-whole_addresses zero d = []
-whole_addresses (suc most) [] = []
-whole_addresses (suc most) (a ∷ []) = []
-whole_addresses (suc most) (a ∷ b ∷ []) = []
-whole_addresses (suc most) (a ∷ b ∷ c ∷ []) = []
-whole_addresses (suc most) (a ∷ b ∷ c ∷ d ∷ rest) = a ∷ b ∷ c ∷ d ∷ whole_addresses most rest
-
-abbrev pub addresses_in : List ℕ → Option (List ℕ)
-addresses_in d = Some (whole_addresses 5 d)
+-- the first whole addresses, at most five
+abbrev pub servers_in : List ℕ → Option (List Ipv4Address)
+servers_in d = Some (take 5 (addresses_in d))
 
 -- the type of a message whose operation is that of the packet
 abbrev pub type_in : ℕ → List ℕ → Option MessageType
@@ -173,50 +185,82 @@ type_in op d =
     if (length d == 1) && (opcode_number (operation_of (message_of (slice_index d 0))) == op)
     then Some (message_of (slice_index d 0)) else None
 
+-- the type of message that the last option gives whose type has this operation
+abbrev pub type_among : ℕ → List OptionValue → Option MessageType
+type_among op options = last_of (said OPT_DHCP_MESSAGE_TYPE (type_in op)) options
+
+-- A value in which each field that options give is made anew: of its type, its kind of option, how the data of such an
+-- option are read, and what the field was.
+abbrev pub given : ((A : Type 0) → ℕ → (List ℕ → Option A) → Option A → Option A) → Value → Value
+given give v = record v {
+  router = give Ipv4Address OPT_ROUTER address_in v.router;
+  subnet_mask = give Ipv4Address OPT_SUBNET_MASK address_in v.subnet_mask;
+  requested_ip = give Ipv4Address OPT_REQUESTED_IP address_in v.requested_ip;
+  client_identifier = give Ethernet OPT_CLIENT_ID identifier_in v.client_identifier;
+  server_identifier = give Ipv4Address OPT_SERVER_IDENTIFIER address_in v.server_identifier;
+  parameter_request_list = give (List ℕ) OPT_PARAMETER_REQUEST_LIST Some v.parameter_request_list;
+  dns_servers = give (List Ipv4Address) OPT_DOMAIN_NAME_SERVER servers_in v.dns_servers;
+  max_size = give ℕ OPT_MAX_DHCP_MESSAGE_SIZE (number_in 2) v.max_size;
+  lease_duration = give ℕ OPT_IP_LEASE_TIME (number_in 4) v.lease_duration;
+  renew_duration = give ℕ OPT_RENEWAL_TIME_VALUE (number_in 4) v.renew_duration;
+  rebind_duration = give ℕ OPT_REBINDING_TIME_VALUE (number_in 4) v.rebind_duration;
+}
+
+-- each field from the last option of its kind and length, or as it was where there is none
+unfoldable pub with_options : List OptionValue → Value → Value
+with_options options = given (λ A kind says field. option_or (last_of (said kind says) options) field)
+
+-- of the flags that have a name, the one of a packet that is to be answered to everyone (RFC 2131 section 4.1)
+abbrev pub has_broadcast : ℕ → Bool
+has_broadcast flags = bit_and (bit_and flags broadcast_bit) broadcast_bit == broadcast_bit
+
+-- the value of the fixed part (RFC 2131 section 2), with this type of message, and of no options
+abbrev pub fixed_value : List ℕ → MessageType → Value
+fixed_value bytes message_type = record {
+  message_type = message_type;
+  transaction_id = number_of xid_field bytes;
+  secs = number_of secs_field bytes;
+  client_hardware_address = ethernet_at (bytes_of chaddr_field bytes);
+  client_ip = first_address (bytes_of ciaddr_field bytes);
+  your_ip = first_address (bytes_of yiaddr_field bytes);
+  server_ip = first_address (bytes_of siaddr_field bytes);
+  router = None;
+  subnet_mask = None;
+  relay_agent_ip = first_address (bytes_of giaddr_field bytes);
+  broadcast = has_broadcast (number_of flags_field bytes);
+  requested_ip = None;
+  client_identifier = None;
+  server_identifier = None;
+  parameter_request_list = None;
+  dns_servers = None;
+  max_size = None;
+  lease_duration = None;
+  renew_duration = None;
+  rebind_duration = None;
+  additional_options = [];
+}
+
 -- a client identifier of 7 bytes is an address of Ethernet
 abbrev pub IsOfEthernet : OptionValue → Type 0
-IsOfEthernet o = o.kind ≡ 61 → length o.body ≡ 7 → slice_index o.body 0 ≡ 1
+IsOfEthernet o = o.kind ≡ OPT_CLIENT_ID → length o.body ≡ 7 → slice_index o.body 0 ≡ ethernet_type
 
 abbrev pub AreOfEthernet : List OptionValue → Type 0
 AreOfEthernet [] = Unit {0}
 AreOfEthernet (o ∷ os) = IsOfEthernet o × AreOfEthernet os
 
--- of the flags that have a name, the one of a packet that is to be answered to everyone (RFC 2131 section 4.1)
-abbrev pub has_broadcast : ℕ → Bool
-has_broadcast flags = bit_and (bit_and flags 0x8000) 0x8000 == 0x8000
-
 -- whole, of Ethernet, and with the cookie of DHCP (RFC 2131 section 3)
 pub record HasHeader (bytes : List ℕ) : Type 0 where
   pub whole : Reaches magic_field bytes
-  pub hardware : byte_of htype_field bytes ≡ 1
-  pub hardware_len : byte_of hlen_field bytes ≡ 6
-  pub cookie : number_of magic_field bytes ≡ 0x63825363
+  pub hardware : byte_of htype_field bytes ≡ ethernet_type
+  pub hardware_len : byte_of hlen_field bytes ≡ ethernet_len
+  pub cookie : number_of magic_field bytes ≡ magic_cookie
 
 -- The bytes are a packet of this value: of Ethernet, with the cookie of DHCP, and with a type of message that has the
--- operation of the packet. Each field that an option gives is that of the last option of its kind and length.
+-- operation of the packet.
 pub record IsPacket (bytes : List ℕ) (v : Value) : Type 0 where
   pub options : List OptionValue
   pub header : HasHeader bytes
   pub listed : Options (options_in bytes) options
   pub identifiers : AreOfEthernet options
-  pub message_type : last_of (said 53 (type_in (byte_of op_field bytes))) options ≡ Some v.message_type
-  pub transaction_id : v.transaction_id ≡ number_of xid_field bytes
-  pub secs : v.secs ≡ number_of secs_field bytes
-  pub client_hardware_address : ethernet_octets v.client_hardware_address ≡ bytes_of chaddr_field bytes
-  pub client_ip : octets_of v.client_ip ≡ bytes_of ciaddr_field bytes
-  pub your_ip : octets_of v.your_ip ≡ bytes_of yiaddr_field bytes
-  pub server_ip : octets_of v.server_ip ≡ bytes_of siaddr_field bytes
-  pub relay_agent_ip : octets_of v.relay_agent_ip ≡ bytes_of giaddr_field bytes
-  pub broadcast : v.broadcast ≡ has_broadcast (number_of flags_field bytes)
-  pub router : option_map octets_of v.router ≡ last_of (said 3 (of_len 4)) options
-  pub subnet_mask : option_map octets_of v.subnet_mask ≡ last_of (said 1 (of_len 4)) options
-  pub requested_ip : option_map octets_of v.requested_ip ≡ last_of (said 50 (of_len 4)) options
-  pub server_identifier : option_map octets_of v.server_identifier ≡ last_of (said 54 (of_len 4)) options
-  pub client_identifier : option_map ethernet_octets v.client_identifier ≡ last_of (said 61 identifier_in) options
-  pub parameter_request_list : v.parameter_request_list ≡ last_of (said 55 Some) options
-  pub dns_servers : option_map (flat_map octets_of) v.dns_servers ≡ last_of (said 6 addresses_in) options
-  pub max_size : v.max_size ≡ last_of (said 57 (number_in 2)) options
-  pub lease_duration : v.lease_duration ≡ last_of (said 51 (number_in 4)) options
-  pub renew_duration : v.renew_duration ≡ last_of (said 58 (number_in 4)) options
-  pub rebind_duration : v.rebind_duration ≡ last_of (said 59 (number_in 4)) options
-  pub additional_options : v.additional_options ≡ []
+  pub message_type : type_among (byte_of op_field bytes) options ≡ Some v.message_type
+  pub value : v ≡ with_options options (fixed_value bytes v.message_type)

@@ -3,7 +3,8 @@ use Rattle.std.specs.Prelude.{ℕ, Bool, true, false, List, [], ◌∷◌, ◌++
 use Rattle.std.specs.Prelude.{Option, None, Some, ◌==◌, if◌then◌else◌}
 use Rattle.std.specs.Int.RustNames.{bit_and}
 use Rattle.std.specs.Option.{option_map}
-use Rattle.wirebase.specs.Ethernet.{Ethernet, hex_colons}
+use Rattle.wirebase.specs.Ethernet.{Ethernet}
+use Rattle.wirebase.specs.Hexadecimal.{hex_colons}
 use Rattle.wirebase.specs.Ethernet.{octets_of as ethernet_octets}
 use Rattle.wirebase.specs.Ipv4.{address_text}
 use Rattle.wirebase.specs.Display.{pieces}
@@ -12,6 +13,7 @@ use Rattle.dhcp_wire.specs.declared.dhcpv4.tables.MessageType.TheVariants as mes
 use Rattle.dhcp_wire.specs.declared.dhcpv4.tables.OpCode.{OpCode}
 use Rattle.dhcp_wire.specs.declared.dhcpv4.tables.OpCode.TheVariants as opcode
 use Rattle.dhcp_wire.specs.Dhcpv4.{Value}
+use Rattle.dhcp_wire.specs.Dhcpv4Tables.{broadcast_bit}
 
 -- a number that has no name
 abbrev pub unknown_display : ℕ → List ℕ
@@ -37,7 +39,7 @@ message_display (message.Unknown n) = unknown_display n
 
 -- the flag that has a name (RFC 2131 section 2), or a line where it is not set
 abbrev pub flags_display : ℕ → List ℕ
-flags_display flags = if bit_and flags 0x8000 == 0 then codes "-" else codes "broadcast"
+flags_display flags = if bit_and flags broadcast_bit == 0 then codes "-" else codes "broadcast"
 
 -- ---- a packet
 

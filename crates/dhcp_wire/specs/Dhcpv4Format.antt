@@ -1,18 +1,14 @@
 -- The result of writing a DHCP packet, and the format: which values their own text gives back, and as which values.
 use Rattle.std.specs.Prelude.{◌≡◌, ◌≢◌, ℕ, ◌+◌, ◌-◌, ◌≤◌, ◌<◌, ◌^◌, ◌↔◌, Bool, nat_le, ◌&&◌, List, [], ◌∷◌, ◌++◌}
-use Rattle.std.specs.Prelude.{length}
-use Rattle.std.specs.Prelude.{if◌then◌else◌, Option, None, Some, Result, IsOk, OnOk, OnErr}
-use Rattle.std.specs.Prelude.{flat_map}
-use Rattle.std.specs.Option.{is_some, option_map}
+use Rattle.std.specs.Prelude.{length, if◌then◌else◌, Option, None, Some, Result, IsOk, OnOk, OnErr}
 use Rattle.wirebase.specs.Bytes.{over}
 use Rattle.wirebase.specs.Format.{Format, RoundTrips}
-use Rattle.wirebase.specs.Ipv4.{octets_of}
 use Rattle.wirebase.specs.Numbered.{IsProper}
 use Rattle.wirebase.specs.declared.error.Error.{Error}
 use Rattle.wirebase.specs.declared.ipv4.Ipv4Address.{Ipv4Address}
-use Rattle.dhcp_wire.specs.declared.dhcpv4.tables.MessageType.TheVariants as message
-use Rattle.dhcp_wire.specs.Dhcpv4.{Value, text, header_text, options_of, IsPacket}
-use Rattle.dhcp_wire.specs.Dhcpv4Options.{OptionValue, option_text}
+use Rattle.dhcp_wire.specs.declared.dhcpv4.tables.MessageType.{MessageType}
+use Rattle.dhcp_wire.specs.Dhcpv4.{Value, Slot, slots_of, text, header_text, options_of, IsPacket}
+use Rattle.dhcp_wire.specs.Dhcpv4Options.{OptionValue, option_text, IsKind}
 use Rattle.dhcp_wire.specs.Dhcpv4Tables.{message_rows}
 
 -- ---- the bytes that a value takes, as they are counted
@@ -22,20 +18,13 @@ abbrev pub data_len : Option (List ℕ) → ℕ
 data_len None = 0
 data_len (Some d) = 2 + length d
 
-abbrev pub len_if : Bool → ℕ → ℕ
-len_if present len = if present then len else 0
+abbrev pub slots_len : List Slot → ℕ
+slots_len [] = 0
+slots_len (s ∷ rest) = data_len s.body + slots_len rest
 
--- the header, the end mark, and all options of a fixed length
-abbrev pub fixed_len : Value → ℕ
-fixed_len v =
-    244 + len_if (is_some v.client_identifier) 9 + len_if (is_some v.server_identifier) 6 + len_if (is_some v.router) 6
-    + len_if (is_some v.subnet_mask) 6 + len_if (is_some v.requested_ip) 6 + len_if (is_some v.max_size) 4
-    + len_if (is_some v.lease_duration) 6 + len_if (is_some v.renew_duration) 6 + len_if (is_some v.rebind_duration) 6
-
--- with the two lists
+-- the header of 240 bytes, the end mark, and the options of the fields
 abbrev pub fields_len : Value → ℕ
-fields_len v =
-    fixed_len v + data_len v.parameter_request_list + data_len (option_map (flat_map octets_of) v.dns_servers)
+fields_len v = 241 + slots_len (slots_of v)
 
 abbrev pub options_len : List OptionValue → ℕ
 options_len [] = 0
@@ -74,14 +63,13 @@ refused_text room v = header_text v ++ texts_before (room - 240) (options_of v)
 -- ---- the format
 
 -- a kind that additional options may have: neither padding, nor the end mark, nor that of an option of a field
-abbrev pub IsOther : ℕ → Type 0
-IsOther kind =
-    (kind ≢ 0) × (kind ≢ 1) × (kind ≢ 3) × (kind ≢ 6) × (kind ≢ 50) × (kind ≢ 51) × (kind ≢ 53) × (kind ≢ 54)
-    × (kind ≢ 55) × (kind ≢ 57) × (kind ≢ 58) × (kind ≢ 59) × (kind ≢ 61) × (kind ≢ 255)
+abbrev pub IsOther : List Slot → ℕ → Type 0
+IsOther [] kind = IsKind kind
+IsOther (s ∷ slots) kind = (kind ≢ s.kind) × IsOther slots kind
 
-abbrev pub AreAdditional : List OptionValue → Type 0
-AreAdditional [] = Unit {0}
-AreAdditional (o ∷ os) = IsOther o.kind × AreAdditional os
+abbrev pub AreAdditional : List Slot → List OptionValue → Type 0
+AreAdditional slots [] = Unit {0}
+AreAdditional slots (o ∷ os) = IsOther slots o.kind × AreAdditional slots os
 
 -- a number, where there is one, is below this one
 abbrev pub IsBelow : ℕ → Option ℕ → Type 0
@@ -97,8 +85,8 @@ IsFew (Some addresses) = length addresses ≤ 5
 pub record IsCanonical (v : Value) : Type 0 where
   pub whole : text_len v ≤ 65535
   pub short : AllShort (options_of v)
-  pub additional : AreAdditional v.additional_options
-  pub message_type : IsProper message.Unknown message_rows v.message_type
+  pub additional : AreAdditional (slots_of v) v.additional_options
+  pub message_type : IsProper MessageType.Unknown message_rows v.message_type
   pub transaction_id : v.transaction_id < 2 ^ 32
   pub secs : v.secs < 2 ^ 16
   pub dns_servers : IsFew v.dns_servers

@@ -2,7 +2,7 @@
 use Rattle.std.specs.Prelude.{ℕ, ◌==◌, ◌||◌, ◌&&◌, nat_le, if◌then◌else◌, List, [], ◌∷◌, ◌++◌, flat_map}
 use Rattle.std.specs.Prelude.{Option, None, Some, codes, decimal}
 use Rattle.wirebase.specs.Display.{pieces}
-use Rattle.wirebase.specs.Ethernet.{hex_byte, hex_colons}
+use Rattle.wirebase.specs.Hexadecimal.{encode_lower, hex_colons}
 use Rattle.wirebase.specs.Ipv4.{address_text}
 use Rattle.dhcp_wire.specs.Dhcpv4Display.{commas, message_display}
 use Rattle.dhcp_wire.specs.Dhcpv4Options.{OptionValue}
@@ -16,7 +16,7 @@ abbrev pub character : ℕ → List ℕ
 character n =
     if (n == 34) || (n == 92) then 92 ∷ n ∷ []
     else if nat_le 32 n && nat_le n 126 then n ∷ []
-    else codes "\\x" ++ hex_byte n
+    else codes "\\x" ++ encode_lower (n ∷ [])
 
 abbrev pub quoted : List ℕ → List ℕ
 quoted bytes = pieces (codes "\"" ∷ flat_map character bytes ∷ codes "\"" ∷ [])

@@ -32,6 +32,8 @@
 use Rattle.std.specs.Prelude.{◌≡◌, ◌≢◌, ℕ, List, [], ◌∷◌, ◌++◌, drop}
 use Rattle.std.specs.Str.{IsUtf8}
 use Rattle.wirebase.specs.Bytes.{Field, field}
+use Rattle.wirebase.specs.Hardware.{hardware_number}
+use Rattle.wirebase.specs.declared.hardware.Hardware.{Hardware}
 use Rattle.dhcp_wire.specs.declared.dhcpv4.packet.Packet.{Packet}
 
 -- the buffer of a view, and the view with another buffer
@@ -94,6 +96,16 @@ magic_field = field 236 240
 -- the bytes from the first option on
 abbrev pub options_in : List ℕ → List ℕ
 options_in bytes = drop 240 bytes
+
+-- the number of Ethernet, the bytes of its addresses, and the number before the options of DHCP (RFC 2131 section 3)
+abbrev pub ethernet_type : ℕ
+ethernet_type = hardware_number Hardware.Ethernet
+
+abbrev pub ethernet_len : ℕ
+ethernet_len = 6
+
+abbrev pub magic_cookie : ℕ
+magic_cookie = 0x63825363
 
 -- none of the bytes is zero
 abbrev pub HasNoZero : List ℕ → Type 0

@@ -5,12 +5,14 @@ use Rattle.std.specs.Option.{option_map}
 use Rattle.wirebase.specs.Bytes.{Reaches, byte_of, number_of}
 use Rattle.wirebase.specs.Display.{pieces}
 use Rattle.wirebase.specs.LastOf.{last_of}
+use Rattle.dhcp_wire.specs.declared.dhcpv4.option_kinds.TheConstants.{OPT_CLIENT_ID, OPT_DHCP_MESSAGE_TYPE}
 use Rattle.dhcp_wire.specs.declared.dhcpv4.refusal.Refusal.{Refusal}
 use Rattle.dhcp_wire.specs.declared.dhcpv4.refusal.Refusal.TheVariants as refusal
-use Rattle.dhcp_wire.specs.Dhcpv4.{Value, said, type_in, IsOfEthernet, AreOfEthernet, HasHeader, IsPacket}
+use Rattle.dhcp_wire.specs.Dhcpv4.{Value, said, type_among, IsOfEthernet, AreOfEthernet, HasHeader, IsPacket}
 use Rattle.dhcp_wire.specs.Dhcpv4Display.{message_display, opcode_display}
 use Rattle.dhcp_wire.specs.Dhcpv4Options.{OptionValue, option_text, IsKind, Options}
 use Rattle.dhcp_wire.specs.Dhcpv4Packet.{op_field, htype_field, hlen_field, magic_field, options_in}
+use Rattle.dhcp_wire.specs.Dhcpv4Packet.{ethernet_type, ethernet_len, magic_cookie}
 use Rattle.dhcp_wire.specs.Dhcpv4Tables.{message_of, opcode_of}
 
 -- the octets are a packet
@@ -20,7 +22,7 @@ IsRead bytes = (value : Value) × IsPacket bytes value
 -- a client identifier of 7 bytes that is of this hardware, and not of Ethernet
 abbrev pub IsOther : ℕ → OptionValue → Type 0
 IsOther hardware o =
-    (o.kind ≡ 61) × (length o.body ≡ 7) × (slice_index o.body 0 ≡ hardware) × (hardware ≢ 1)
+    (o.kind ≡ OPT_CLIENT_ID) × (length o.body ≡ 7) × (slice_index o.body 0 ≡ hardware) × (hardware ≢ ethernet_type)
 
 -- the first client identifier of 7 bytes that is not of Ethernet is of this hardware
 abbrev pub IsFirstOther : ℕ → List OptionValue → Type 0
@@ -45,21 +47,21 @@ pub record HasNoType (bytes : List ℕ) (options : List OptionValue) : Type 0 wh
   pub header : HasHeader bytes
   pub listed : Options (options_in bytes) options
   pub identifiers : AreOfEthernet options
-  pub no_type : last_of (said 53 (type_in (byte_of op_field bytes))) options ≡ None
+  pub no_type : type_among (byte_of op_field bytes) options ≡ None
 
 -- the data of the last type of message, of whatever length and operation
 abbrev pub last_type : List OptionValue → Option (List ℕ)
-last_type options = last_of (said 53 Some) options
+last_type options = last_of (said OPT_DHCP_MESSAGE_TYPE Some) options
 
 -- the octets are refused, and by this check first
 abbrev pub Refuses : List ℕ → Refusal → Type 0
 Refuses bytes refusal.Short = length bytes < 240
-Refuses bytes (refusal.HardwareType n) = Reaches magic_field bytes × (byte_of htype_field bytes ≡ n) × (n ≢ 1)
+Refuses bytes (refusal.HardwareType n) = Reaches magic_field bytes × (byte_of htype_field bytes ≡ n) × (n ≢ ethernet_type)
 Refuses bytes (refusal.HardwareLen n) =
-    Reaches magic_field bytes × (byte_of htype_field bytes ≡ 1) × (byte_of hlen_field bytes ≡ n) × (n ≢ 6)
+    Reaches magic_field bytes × (byte_of htype_field bytes ≡ ethernet_type) × (byte_of hlen_field bytes ≡ n) × (n ≢ ethernet_len)
 Refuses bytes refusal.MagicCookie =
-    Reaches magic_field bytes × (byte_of htype_field bytes ≡ 1) × (byte_of hlen_field bytes ≡ 6)
-    × (number_of magic_field bytes ≢ 0x63825363)
+    Reaches magic_field bytes × (byte_of htype_field bytes ≡ ethernet_type) × (byte_of hlen_field bytes ≡ ethernet_len)
+    × (number_of magic_field bytes ≢ magic_cookie)
 Refuses bytes (refusal.ClientIdentifier hardware) =
     (options : List OptionValue) × HasHeader bytes × Options (options_in bytes) options
     × IsFirstOther hardware options

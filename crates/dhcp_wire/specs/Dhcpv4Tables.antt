@@ -56,8 +56,11 @@ operation_of message.Inform = opcode.Request
 operation_of (message.Unknown n) = opcode.Unknown 0
 
 -- the flags of a packet (RFC 2131 section 2), each by its name and bit
+abbrev pub broadcast_bit : ℕ
+broadcast_bit = 0x8000
+
 abbrev pub flag_table : List (List ℕ × ℕ)
-flag_table = (codes "BROADCAST", 0x8000) ∷ []
+flag_table = (codes "BROADCAST", broadcast_bit) ∷ []
 
 abbrev pub flag_bits : Flags → ℕ
 flag_bits flags = flags.0

@@ -5,8 +5,8 @@ use Rattle.std.specs.Prelude.{is_ok, ◌≡◌, ◌≤◌, ◌↔◌, IsOk, OnOk
 use Rattle.wirebase.specs.Bytes.{over}
 use Rattle.wirebase.specs.declared.error.Error.{Error}
 use Rattle.dhcp_wire.specs.declared.dhcpv4.options.DhcpOptionWriter.{DhcpOptionWriter}
-use Rattle.dhcp_wire.specs.Dhcpv4.{Value, Slot, slots_of, options_text}
-use Rattle.dhcp_wire.specs.Dhcpv4Format.{data_len, fits, texts_before, AllShort}
+use Rattle.dhcp_wire.specs.Dhcpv4.{Slot, options_text}
+use Rattle.dhcp_wire.specs.Dhcpv4Format.{fits, texts_before, AllShort}
 use Rattle.dhcp_wire.specs.Dhcpv4Options.{OptionValue, option, option_text}
 use Rattle.dhcp_wire.specs.Dhcpv4Writer.{settled, free}
 
@@ -17,16 +17,6 @@ pub record WritesOptions (os : List OptionValue) (old : List ℕ) (result : Resu
     pub accepts : IsOk result ↔ (AllShort os × (length (options_text os ++ 255 ∷ []) ≤ length old))
     pub ok : OnOk result (new ≡ over old (options_text os ++ 255 ∷ []))
     pub refused : OnErr result (new ≡ over old (texts_before (length old) os))
-
--- ---- the bytes of the options, as they are counted
-
-abbrev pub slots_len : List Slot → ℕ
-slots_len [] = 0
-slots_len (s ∷ rest) = data_len s.body + slots_len rest
-
--- the header of 240 bytes, the end mark, and the options of the fields
-abbrev pub counted_len : Value → ℕ
-counted_len v = 241 + slots_len (slots_of v)
 
 -- ---- the result of writing, option by option
 

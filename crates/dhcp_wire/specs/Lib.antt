@@ -6,7 +6,6 @@ pub mod Dhcpv4OptionTable
 pub mod Dhcpv4OptionValue
 pub mod Dhcpv4Options
 pub mod Dhcpv4OptionsAhead
-pub mod Dhcpv4OptionsSeen
 pub mod Dhcpv4Packet
 pub mod Dhcpv4Refusal
 pub mod Dhcpv4Tables

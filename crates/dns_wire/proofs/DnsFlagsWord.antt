@@ -1,9 +1,9 @@
 -- The word of flags: flags that have a name, and the kind of query, share no bit.
-use Rattle.std.proofs.Common.{◌≡◌, ℕ, ◌+◌, ◌*◌, ◌/◌, ◌%◌, ◌<◌, ◌≤◌, sym, ap, ◌∙◌, arith}
+use Rattle.dns_wire.proofs.Words.{◌≡◌, ◌+◌, ◌*◌, ◌/◌, ◌%◌, ◌<◌, ◌≤◌, ◌∙◌, IsKnown, ℕ, ap, arith, flags_in, opcode_in}
+use Rattle.dns_wire.proofs.Words.{sym}
 use Rattle.std.specs.Int.Bits.{bit_and}
 use Rattle.std.proofs.lemmas.Nat.{and_comm, and_le_r, and_shr, and_mod, and_block, and_assoc, or_disjoint, and_or_apart}
-use Rattle.dns_wire.specs.DnsTables.{known_bits, IsKnown}
-use Rattle.dns_wire.specs.DnsPacket.{flags_in, opcode_in}
+use Rattle.dns_wire.specs.DnsTables.{known_bits}
 
 pub known-small : (flags : ℕ) → IsKnown flags → flags ≤ 34736
 known-small flags known = omega (arith, known, and_le_r flags known_bits)

@@ -1,92 +1,59 @@
 -- Why a name breaks.
-use Rattle.std.proofs.Common.{◌≡◌, ℕ, ◌<◌, ◌≤◌, ◌⊎◌, inl, inr, false, true, ltb, eqb, List, [], ◌∷◌, ◌++◌, length}
-use Rattle.std.proofs.Common.{take, drop, refl, sym, ap, ◌∙◌, subst, arith, append_assoc}
-use Rattle.std.specs.List.{AllByRecursion, flat_map}
-use Rattle.std.proofs.lemmas.Bool.{lt-ltb, le-ltb, ne_eqb}
-use Rattle.std.proofs.lemmas.List.{take_at, drop_at}
-use Rattle.dns_wire.specs.DnsName.{IsLabel, written, ends, goes_on, joined}
-use Rattle.dns_wire.specs.DnsNameAhead.{whole, pointer, stop, torn, front_of}
-use Rattle.dns_wire.specs.DnsPart.{IsSplit, BeginsWithPart}
+use Rattle.dns_wire.proofs.Words.{◌≡◌, ◌+◌, ◌<◌, ◌≤◌, ◌⊎◌, [], ◌∷◌, ◌++◌, ◌∙◌, AllByRecursion, IsLabel, IsPart, IsSplit}
+use Rattle.dns_wire.proofs.Words.{List, NameRefusal, Stop, ℕ, ap, append_assoc, arith, drop, ends, eqb, false, flat_map}
+use Rattle.dns_wire.proofs.Words.{front_of, goes_on, inl, inr, joined, le-ltb, length, lt-ltb, ltb, ne_eqb, pointer}
+use Rattle.dns_wire.proofs.Words.{refl, replicate, stop, subst, sym, take, torn, true, whole, written}
+use Rattle.std.proofs.lemmas.List.{length-replicate}
 use Rattle.dns_wire.specs.DnsRefusal.{IsTorn, PartBreaks, BreaksHere, NameBreaks, HasName}
-use Rattle.dns_wire.specs.declared.dns.refusal.NameRefusal.{NameRefusal}
-use Rattle.dns_wire.specs.declared.dns.refusal.NameRefusal.TheVariants.{NoEnd, LabelCut, LabelType, PointerCut}
-use Rattle.dns_wire.specs.declared.dns.refusal.NameRefusal.TheVariants.{Pointer}
 use Rattle.dns_wire.proofs.DnsNameTurns.{Whole-front, Points-front, stop-front}
-use Rattle.dns_wire.proofs.DnsNameParts.{mark_front, label_front}
+use Rattle.dns_wire.proofs.DnsNameParts.{mark_front}
 use Rattle.dns_wire.proofs.DnsNameRoutes.{Breaks, Ends, Route, Some_route, add_label, ends_more, pointer_part}
 use Rattle.dns_wire.proofs.DnsNamePaths.{complete_route, opened, break_part, break_longest, break_stays, route_longest}
 use Rattle.dns_wire.proofs.DnsNamePaths.{no_break}
 use Rattle.dns_wire.proofs.DnsNameTheorem.{whole_open, open_whole, route_complete}
-use Rattle.dns_wire.proofs.DnsPartLen.{label_fewer, torn_none, split_begins, begins_one}
+use Rattle.dns_wire.proofs.DnsSplit.{split_part}
 
 -- ---- nothing whole begins where a reason says so
 
 pub torn-front : (bytes : List ℕ) (reason : NameRefusal) → IsTorn bytes reason → front_of bytes ≡ torn
-torn-front bytes NoEnd h = rw h refl
-torn-front bytes LabelCut (len, behind, is, some, few, less) =
+torn-front bytes NameRefusal.NoEnd h = rw h refl
+torn-front bytes NameRefusal.LabelCut (len, behind, is, some, few, less) =
     let e0 : eqb len 0 ≡ false = ne_eqb _ _ (λ e. omega arith) in
     let e1 : ltb len 64 ≡ true = lt-ltb _ _ (omega arith) in
     let e2 : ltb (length behind) len ≡ true = lt-ltb _ _ less in
     rw is (rw (e0, e1, e2) refl)
-torn-front bytes (LabelType n) (behind, is, high, low) =
+torn-front bytes (NameRefusal.LabelType n) (behind, is, high, low) =
     let e0 : eqb n 0 ≡ false = ne_eqb _ _ (λ e. omega arith) in
     let e1 : ltb n 64 ≡ false = le-ltb _ _ high in
     let e2 : ltb n 192 ≡ true = lt-ltb _ _ (omega arith) in
     rw is (rw (e0, e1, e2) refl)
-torn-front bytes PointerCut (first, is, high) =
+torn-front bytes NameRefusal.PointerCut (first, is, high) =
     let e0 : eqb first 0 ≡ false = ne_eqb _ _ (λ e. omega arith) in
     let e1 : ltb first 64 ≡ false = le-ltb _ _ (omega arith) in
     let e2 : ltb first 192 ≡ false = le-ltb _ _ high in
     rw is (rw (e0, e1, e2) refl)
-torn-front bytes (Pointer place) h = absurd h
+torn-front bytes (NameRefusal.Pointer place) h = absurd h
 
 -- ---- one part
 
-pub part_label : (text bytes rest : List ℕ) → whole bytes rest ≡ front_of text → (reason : NameRefusal)
-    → PartBreaks rest reason → PartBreaks text reason
-part_label text bytes rest e reason h =
-    let w = Whole-front text bytes rest (sym e) in
-    record {
-      labels = bytes ∷ h.labels;
-      rest = h.rest;
-      each = ((w.some, w.few), h.each);
-      whole = w.is ∙
-          (ap (λ t. length bytes ∷ (bytes ++ t)) h.whole
-          ∙ sym (append_assoc (written bytes) (flat_map written h.labels) h.rest));
-      torn = h.torn;
-    }
-
-pub part_here : (text : List ℕ) (reason : NameRefusal) → IsTorn text reason → PartBreaks text reason
-part_here text reason h = record { labels = []; rest = text; each = tt; whole = refl; torn = h }
-
 -- a text that breaks so begins with no part
-no_begin : (labels : List (List ℕ)) (text rest : List ℕ) → AllByRecursion IsLabel labels
-    → text ≡ flat_map written labels ++ rest → front_of rest ≡ torn → (len : ℕ) → BeginsWithPart text len → ⊥
-no_begin [] text rest each e t len b = torn_none text (sym (ap front_of e ∙ t)) len b
-no_begin (l ∷ ls) text rest each e t len b =
-    let more = flat_map written ls ++ rest in
-    let is : text ≡ length l ∷ (l ++ more) = e ∙ append_assoc (written l) (flat_map written ls) rest in
-    let f = label_fewer text l more (sym (label_front text l more each.0 is)) len b in
-    no_begin ls more rest each.1 refl t f.more f.begins
-
 pub no_split : (text : List ℕ) (reason : NameRefusal) → PartBreaks text reason → (name after : List ℕ)
     → IsSplit text name after → ⊥
-no_split text reason h name after s =
-    no_begin h.labels text h.rest h.each h.whole (torn-front h.rest reason h.torn) (length name)
-    (split_begins text name after s)
+no_split text reason (labels, front, here) name after s = by s.name_is.stop (split_part text name after s)
+  where
+    breaks : (reach : List ℕ) → Breaks text reach labels
+    breaks reach = record {
+      rest = front.rest;
+      each = front.each;
+      is = front.whole;
+      bad = inl (torn-front front.rest reason here);
+    }
 
--- what follows the part is one text
-pub split_one : (text name other after behind : List ℕ) → IsSplit text name after → IsSplit text other behind
-    → (name ≡ other) × (after ≡ behind)
-split_one text name other after behind h k =
-    let long : length name ≡ length other =
-    begins_one text (length name) (length other) (split_begins text name after h)
-    (split_begins text other behind k) in (
-      sym (take_at name after (length name) refl)
-          ∙ (ap (λ t. take (length name) t) (sym h.whole ∙ k.whole) ∙ take_at other behind (length name) (sym long)),
-      sym (drop_at name after (length name) refl)
-          ∙ (ap (λ t. drop (length name) t) (sym h.whole ∙ k.whole) ∙ drop_at other behind (length name) (sym long)),
-    )
+    by : (st : Stop) → IsPart text s.name_is.labels st → ⊥
+    by ends part = let k = break_part labels s.name_is.labels text [] ends (breaks []) part in cc
+    by (goes_on p) part =
+        let reach = replicate (p + 1) p in
+        break_stays text reach labels s.name_is.labels p (breaks reach) part (omega (arith, length-replicate (p + 1) p))
 
 -- ---- a whole name
 
@@ -99,19 +66,19 @@ pub record BreaksFor (reason : NameRefusal) (text reach : List ℕ) (labels : Li
 
 here_torn : (open_bytes : ℕ) (bytes : List ℕ) (reason : NameRefusal) → IsTorn bytes reason
     → BreaksHere open_bytes bytes reason
-here_torn open_bytes bytes NoEnd h = h
-here_torn open_bytes bytes LabelCut h = h
-here_torn open_bytes bytes (LabelType n) h = h
-here_torn open_bytes bytes PointerCut h = h
-here_torn open_bytes bytes (Pointer place) h = absurd h
+here_torn open_bytes bytes NameRefusal.NoEnd h = h
+here_torn open_bytes bytes NameRefusal.LabelCut h = h
+here_torn open_bytes bytes (NameRefusal.LabelType n) h = h
+here_torn open_bytes bytes NameRefusal.PointerCut h = h
+here_torn open_bytes bytes (NameRefusal.Pointer place) h = absurd h
 
 here_bad : (open_bytes : ℕ) (bytes : List ℕ) (reason : NameRefusal) → BreaksHere open_bytes bytes reason
     → (front_of bytes ≡ torn) ⊎ ((p : ℕ) × (front_of bytes ≡ pointer p) × (open_bytes ≤ p))
-here_bad open_bytes bytes NoEnd h = inl (torn-front bytes NoEnd h)
-here_bad open_bytes bytes LabelCut h = inl (torn-front bytes LabelCut h)
-here_bad open_bytes bytes (LabelType n) h = inl (torn-front bytes (LabelType n) h)
-here_bad open_bytes bytes PointerCut h = inl (torn-front bytes PointerCut h)
-here_bad open_bytes bytes (Pointer place) (mark, behind, is, stops, far) =
+here_bad open_bytes bytes NameRefusal.NoEnd h = inl (torn-front bytes NameRefusal.NoEnd h)
+here_bad open_bytes bytes NameRefusal.LabelCut h = inl (torn-front bytes NameRefusal.LabelCut h)
+here_bad open_bytes bytes (NameRefusal.LabelType n) h = inl (torn-front bytes (NameRefusal.LabelType n) h)
+here_bad open_bytes bytes NameRefusal.PointerCut h = inl (torn-front bytes NameRefusal.PointerCut h)
+here_bad open_bytes bytes (NameRefusal.Pointer place) (mark, behind, is, stops, far) =
     inr (place, ap front_of is ∙ mark_front (goes_on place) mark behind stops, far)
 
 any_reason : (reason : NameRefusal) (text reach : List ℕ) (labels : List (List ℕ)) → BreaksFor reason text reach labels
@@ -170,10 +137,10 @@ pub breaks_torn : (text reach : List ℕ) (reason : NameRefusal) → IsTorn text
 breaks_torn text reach reason h = breaks_at text reach reason (here_torn (length reach) text reason h)
 
 pub breaks_far : (text reach : List ℕ) (p : ℕ) → pointer p ≡ front_of text → length reach ≤ p
-    → Some_route (BreaksFor (Pointer p)) text reach
+    → Some_route (BreaksFor (NameRefusal.Pointer p)) text reach
 breaks_far text reach p e far =
     let at = Points-front text p (sym e) in
-    breaks_at text reach (Pointer p)
+    breaks_at text reach (NameRefusal.Pointer p)
     (at.first ∷ at.second ∷ [], at.rest, at.is, (at.first, at.second, refl, at.high, at.low), far)
 
 -- a route to a break is a broken path, and the reason holds where it ends
@@ -196,8 +163,6 @@ route_breaks text message reason (targets, parts, r) =
         whole_front = record { rest = o.closes.rest; each = o.closes.each; whole = o.closes.is };
         longest_front = λ others h. break_longest o.final others _ o.reach closes h;
       };
-      rest = o.closes.rest;
-      behind = o.closes.is;
       here = subst (λ (n : ℕ). BreaksHere n o.closes.rest reason) o.bytes_open o.closes.here;
     }
 

@@ -1,9 +1,8 @@
 -- What a call of `next` has to answer where the answers to come are known.
-use Rattle.std.proofs.Common.{◌≡◌, ℕ, ◌<◌, false, List, [], ◌∷◌, Option, Some, None, Result, Ok, Err, Bor, refl, ap}
-use Rattle.std.proofs.Common.{◌∙◌, arith, slice_get}
+use Rattle.dns_wire.proofs.Words.{◌≡◌, ◌<◌, [], ◌∷◌, ◌∙◌, Bor, Coming, Err, Error, GivesFirst, List, None, Ok, Option}
+use Rattle.dns_wire.proofs.Words.{Result, Some, Walk, ℕ, after_first, answer_of, ap, arith, at_end, false, is_ending}
+use Rattle.dns_wire.proofs.Words.{refl, slice_get}
 use Rattle.std.specs.Iterator.{MakesProgress, at_most}
-use Rattle.wirebase.specs.declared.error.Error.{Error}
-use Rattle.dns_wire.specs.DnsNameWalk.{Coming, Walk, at_end, answer_of, is_ending, after_first, GivesFirst}
 use Rattle.dns_wire.specs.DnsNameWalk.{items_in}
 
 -- A call that gives an item: it was the first answer to come, and the rest follows.

@@ -1,11 +1,10 @@
 -- The labels that a walk gives before its end, and those of the name.
-use Rattle.std.proofs.Common.{◌≡◌, ℕ, ◌+◌, List, [], ◌∷◌, ◌++◌, length, Option, Some, Result, Bor, refl}
-use Rattle.std.proofs.Common.{if◌then◌else◌, sym, ap, ◌∙◌, subst, inl, inr, append_assoc, slice_get}
-use Rattle.std.proofs.lemmas.List.{append-nil}
-use Rattle.wirebase.specs.declared.error.Error.{Error}
-use Rattle.dns_wire.specs.DnsName.{IsCompletePath, IsBrokenPath, IsName, HasPath, joined}
-use Rattle.dns_wire.specs.DnsNameWalk.{Coming, Walk, label, fault, ending, answer_of, is_ending, GivesFirst, Gives}
-use Rattle.dns_wire.specs.DnsNameWalk.{in_window, in_windows, whole_name, broken_name, at_end, after_first}
+use Rattle.dns_wire.proofs.Words.{◌≡◌, ◌+◌, [], ◌∷◌, ◌++◌, ◌∙◌, Bor, Coming, Error, GivesFirst, HasPath, IsBrokenPath}
+use Rattle.dns_wire.proofs.Words.{IsCompletePath, List, Option, Result, Some, Walk, ℕ, after_first, answer_of, ap}
+use Rattle.dns_wire.proofs.Words.{append-nil, append_assoc, at_end, broken_name, if◌then◌else◌, in_window, in_windows}
+use Rattle.dns_wire.proofs.Words.{inl, inr, is_ending, joined, label, length, refl, slice_get, subst, sym, whole_name}
+use Rattle.dns_wire.specs.DnsName.{IsName}
+use Rattle.dns_wire.specs.DnsNameWalk.{fault, ending, Gives}
 
 -- ---- a whole walk
 

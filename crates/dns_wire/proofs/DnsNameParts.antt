@@ -1,8 +1,7 @@
 -- Parts of a text: at most one each, and what the text begins with.
-use Rattle.std.proofs.Common.{◌≡◌, ℕ, List, [], ◌∷◌, ◌++◌, length, refl, sym, ap, ◌∙◌, subst, append_assoc}
-use Rattle.std.specs.List.{flat_map}
-use Rattle.dns_wire.specs.DnsName.{IsLabel, written, Stop, ends, goes_on, IsMark, IsPart, IsFront}
-use Rattle.dns_wire.specs.DnsNameAhead.{NamePart, whole, pointer, stop, front_of}
+use Rattle.dns_wire.proofs.Words.{◌≡◌, [], ◌∷◌, ◌++◌, ◌∙◌, IsFront, IsLabel, IsMark, IsPart, List, NamePart, Stop, ℕ}
+use Rattle.dns_wire.proofs.Words.{ap, append_assoc, ends, flat_map, front_of, goes_on, length, pointer, refl, stop}
+use Rattle.dns_wire.proofs.Words.{subst, sym, whole, written}
 use Rattle.dns_wire.proofs.DnsNameTurns.{front-whole, front-pointer, whole_parts}
 
 -- the front of a text that begins with a mark

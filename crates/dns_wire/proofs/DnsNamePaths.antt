@@ -1,12 +1,11 @@
 -- Falling paths against routes, and following without limits.
-use Rattle.std.proofs.Common.{◌≡◌, ℕ, ◌+◌, ◌-◌, ◌<◌, ◌≤◌, List, [], ◌∷◌, ◌++◌, length, take, drop, map, refl, sym, ap}
-use Rattle.std.proofs.Common.{◌∙◌, subst, inl, inr, arith, append_assoc, slice_range}
-use Rattle.std.specs.List.{flat_map}
-use Rattle.std.proofs.lemmas.List.{append-nil, length-append, take-take, drop-take, length-take-le, take-append-drop}
-use Rattle.std.proofs.lemmas.List.{drop-append-le}
-use Rattle.dns_wire.specs.DnsName.{written, Stop, ends, goes_on, IsPart, IsFront, IsFalling, windows, HaveParts}
-use Rattle.dns_wire.specs.DnsName.{last_window, open_below, joined, Follows, here, there}
-use Rattle.dns_wire.specs.DnsNameAhead.{whole, pointer, torn, front_of}
+use Rattle.dns_wire.proofs.Words.{◌≡◌, ◌+◌, ◌-◌, ◌<◌, ◌≤◌, [], ◌∷◌, ◌++◌, ◌∙◌, Follows, HaveParts, IsFront, IsPart}
+use Rattle.dns_wire.proofs.Words.{List, Stop, ℕ, ap, append-nil, append_assoc, arith, drop, ends, flat_map, front_of}
+use Rattle.dns_wire.proofs.Words.{goes_on, inl, inr, joined, last_window, length, length-append, length-take-le, map}
+use Rattle.dns_wire.proofs.Words.{pointer, refl, slice_range, subst, sym, take, take-append-drop, torn, whole, windows}
+use Rattle.dns_wire.proofs.Words.{written}
+use Rattle.std.proofs.lemmas.List.{take-take, drop-take, drop-append-le}
+use Rattle.dns_wire.specs.DnsName.{IsFalling, open_below, here, there}
 use Rattle.dns_wire.proofs.DnsNameTurns.{whole_parts}
 use Rattle.dns_wire.proofs.DnsNameParts.{front_at, front_at_other, part_mark, after_label, label_front, part_one}
 use Rattle.dns_wire.proofs.DnsNameParts.{after_first_label, part_longer}

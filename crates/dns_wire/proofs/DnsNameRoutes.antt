@@ -1,12 +1,9 @@
 -- A path as the open bytes shrink along it, and the answers that come along it.
-use Rattle.std.proofs.Common.{◌≡◌, ℕ, ◌+◌, ◌<◌, ◌≤◌, List, [], ◌∷◌, ◌++◌, length, take, drop, refl, sym, ap, ◌∙◌}
-use Rattle.std.proofs.Common.{subst, ◌⊎◌, inl, inr, zero, suc, arith, append_assoc}
-use Rattle.std.specs.List.{AllByRecursion, flat_map}
-use Rattle.std.proofs.lemmas.Bool.{cases_lt}
-use Rattle.std.proofs.lemmas.List.{append-nil, length-append}
-use Rattle.dns_wire.specs.DnsName.{IsLabel, written, ends, goes_on, IsPart, joined}
-use Rattle.dns_wire.specs.DnsNameAhead.{NamePart, whole, pointer, stop, torn, front_of, ahead_of}
-use Rattle.dns_wire.specs.DnsNameWalk.{Coming, label, at_end, at_fault, in_window, in_windows}
+use Rattle.dns_wire.proofs.Words.{◌≡◌, ◌+◌, ◌<◌, ◌≤◌, [], ◌∷◌, ◌++◌, ◌∙◌, ◌⊎◌, AllByRecursion, Coming, IsLabel, IsPart}
+use Rattle.dns_wire.proofs.Words.{List, NamePart, ℕ, ahead_of, ap, append-nil, append_assoc, arith, at_end, at_fault}
+use Rattle.dns_wire.proofs.Words.{cases_lt, drop, ends, flat_map, front_of, goes_on, in_window, in_windows, inl, inr}
+use Rattle.dns_wire.proofs.Words.{joined, label, length, length-append, pointer, refl, stop, subst, suc, sym, take}
+use Rattle.dns_wire.proofs.Words.{torn, whole, written, zero}
 use Rattle.dns_wire.proofs.DnsNameTurns.{Whole, Whole-front, Whole-length, Points, Points-front, Points-length}
 use Rattle.dns_wire.proofs.DnsNameTurns.{parts_length, stop-front, ahead_label, ahead_pointer, ahead_far, ahead_stop}
 use Rattle.dns_wire.proofs.DnsNameTurns.{ahead_torn}

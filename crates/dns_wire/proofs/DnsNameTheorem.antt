@@ -1,21 +1,18 @@
 -- The answers of the walk over a name.
-use Rattle.std.proofs.Common.{◌≡◌, slice_range, ℕ, ◌+◌, ◌*◌, ◌≤◌, List, [], ◌∷◌, ◌++◌, length, take, drop, map}
-use Rattle.std.proofs.Common.{refl, sym, ap, ◌∙◌, subst, inl, inr, zero, suc, arith}
-use Rattle.std.specs.List.{AllByRecursion}
-use Rattle.std.proofs.lemmas.Bool.{cases_lt, lt-ltb, le-ltb}
-use Rattle.std.proofs.lemmas.List.{append-nil, take_all}
-use Rattle.dns_wire.specs.DnsName.{ends, goes_on, IsPart, IsFront, windows, HaveParts, IsCompletePath, last_window}
-use Rattle.dns_wire.specs.DnsName.{IsBrokenPath, joined, Follows, HasPath}
-use Rattle.dns_wire.specs.DnsNameAhead.{NamePart, whole, pointer, stop, torn, front_of, by_front, answers, ahead_of}
-use Rattle.dns_wire.specs.DnsNameWalk.{Coming, at_end, at_fault, in_windows, whole_name, broken_name, FollowsOnly}
-use Rattle.dns_wire.specs.DnsNameWalk.{IsWalkOver}
+use Rattle.dns_wire.proofs.Words.{◌≡◌, ◌+◌, ◌*◌, ◌≤◌, [], ◌∷◌, ◌++◌, ◌∙◌, AllByRecursion, Coming, Follows, HasPath}
+use Rattle.dns_wire.proofs.Words.{HaveParts, IsBrokenPath, IsCompletePath, IsFront, IsPart, List, NamePart, ℕ, ahead_of}
+use Rattle.dns_wire.proofs.Words.{answers, ap, append-nil, arith, at_end, at_fault, broken_name, by_front, cases_lt}
+use Rattle.dns_wire.proofs.Words.{drop, ends, front_of, goes_on, in_windows, inl, inr, joined, last_window, le-ltb}
+use Rattle.dns_wire.proofs.Words.{length, lt-ltb, map, pointer, refl, slice_range, stop, subst, suc, sym, take}
+use Rattle.dns_wire.proofs.Words.{take_all, torn, whole, whole_name, windows, zero}
+use Rattle.dns_wire.specs.DnsNameWalk.{FollowsOnly, IsWalkOver}
 use Rattle.dns_wire.proofs.DnsNameLabels.{name_gives, gives_name}
 use Rattle.dns_wire.proofs.DnsNameTurns.{whole_parts, Whole-front, Whole-length, Points-front, Points-length}
 use Rattle.dns_wire.proofs.DnsNameTurns.{parts_length}
 use Rattle.dns_wire.proofs.DnsNameParts.{part_one, label_front, after_first_label}
 use Rattle.dns_wire.proofs.DnsNameRoutes.{Breaks, Ends, Route, found, route_ahead, ends_ahead, breaks_ahead}
-use Rattle.dns_wire.proofs.DnsNamePaths.{complete_route, opened, break_part, break_longest, break_stays}
-use Rattle.dns_wire.proofs.DnsNamePaths.{end_stays, route_longest, route_follows, follows_one}
+use Rattle.dns_wire.proofs.DnsNamePaths.{complete_route, opened, break_part, break_longest, break_stays, end_stays}
+use Rattle.dns_wire.proofs.DnsNamePaths.{route_longest, route_follows, follows_one}
 
 -- the whole message is open at first
 pub whole_open : (C : List ℕ → List ℕ → List (List ℕ) → Type 0) (text message targets : List ℕ)

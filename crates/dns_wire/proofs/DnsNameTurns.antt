@@ -1,11 +1,11 @@
 -- What a text begins with, and one turn of the answers to come.
-use Rattle.std.proofs.Common.{◌≡◌, ℕ, ◌+◌, ◌*◌, ◌%◌, ◌<◌, ◌≤◌, Bool, true, false, cond, ltb, eqb, List, [], ◌∷◌, ◌++◌}
-use Rattle.std.proofs.Common.{length, take, drop, refl, sym, ap, ◌∙◌, ◌⊎◌, inl, inr, zero, suc, arith}
-use Rattle.std.proofs.lemmas.Bool.{ltb-true, ltb-false, lt-ltb, le-ltb, eqb-true, eqb-false, ne_eqb, cases_lt}
-use Rattle.std.proofs.lemmas.List.{take-append-drop, length-take-le, length-drop, length-append, take_at, drop_at}
-use Rattle.dns_wire.specs.DnsNameAhead.{NamePart, whole, pointer, stop, torn, front_of, pointer_at, by_front, answers}
-use Rattle.dns_wire.specs.DnsNameAhead.{ahead_of}
-use Rattle.dns_wire.specs.DnsNameWalk.{Coming, label, at_end, at_fault}
+use Rattle.dns_wire.proofs.Words.{◌≡◌, ◌+◌, ◌*◌, ◌%◌, ◌<◌, ◌≤◌, [], ◌∷◌, ◌++◌, ◌∙◌, ◌⊎◌, Bool, Coming, List, NamePart}
+use Rattle.dns_wire.proofs.Words.{ℕ, ahead_of, answers, ap, arith, at_end, at_fault, by_front, cases_lt, cond, drop}
+use Rattle.dns_wire.proofs.Words.{drop_at, eqb, false, front_of, inl, inr, label, le-ltb, length, length-append}
+use Rattle.dns_wire.proofs.Words.{length-drop, length-take-le, lt-ltb, ltb, ne_eqb, pointer, refl, stop, suc, sym, take}
+use Rattle.dns_wire.proofs.Words.{take-append-drop, take_at, torn, true, whole, zero}
+use Rattle.std.proofs.lemmas.Bool.{ltb-true, ltb-false, eqb-true, eqb-false}
+use Rattle.dns_wire.specs.DnsNameAhead.{pointer_at}
 
 -- which way a test went
 pub chosen : {A : Type 0} (b : Bool) (x y z : A) → cond b x y ≡ z → ((b ≡ true) × (x ≡ z)) ⊎ ((b ≡ false) × (y ≡ z))

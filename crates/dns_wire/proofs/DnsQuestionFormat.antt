@@ -1,37 +1,29 @@
 -- The text of a question, and what is read in it.
-use Rattle.std.proofs.Common.{◌≡◌, ℕ, ◌<◌, ◌≤◌, ◌^◌, Bool, true, false, List, [], ◌∷◌, ◌++◌, length, take, drop, refl}
-use Rattle.std.proofs.Common.{sym, ap, ◌∙◌, subst, arith, append_assoc}
-use Rattle.std.proofs.lemmas.List.{append-nil, length-append, take_at, drop_at}
-use Rattle.byteorder.specs.Endian.{big_bytes}
-use Rattle.wirebase.specs.Bytes.{IsBytes, part, number_of, over}
-use Rattle.wirebase.specs.ByteWriter.{be16, fields}
-use Rattle.wirebase.specs.Format.{Rewrites, SameText}
-use Rattle.wirebase.specs.Numbered.{IsProper}
-use Rattle.wirebase.proofs.ByteParts.{IsBytes-drop, number_of-small}
-use Rattle.wirebase.proofs.Format.{IsFormat, round_trips, same_text}
-use Rattle.wirebase.proofs.Numbered.{case_in-unnamed, case-read}
-use Rattle.wirebase.proofs.Pieces.{over-exact, over-fits}
+use Rattle.dns_wire.proofs.Words.{◌≡◌, ◌<◌, ◌≤◌, ◌^◌, [], ◌∷◌, ◌++◌, ◌∙◌, Bool, IsBytes, IsBytes-drop, IsFormat}
+use Rattle.dns_wire.proofs.Words.{IsProper, List, QuestionValue, SameText, ℕ, ap, append-nil, append_assoc, arith, be16}
+use Rattle.dns_wire.proofs.Words.{big_bytes, case-read, case_in-unnamed, drop, drop_at, false, fields, length}
+use Rattle.dns_wire.proofs.Words.{length-append, number_of, number_of-small, over, over-exact, part, refl, round_trips}
+use Rattle.dns_wire.proofs.Words.{same_text, subst, sym, true}
+use Rattle.wirebase.specs.Format.{Rewrites}
+use Rattle.wirebase.proofs.Pieces.{over-fits}
 use Rattle.dns_wire.specs.declared.dns.tables.Type.{«Type» as RecordType}
-use Rattle.dns_wire.specs.declared.dns.tables.Type.TheVariants as kind
 use Rattle.dns_wire.specs.DnsTables.{type_number, types, type_rows, type_of}
-use Rattle.dns_wire.specs.DnsQuestion.{QuestionValue, type_field, IsQuestion, text, text_len, IsCanonical, format}
-use Rattle.dns_wire.specs.DnsQuestion.{Emits}
-use Rattle.dns_wire.specs.DnsPart.{IsSplit}
-use Rattle.dns_wire.proofs.DnsPartLen.{split_begins, begins_one}
+use Rattle.dns_wire.specs.DnsQuestion.{type_field, IsQuestion, text, text_len, IsCanonical, format, Emits}
+use Rattle.dns_wire.proofs.DnsSplit.{split_one}
 
 -- ---- types of record
 
 is_unknown_type : RecordType → Bool
-is_unknown_type (kind.Unknown n) = true
+is_unknown_type (RecordType.Unknown n) = true
 is_unknown_type _ = false
 
-pub type_of-number : (t : RecordType) → IsProper kind.Unknown type_rows t → t ≡ type_of (type_number t)
-type_of-number (kind.Unknown n) p = sym (case_in-unnamed kind.Unknown type_rows n (p n refl))
+pub type_of-number : (t : RecordType) → IsProper RecordType.Unknown type_rows t → t ≡ type_of (type_number t)
+type_of-number (RecordType.Unknown n) p = sym (case_in-unnamed RecordType.Unknown type_rows n (p n refl))
 type_of-number _ p = refl
 
-type-read : {t : RecordType} (n : ℕ) → t ≡ type_of n → IsProper kind.Unknown type_rows t × (type_number t ≡ n)
+type-read : {t : RecordType} (n : ℕ) → t ≡ type_of n → IsProper RecordType.Unknown type_rows t × (type_number t ≡ n)
 unfolding is_unknown_type
-type-read n is = case-read type_number kind.Unknown (λ k. refl) is_unknown_type (λ k. refl) types n refl is
+type-read n is = case-read type_number RecordType.Unknown (λ k. refl) is_unknown_type (λ k. refl) types n refl is
 
 -- ---- the text
 
@@ -57,11 +49,9 @@ question_reads q bytes rest c e =
     (big_bytes 2 (type_number q.kind) ++ (0 ∷ 1 ∷ [])) rest) in
     record {
       after = big_bytes 2 (type_number q.kind) ++ (0 ∷ 1 ∷ rest);
-      name_is = c.name_is;
-      whole = is;
-      reaches = omega arith;
+      split = record { name_is = c.name_is; whole = is };
+      passes = (omega arith, (refl, tt));
       kind_is = type_of-number q.kind c.proper ∙ ap type_of (type_back (type_number q.kind) (0 ∷ 1 ∷ rest) c.fits);
-      class = refl;
       rest_is = refl;
     }
 
@@ -70,29 +60,13 @@ question_reads q bytes rest c e =
 abbrev question_of : List ℕ → RecordType → QuestionValue
 question_of n t = record { name = n; kind = t }
 
-pub question_split : (bytes : List ℕ) (v : QuestionValue) (rest : List ℕ) (h : IsQuestion bytes v rest)
-    → IsSplit bytes v.name h.after
-question_split bytes v rest h = record { name_is = h.name_is; whole = h.whole }
-
 pub question_one : (bytes : List ℕ) (v w : QuestionValue) (rest other : List ℕ) → IsQuestion bytes v rest
     → IsQuestion bytes w other → (v ≡ w) × (rest ≡ other)
 question_one bytes v w rest other h k =
-    let long : length v.name ≡ length w.name =
-    begins_one bytes (length v.name) (length w.name)
-    (split_begins bytes v.name h.after (question_split bytes v rest h))
-    (split_begins bytes w.name k.after (question_split bytes w other k)) in
-    let names : v.name ≡ w.name =
-    sym (take_at v.name h.after (length v.name) refl)
-    ∙ (ap (λ t. take (length v.name) t) (sym h.whole ∙ k.whole) ∙ take_at w.name k.after (length v.name) (sym long))
-    in
-    let behind : h.after ≡ k.after =
-    sym (drop_at v.name h.after (length v.name) refl)
-    ∙ (ap (λ t. drop (length v.name) t) (sym h.whole ∙ k.whole) ∙ drop_at w.name k.after (length v.name) (sym long))
-    in
-    let kinds : v.kind ≡ w.kind = h.kind_is ∙ (ap (λ t. type_of (number_of type_field t)) behind ∙ sym k.kind_is) in (
-      ap (λ n. question_of n v.kind) names ∙ ap (λ t. question_of w.name t) kinds,
-      h.rest_is
-          ∙ (ap (λ t. drop 4 t) behind ∙ sym k.rest_is),
+    let one = split_one bytes v.name w.name h.after k.after h.split k.split in
+    let kinds : v.kind ≡ w.kind = h.kind_is ∙ (ap (λ t. type_of (number_of type_field t)) one.1 ∙ sym k.kind_is) in (
+      ap (λ n. question_of n v.kind) one.0 ∙ ap (λ t. question_of w.name t) kinds,
+      h.rest_is ∙ (ap (λ t. drop 4 t) one.1 ∙ sym k.rest_is),
     )
 
 -- ---- what was read
@@ -102,13 +76,13 @@ pub question_accepted : (bytes : List ℕ) (v : QuestionValue) (rest : List ℕ)
 question_accepted bytes v rest are small h =
     let read = type-read (number_of type_field h.after) h.kind_is in
     let behind : IsBytes h.after =
-    subst IsBytes (ap (λ t. drop (length v.name) t) h.whole ∙ drop_at v.name h.after (length v.name) refl)
+    subst IsBytes (ap (λ t. drop (length v.name) t) h.split.whole ∙ drop_at v.name h.after (length v.name) refl)
     (IsBytes-drop (length v.name) bytes are) in
     record {
-      name_is = h.name_is;
+      name_is = h.split.name_is;
       proper = read.0;
       fits = omega (arith, read.1, number_of-small 0 2 h.after refl behind);
-      small = omega (arith, small, ap length h.whole, length-append v.name h.after, h.reaches);
+      small = omega (arith, small, ap length h.split.whole, length-append v.name h.after, h.passes.0);
     }
 
 pub question_format : IsFormat format

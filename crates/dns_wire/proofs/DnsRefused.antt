@@ -1,92 +1,70 @@
--- Questions and records, and why other octets are refused.
-use Rattle.std.proofs.Common.{◌≡◌, ℕ, List, [], ◌∷◌, length, drop, refl, sym, subst, arith}
-use Rattle.wirebase.specs.Bytes.{Reaches, number_of}
+-- Octets are data or a record in one way, and are no question and no record where a reason refuses them.
+use Rattle.dns_wire.proofs.Words.{◌≡◌, ◌++◌, ◌∙◌, IsSplit, List, ℕ, ap, drop, inl, inr, number_of, subst, sym}
+use Rattle.wirebase.specs.Checks.{Check, Passes}
+use Rattle.wirebase.proofs.Checks.{passes_fails, passes_both}
+use Rattle.wirebase.proofs.Ipv4Header as ipv4
+use Rattle.wirebase.proofs.Ipv6Header as ipv6
 use Rattle.dns_wire.specs.declared.dns.refusal.Refusal.{Refusal}
-use Rattle.dns_wire.specs.declared.dns.refusal.Refusal.TheVariants.{Name, Short, Class, Length, AddressLength}
 use Rattle.dns_wire.specs.declared.dns.tables.Type.{«Type» as RecordType}
-use Rattle.dns_wire.specs.declared.dns.tables.Type.TheVariants as kind
-use Rattle.dns_wire.specs.DnsTables.{type_of}
-use Rattle.dns_wire.specs.DnsPart.{IsSplit}
-use Rattle.dns_wire.specs.DnsQuestion.{internet, type_field, class_field}
-use Rattle.dns_wire.specs.DnsRecord.{IsBehindName, address4, address6, canonical_name, other}
-use Rattle.dns_wire.specs.DnsRefusal.{RefusesRecord, RefusesBehindName, AreData, BeginsWithQuestion}
-use Rattle.dns_wire.specs.DnsRefusal.{BeginsWithRecord, GoesOnBehindName}
-use Rattle.dns_wire.proofs.DnsNameBreaks.{split_one}
+use Rattle.dns_wire.specs.DnsQuestion.{question_checks}
+use Rattle.dns_wire.specs.DnsRecord.{DataValue, address4, address6, canonical_name, other, IsData, RecordValue}
+use Rattle.dns_wire.specs.DnsRecord.{ttl_field, length_field, type_in, data_in, field_checks, IsRecord}
+use Rattle.dns_wire.specs.DnsRefusal.{Refuses, RefusesQuestion, BeginsWithQuestion, data_checks, RefusesRecord}
+use Rattle.dns_wire.specs.DnsRefusal.{BeginsWithRecord}
+use Rattle.dns_wire.proofs.DnsNameBreaks.{no_split}
+use Rattle.dns_wire.proofs.DnsSplit.{split_one}
 
--- ---- questions
+refused : (checks : List ℕ → List (Check Refusal)) (bytes : List ℕ) (why : Refusal) → Refuses checks bytes why
+    → (name after : List ℕ) → IsSplit bytes name after → Passes (checks after) → ⊥
+refused checks bytes why (inl (reason, is, breaks)) name after s passes = no_split bytes reason breaks name after s
+refused checks bytes why (inr (begin, behind, r, fails)) name after s passes =
+    let e = (split_one bytes name begin after behind s r).1 in
+    passes_fails (checks behind) (subst (λ t. Passes (checks t)) e passes) why fails
 
-pub question_begins : (bytes name after : List ℕ) → IsSplit bytes name after → Reaches class_field after
-    → number_of class_field after ≡ internet → BeginsWithQuestion bytes
-question_begins bytes name after s reaches class = (
-  record { name = name; kind = type_of (number_of type_field after) },
-  drop 4 after,
-  record {
-    after = after;
-    name_is = s.name_is;
-    whole = s.whole;
-    reaches = reaches;
-    kind_is = refl;
-    class = class;
-    rest_is = refl;
-  },
-)
-
-pub question_fixed : (bytes name after : List ℕ) → IsSplit bytes name after → BeginsWithQuestion bytes
-    → Reaches class_field after × (number_of class_field after ≡ internet)
-question_fixed bytes name after s (value, rest, h) =
-    let e = (split_one bytes value.name name h.after after (record { name_is = h.name_is; whole = h.whole }) s).1 in (
-      subst (λ (t : List ℕ). Reaches class_field t) e h.reaches,
-      subst
-          (λ (t : List ℕ). number_of class_field t ≡ internet) e h.class,
-    )
-
--- ---- records
-
-pub record_begins : (bytes name after : List ℕ) → IsSplit bytes name after → GoesOnBehindName after
-    → BeginsWithRecord bytes
-record_begins bytes name after s (ttl, holds, rest, h) = (
-  record { name = name; ttl = ttl; holds = holds },
-  rest,
-  record { after = after; name_is = s.name_is; whole = s.whole; behind = h },
-)
-
-pub record_behind : (bytes name after : List ℕ) → IsSplit bytes name after → BeginsWithRecord bytes
-    → GoesOnBehindName after
-record_behind bytes name after s (value, rest, h) =
-    let e = (split_one bytes value.name name h.after after (record { name_is = h.name_is; whole = h.whole }) s).1 in
-    (value.ttl, value.holds, rest, subst (λ (t : List ℕ). IsBehindName t value.ttl value.holds rest) e h.behind)
-
-pub record_refused : (bytes name after : List ℕ) → IsSplit bytes name after → (refusal : Refusal)
-    → RefusesBehindName after refusal → RefusesRecord bytes refusal
-record_refused bytes name after s (Name reason) h = absurd h
-record_refused bytes name after s Short h = (name, after, s, h)
-record_refused bytes name after s (Class class) h = (name, after, s, h)
-record_refused bytes name after s Length h = (name, after, s, h)
-record_refused bytes name after s (AddressLength n) h = (name, after, s, h)
+pub question_refused : (bytes : List ℕ) (why : Refusal) → RefusesQuestion bytes why → BeginsWithQuestion bytes → ⊥
+question_refused bytes why told (value, rest, h) =
+    refused question_checks bytes why told value.name h.after h.split h.passes
 
 -- ---- data
 
-data4 : (bytes : List ℕ) → length bytes ≡ 4 → AreData kind.A bytes
-data4 (a ∷ b ∷ c ∷ d ∷ []) e = (address4 (record { a = a; b = b; c = c; d = d }), (refl, refl, refl))
-data4 [] e = absurd (omega arith)
-data4 (a ∷ []) e = absurd (omega arith)
-data4 (a ∷ b ∷ []) e = absurd (omega arith)
-data4 (a ∷ b ∷ c ∷ []) e = absurd (omega arith)
-data4 (a ∷ b ∷ c ∷ d ∷ x ∷ more) e = absurd (omega arith)
+pub data_one : (t : RecordType) (bytes : List ℕ) (v w : DataValue) → IsData t bytes v → IsData t bytes w → v ≡ w
+data_one t bytes (address4 a) (address4 b) h k = ap address4 (ipv4.same_address a b (h.2 ∙ sym k.2))
+data_one t bytes (address6 a) (address6 b) h k = ap address6 (ipv6.same_address a b (h.2 ∙ sym k.2))
+data_one t bytes (canonical_name a) (canonical_name b) h k = ap canonical_name (h.1 ∙ sym k.1)
+data_one t bytes (other a x) (other b y) h k =
+    ap (λ u. other u x) (h.3 ∙ sym k.3) ∙ ap (λ d. other b d) (h.4 ∙ sym k.4)
+data_one t bytes (address4 a) (address6 b) h k = let never = sym h.0 ∙ k.0 in cc
+data_one t bytes (address4 a) (canonical_name b) h k = let never = sym h.0 ∙ k.0 in cc
+data_one t bytes (address6 a) (address4 b) h k = let never = sym h.0 ∙ k.0 in cc
+data_one t bytes (address6 a) (canonical_name b) h k = let never = sym h.0 ∙ k.0 in cc
+data_one t bytes (canonical_name a) (address4 b) h k = let never = sym h.0 ∙ k.0 in cc
+data_one t bytes (canonical_name a) (address6 b) h k = let never = sym h.0 ∙ k.0 in cc
+data_one t bytes (address4 a) (other u b) h k = absurd (k.0 h.0)
+data_one t bytes (address6 a) (other u b) h k = absurd (k.1 h.0)
+data_one t bytes (canonical_name a) (other u b) h k = absurd (k.2 h.0)
+data_one t bytes (other u a) (address4 b) h k = absurd (h.0 k.0)
+data_one t bytes (other u a) (address6 b) h k = absurd (h.1 k.0)
+data_one t bytes (other u a) (canonical_name b) h k = absurd (h.2 k.0)
 
-pub are_data4 : (t : RecordType) (bytes : List ℕ) → t ≡ kind.A → length bytes ≡ 4 → AreData t bytes
-are_data4 t bytes is e = subst (λ (u : RecordType). AreData u bytes) (sym is) (data4 bytes e)
+-- ---- records
 
-pub are_data6 : (t : RecordType) (bytes : List ℕ) → t ≡ kind.Aaaa → length bytes ≡ 16 → AreData t bytes
-are_data6 t bytes is e = (address6 (record { octets = bytes; whole = e }), (is, e, refl))
+abbrev record_of : List ℕ → ℕ → DataValue → RecordValue
+record_of name ttl holds = record { name = name; ttl = ttl; holds = holds }
 
-pub are_other_data : (t : RecordType) (bytes : List ℕ) → (t ≡ kind.A → ⊥) → (t ≡ kind.Aaaa → ⊥) → AreData t bytes
-are_other_data kind.A bytes no4 no6 = absurd (no4 refl)
-are_other_data kind.Aaaa bytes no4 no6 = absurd (no6 refl)
-are_other_data kind.Cname bytes no4 no6 = (canonical_name bytes, (refl, refl))
-are_other_data kind.Ns bytes no4 no6 =
-    (other kind.Ns bytes, (λ e. cc, λ e. cc, λ e. cc, refl, refl))
-are_other_data kind.Soa bytes no4 no6 =
-    (other kind.Soa bytes, (λ e. cc, λ e. cc, λ e. cc, refl, refl))
-are_other_data (kind.Unknown n) bytes no4 no6 =
-    (other (kind.Unknown n) bytes, (λ e. cc, λ e. cc, λ e. cc, refl, refl))
+pub record_one : (bytes : List ℕ) (r s : RecordValue) (rest more : List ℕ) → IsRecord bytes r rest
+    → IsRecord bytes s more → (r ≡ s) × (rest ≡ more)
+record_one bytes r s rest more h k =
+    let one = split_one bytes r.name s.name h.after k.after h.split k.split in
+    let ttls : r.ttl ≡ s.ttl = h.ttl_is ∙ (ap (λ t. number_of ttl_field t) one.1 ∙ sym k.ttl_is) in
+    let datas = data_one _ _ r.holds s.holds
+    (subst (λ t. IsData (type_in t) (data_in t) r.holds) one.1 h.data_is) k.data_is in (
+      ap (λ n. record_of n r.ttl r.holds) one.0
+          ∙ (ap (λ t. record_of s.name t r.holds) ttls ∙ ap (λ d. record_of s.name s.ttl d) datas),
+      h.rest_is ∙ (ap (λ t. drop (number_of length_field t) (drop 10 t)) one.1 ∙ sym k.rest_is),
+    )
+
+pub record_refused : (bytes : List ℕ) (why : Refusal) → RefusesRecord bytes why → BeginsWithRecord bytes → ⊥
+unfolding data_checks
+record_refused bytes why told (r, rest, h) =
+    refused (λ after. field_checks after ++ data_checks (type_in after) (data_in after)) bytes why told r.name h.after
+    h.split (passes_both (field_checks h.after) (data_checks _ _) h.passes ((r.holds, h.data_is), tt))

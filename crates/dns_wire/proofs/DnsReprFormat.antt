@@ -1,39 +1,30 @@
 -- The text of a query, and what is read in it.
-use Rattle.std.proofs.Common.{◌≡◌, ℕ, ◌<◌, ◌≤◌, ◌^◌, Bool, true, false, List, [], ◌∷◌, ◌++◌, length, refl, sym, ap, ◌∙◌}
-use Rattle.std.proofs.Common.{subst, arith}
-use Rattle.std.proofs.lemmas.List.{append-nil, length-append, length-drop}
-use Rattle.byteorder.specs.Endian.{big_bytes}
-use Rattle.wirebase.specs.Bytes.{IsBytes, part, number_of, over}
-use Rattle.wirebase.specs.ByteWriter.{be16, fields}
-use Rattle.wirebase.specs.Format.{SameText}
-use Rattle.wirebase.specs.Numbered.{IsProper}
-use Rattle.wirebase.proofs.ByteParts.{IsBytes-drop, number_of-small}
-use Rattle.wirebase.proofs.Format.{IsFormat, round_trips, same_text}
-use Rattle.wirebase.proofs.Numbered.{case_in-unnamed, case-read}
-use Rattle.wirebase.proofs.Pieces.{over-exact}
+use Rattle.dns_wire.proofs.Words.{◌≡◌, ◌<◌, ◌≤◌, ◌^◌, [], ◌∷◌, ◌++◌, ◌∙◌, Bool, Emits, IsBytes, IsBytes-drop, IsFormat}
+use Rattle.dns_wire.proofs.Words.{IsKnown, IsProper, List, QuestionValue, SameText, ℕ, ap, append-nil, arith, be16}
+use Rattle.dns_wire.proofs.Words.{big_bytes, case-read, case_in-unnamed, false, fields, flags_in, length, length-append}
+use Rattle.dns_wire.proofs.Words.{length-drop, number_of, number_of-small, opcode_in, over, over-exact, part, refl}
+use Rattle.dns_wire.proofs.Words.{round_trips, same_text, subst, sym, true}
 use Rattle.dns_wire.specs.declared.dns.tables.Opcode.{Opcode}
-use Rattle.dns_wire.specs.declared.dns.tables.Opcode.TheVariants as opcode
-use Rattle.dns_wire.specs.DnsTables.{opcode_number, opcodes, opcode_rows, opcode_of, IsKnown}
-use Rattle.dns_wire.specs.DnsPacket.{id_field, flags_field, flags_in, opcode_in, payload_in}
+use Rattle.dns_wire.specs.DnsTables.{opcode_number, opcodes, opcode_rows, opcode_of}
+use Rattle.dns_wire.specs.DnsPacket.{id_field, flags_field, payload_in}
 use Rattle.dns_wire.specs.DnsQuestion as question
-use Rattle.dns_wire.specs.DnsQuestion.{QuestionValue}
-use Rattle.dns_wire.specs.DnsRepr.{QueryValue, flags_word, text, text_len, IsQuery, IsCanonical, format, Emits}
+use Rattle.dns_wire.specs.DnsRepr.{QueryValue, flags_word, text, text_len, IsQuery, IsCanonical, format}
 use Rattle.dns_wire.proofs.DnsFlagsWord.{known-small, opcode_in-word, flags_in-word, known-flags_in}
 use Rattle.dns_wire.proofs.DnsQuestionFormat.{length-question_text, question_reads, question_one, question_accepted}
 
 -- ---- kinds of query
 
 is_unknown_opcode : Opcode → Bool
-is_unknown_opcode (opcode.Unknown n) = true
+is_unknown_opcode (Opcode.Unknown n) = true
 is_unknown_opcode _ = false
 
-opcode_of-number : (k : Opcode) → IsProper opcode.Unknown opcode_rows k → k ≡ opcode_of (opcode_number k)
-opcode_of-number (opcode.Unknown n) p = sym (case_in-unnamed opcode.Unknown opcode_rows n (p n refl))
+opcode_of-number : (k : Opcode) → IsProper Opcode.Unknown opcode_rows k → k ≡ opcode_of (opcode_number k)
+opcode_of-number (Opcode.Unknown n) p = sym (case_in-unnamed Opcode.Unknown opcode_rows n (p n refl))
 opcode_of-number _ p = refl
 
-opcode-read : {k : Opcode} (n : ℕ) → k ≡ opcode_of n → IsProper opcode.Unknown opcode_rows k × (opcode_number k ≡ n)
+opcode-read : {k : Opcode} (n : ℕ) → k ≡ opcode_of n → IsProper Opcode.Unknown opcode_rows k × (opcode_number k ≡ n)
 unfolding is_unknown_opcode
-opcode-read n is = case-read opcode_number opcode.Unknown (λ k. refl) is_unknown_opcode (λ k. refl) opcodes n refl is
+opcode-read n is = case-read opcode_number Opcode.Unknown (λ k. refl) is_unknown_opcode (λ k. refl) opcodes n refl is
 
 -- ---- the text
 
@@ -109,8 +100,8 @@ query_accepted bytes v are small h =
         arith,
         small,
         h.whole,
-        h.asks.reaches,
-        ap length h.asks.whole,
+        h.asks.passes.0,
+        ap length h.asks.split.whole,
         length-append v.asks.name h.asks.after,
         length-drop 12 bytes,
       );

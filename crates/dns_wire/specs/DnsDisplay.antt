@@ -1,9 +1,8 @@
 -- The printed texts of messages and their parts, by the names of IANA's registry of DNS parameters.
-use Rattle.std.specs.Prelude.{ℕ, ◌==◌, if◌then◌else◌, List, [], ◌∷◌, ◌++◌, length, nat_lt, Option, None, Some}
-use Rattle.std.specs.Prelude.{codes, decimal}
+use Rattle.std.specs.Prelude.{◌==◌, [], ◌∷◌, ◌++◌, List, None, Option, Some, ℕ, codes, decimal, if◌then◌else◌, length}
+use Rattle.std.specs.Prelude.{nat_lt}
 use Rattle.std.specs.Int.Bits.{bit_and}
-use Rattle.wirebase.specs.Bytes.{number_of}
-use Rattle.wirebase.specs.Display.{pieces}
+use Rattle.dns_wire.specs.Words.{Opcode, Rcode, number_of, pieces}
 use Rattle.wirebase.specs.Ipv4 as ipv4
 use Rattle.wirebase.specs.Ipv6Address as ipv6
 use Rattle.dns_wire.specs.DnsTables.{opcode_number, opcode_of, rcode_number, rcode_of, type_number, flag_bits}
@@ -14,8 +13,6 @@ use Rattle.dns_wire.specs.DnsRecord.{DataValue, address4, address6, canonical_na
 use Rattle.dns_wire.specs.DnsRepr.{QueryValue}
 use Rattle.dns_wire.specs.declared.dns.display.Counts.{Counts}
 use Rattle.dns_wire.specs.declared.dns.display.Header.{Header}
-use Rattle.dns_wire.specs.declared.dns.tables.Opcode.{Opcode}
-use Rattle.dns_wire.specs.declared.dns.tables.Rcode.{Rcode}
 use Rattle.dns_wire.specs.declared.dns.tables.Type.{«Type» as RecordType}
 
 -- ---- numbers

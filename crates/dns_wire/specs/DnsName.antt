@@ -4,7 +4,7 @@
 -- A part of a name stops with a mark. Where it goes on, the next part is found at the target in the message. A falling
 -- path has targets that each lie below the one before, and each part after the first lies between its target and the
 -- target before it: so no byte of the message is in two of these windows, and the path ends.
-use Rattle.std.specs.Prelude.{◌≡◌, ℕ, ◌+◌, ◌*◌, ◌%◌, ◌<◌, ◌≤◌, ◌⊎◌, List, [], ◌∷◌, ◌++◌, length, drop, map, slice_range}
+use Rattle.std.specs.Prelude.{◌≡◌, ◌+◌, ◌*◌, ◌%◌, ◌<◌, ◌≤◌, ◌⊎◌, [], ◌∷◌, ◌++◌, List, ℕ, drop, length, map, slice_range}
 use Rattle.std.specs.List.{AllByRecursion, flat_map}
 
 -- ---- one part

@@ -1,6 +1,6 @@
 -- The answers of a name walk as they are computed: the model of the iterator. `DnsNameWalk` states what they are.
-use Rattle.std.specs.Prelude.{ℕ, ◌+◌, ◌*◌, ◌%◌, ◌==◌, nat_lt, if◌then◌else◌, List, [], ◌∷◌, length}
-use Rattle.std.specs.Prelude.{take, drop, suc, zero}
+use Rattle.std.specs.Prelude.{◌+◌, ◌*◌, ◌%◌, ◌==◌, [], ◌∷◌, List, ℕ, drop, if◌then◌else◌, length, nat_lt, suc, take}
+use Rattle.std.specs.Prelude.{zero}
 use Rattle.dns_wire.specs.DnsNameWalk.{Coming, label, at_end, at_fault}
 
 -- what a text begins with

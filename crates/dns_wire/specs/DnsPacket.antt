@@ -11,11 +11,11 @@
 -- +-------------------------------+-------------------------------+
 -- | questions and records
 -- +- - - -
-use Rattle.std.specs.Prelude.{◌≡◌, ℕ, ◌*◌, ◌/◌, ◌%◌, List, drop}
+use Rattle.std.specs.Prelude.{◌*◌, ◌/◌, ◌%◌, List, ℕ, drop}
 use Rattle.std.specs.Borrow.{Bor}
 use Rattle.std.specs.Int.Bits.{bit_and, bit_or}
+use Rattle.dns_wire.specs.Words.{Field, field}
 use Rattle.bitflags.specs.Sets.{without}
-use Rattle.wirebase.specs.Bytes.{Field, field}
 use Rattle.dns_wire.specs.DnsTables.{known_bits}
 use Rattle.dns_wire.specs.declared.dns.packet.Packet.{Packet}
 

@@ -1,16 +1,15 @@
 -- One part of a name at the front of a text, in the words of the code that finds it.
-use Rattle.std.specs.Prelude.{◌≡◌, ℕ, ◌+◌, ◌<◌, List, ◌++◌, length, take, drop}
-use Rattle.dns_wire.specs.DnsName.{Stop, IsPart, IsOnePart}
+use Rattle.std.specs.Prelude.{◌≡◌, ◌<◌, ◌++◌, List, ℕ, drop, length, take}
+use Rattle.dns_wire.specs.DnsName.{IsOnePart}
 use Rattle.dns_wire.specs.declared.dns.part.NamePart.{NamePart as FrontOf}
-use Rattle.dns_wire.specs.declared.dns.part.NamePart.TheVariants.{Label, Pointer, End, Torn}
 use Rattle.dns_wire.specs.DnsNameAhead.{NamePart, whole, pointer, stop, torn}
 
 -- what a text begins with, without its place in memory
 abbrev pub shown : FrontOf → NamePart
-shown (Label bytes rest) = whole bytes.now rest.now
-shown (Pointer target) = pointer target
-shown End = stop
-shown Torn = torn
+shown (FrontOf.Label bytes rest) = whole bytes.now rest.now
+shown (FrontOf.Pointer target) = pointer target
+shown FrontOf.End = stop
+shown FrontOf.Torn = torn
 
 -- A pointer to this place leads to an open byte: what is left there, and the bytes before it, which are open then.
 pub record LeadsTo (reach : List ℕ) (target : ℕ) (left front : List ℕ) : Type 0 where
@@ -22,10 +21,3 @@ pub record LeadsTo (reach : List ℕ) (target : ℕ) (left front : List ℕ) : T
 pub record IsSplit (text name rest : List ℕ) : Type 0 where
   pub name_is : IsOnePart name
   pub whole : text ≡ name ++ rest
-
--- a text begins with a part of a given number of bytes
-pub record BeginsWithPart (text : List ℕ) (len : ℕ) : Type 0 where
-  pub labels : List (List ℕ)
-  pub stop : Stop
-  pub part : IsPart text labels stop
-  pub count : len + length part.rest ≡ length text

@@ -5,15 +5,13 @@
 -- +-------------------------------+-------------------------------+
 -- |             type              |             class             |
 -- +-------------------------------+-------------------------------+
-use Rattle.std.specs.Prelude.{◌≡◌, ℕ, ◌+◌, ◌≤◌, ◌<◌, ◌^◌, List, [], ◌∷◌, ◌++◌, length, drop}
-use Rattle.wirebase.specs.Bytes.{Field, field, Reaches, number_of, over}
-use Rattle.wirebase.specs.ByteWriter.{be16, fields}
-use Rattle.wirebase.specs.Format.{Format, RoundTrips}
-use Rattle.wirebase.specs.Numbered.{IsProper}
+use Rattle.std.specs.Prelude.{◌≡◌, ◌+◌, ◌≤◌, ◌<◌, ◌^◌, [], ◌∷◌, List, ℕ, drop, length}
+use Rattle.dns_wire.specs.Words.{Check, Field, Format, IsProper, Passes, Reaches, Refusal, RoundTrips, be16, check}
+use Rattle.dns_wire.specs.Words.{field, fields, number_of, over}
 use Rattle.dns_wire.specs.DnsTables.{type_number, type_rows, type_of}
 use Rattle.dns_wire.specs.DnsName.{IsOnePart}
+use Rattle.dns_wire.specs.DnsPart.{IsSplit}
 use Rattle.dns_wire.specs.declared.dns.tables.Type.{«Type» as RecordType}
-use Rattle.dns_wire.specs.declared.dns.tables.Type.TheVariants as kind
 use Rattle.dns_wire.specs.declared.dns.question.Question.{Question}
 
 -- the fields after the name
@@ -35,14 +33,19 @@ pub record QuestionValue : Type 0 where
 abbrev pub value_of : Question → QuestionValue
 value_of question = record { name = question.name.now; kind = question.type_ }
 
+-- the checks of the bytes after the name, in their order
+abbrev pub question_checks : List ℕ → List (Check Refusal)
+question_checks after =
+    check (Reaches class_field after) Refusal.Short
+    ∷ check (number_of class_field after ≡ internet) (Refusal.Class (number_of class_field after))
+    ∷ []
+
 -- The grammar: these bytes are a name of one part, then a type and the class of the internet, and then a rest.
 pub record IsQuestion (bytes : List ℕ) (question : QuestionValue) (rest : List ℕ) : Type 0 where
   pub after : List ℕ
-  pub name_is : IsOnePart question.name
-  pub whole : bytes ≡ question.name ++ after
-  pub reaches : Reaches class_field after
+  pub split : IsSplit bytes question.name after
+  pub passes : Passes (question_checks after)
   pub kind_is : question.kind ≡ type_of (number_of type_field after)
-  pub class : number_of class_field after ≡ internet
   pub rest_is : rest ≡ drop 4 after
 
 -- the text
@@ -59,7 +62,7 @@ text_len question = length question.name + 4
 -- unknown type of a number that has a name, and a packet holds it
 pub record IsCanonical (question : QuestionValue) : Type 0 where
   pub name_is : IsOnePart question.name
-  pub proper : IsProper kind.Unknown type_rows question.kind
+  pub proper : IsProper RecordType.Unknown type_rows question.kind
   pub fits : type_number question.kind < 2 ^ 16
   pub small : text_len question ≤ 65535
 

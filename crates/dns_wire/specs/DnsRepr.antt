@@ -1,17 +1,12 @@
 -- A DNS query of one question (RFC 1035 section 4.1): a header with no outcome and no records, and then the question.
-use Rattle.std.specs.Prelude.{◌≡◌, ℕ, ◌+◌, ◌*◌, ◌≤◌, ◌<◌, ◌^◌, List, [], ◌∷◌, length}
-use Rattle.wirebase.specs.Bytes.{Reaches, number_of, over}
-use Rattle.wirebase.specs.ByteWriter.{be16, fields}
-use Rattle.wirebase.specs.Format.{Format, RoundTrips}
-use Rattle.wirebase.specs.Numbered.{IsProper}
+use Rattle.std.specs.Prelude.{◌≡◌, ◌+◌, ◌*◌, ◌≤◌, ◌<◌, ◌^◌, [], ◌∷◌, List, ℕ, length}
+use Rattle.dns_wire.specs.Words.{Format, IsProper, Opcode, Reaches, RoundTrips, be16, fields, number_of, over}
 use Rattle.dns_wire.specs.DnsTables.{opcode_number, opcode_rows, opcode_of, flag_bits, IsKnown}
 use Rattle.dns_wire.specs.DnsPacket.{id_field, flags_field, question_count_field, answer_count_field}
 use Rattle.dns_wire.specs.DnsPacket.{authority_count_field, additional_count_field, header, payload_in, flags_in}
 use Rattle.dns_wire.specs.DnsPacket.{opcode_in}
 use Rattle.dns_wire.specs.DnsQuestion as question
 use Rattle.dns_wire.specs.DnsQuestion.{QuestionValue, IsQuestion, question_fields}
-use Rattle.dns_wire.specs.declared.dns.tables.Opcode.{Opcode}
-use Rattle.dns_wire.specs.declared.dns.tables.Opcode.TheVariants as opcode
 use Rattle.dns_wire.specs.declared.dns.repr.Repr.{Repr}
 
 -- a query by its content; the flags are their bits
@@ -69,7 +64,7 @@ pub record IsQuery (bytes : List ℕ) (query : QueryValue) : Type 0 where
 -- a value that its own text gives back
 pub record IsCanonical (query : QueryValue) : Type 0 where
   pub id : query.transaction_id < 2 ^ 16
-  pub proper : IsProper opcode.Unknown opcode_rows query.kind
+  pub proper : IsProper Opcode.Unknown opcode_rows query.kind
   pub four_bits : opcode_number query.kind < 16
   pub known : IsKnown query.flags
   pub asks : question.IsCanonical query.asks

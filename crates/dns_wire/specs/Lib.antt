@@ -1,11 +1,12 @@
-pub mod DnsTables
-pub mod DnsPacket
+pub mod DnsDisplay
 pub mod DnsName
-pub mod DnsNameWalk
 pub mod DnsNameAhead
+pub mod DnsNameWalk
+pub mod DnsPacket
 pub mod DnsPart
 pub mod DnsQuestion
-pub mod DnsRepr
 pub mod DnsRecord
-pub mod DnsDisplay
 pub mod DnsRefusal
+pub mod DnsRepr
+pub mod DnsTables
+pub mod Words

@@ -6,7 +6,7 @@ use Rattle.capture.specs.Time.{TimeValue}
 use Rattle.frame_wire.specs.Link.{vlan_in}
 use Rattle.frame_wire.specs.declared.datagram.Addresses.{Addresses}
 use Rattle.frame_wire.specs.declared.datagram.Addresses.TheVariants.{V4, V6}
-use Rattle.listing.specs.EndpointText.{v4_text, v6_text}
+use Rattle.wirebase.specs.EndpointText.{v4_text, v6_text}
 use Rattle.listing.specs.Layout.{line}
 use Rattle.dump_captures.specs.Kinds.{kind_text}
 use Rattle.dump_captures.specs.Sight.{HeadersValue}

@@ -19,8 +19,7 @@ use Rattle.icmp4_wire.specs.declared.igmp.refusal.Refusal.TheVariants as igmp
 use Rattle.icmp6_wire.specs.declared.icmpv6.refusal.Refusal.TheVariants as icmpv6
 use Rattle.quote_wire.specs.Icmpv4Message as icmp4_texts
 use Rattle.quote_wire.specs.Icmpv6Message as icmp6_texts
-use Rattle.quote_wire.specs.declared.icmpv4_error.refusal.Refusal.TheVariants as icmpv4_error
-use Rattle.quote_wire.specs.declared.icmpv6_error.refusal.Refusal.TheVariants as icmpv6_error
+use Rattle.quote_wire.specs.declared.error.Refusal.TheVariants as error
 use Rattle.quote_wire.specs.declared.message.icmpv4.Icmpv4Refusal.{Icmpv4Refusal}
 use Rattle.quote_wire.specs.declared.message.icmpv4.Icmpv4Refusal.TheVariants as icmp4
 use Rattle.quote_wire.specs.declared.message.icmpv6.Icmpv6Refusal.{Icmpv6Refusal}
@@ -61,10 +60,10 @@ udp_reason udp.Checksum = reason.Checksum
 udp_reason udp.Port = reason.Malformed
 
 abbrev pub icmp4_reason : Icmpv4Refusal → Reason
-icmp4_reason (icmp4.Error icmpv4_error.Short) = reason.Short
-icmp4_reason (icmp4.Error icmpv4_error.Checksum) = reason.Checksum
-icmp4_reason (icmp4.Error (icmpv4_error.UnknownType t)) = reason.UnknownType
-icmp4_reason (icmp4.Error (icmpv4_error.Quote why)) = reason.Quote
+icmp4_reason (icmp4.Error error.Short) = reason.Short
+icmp4_reason (icmp4.Error error.Checksum) = reason.Checksum
+icmp4_reason (icmp4.Error (error.UnknownType t)) = reason.UnknownType
+icmp4_reason (icmp4.Error (error.Quote why)) = reason.Quote
 icmp4_reason (icmp4.Message icmpv4.Short) = reason.Short
 icmp4_reason (icmp4.Message icmpv4.Checksum) = reason.Checksum
 icmp4_reason (icmp4.Message (icmpv4.UnknownType t)) = reason.UnknownType
@@ -76,10 +75,10 @@ igmp_reason (igmp.UnknownType t) = reason.UnknownType
 igmp_reason (igmp.Group group) = reason.Malformed
 
 abbrev pub icmp6_reason : Icmpv6Refusal → Reason
-icmp6_reason (icmp6.Error icmpv6_error.Short) = reason.Short
-icmp6_reason (icmp6.Error icmpv6_error.Checksum) = reason.Checksum
-icmp6_reason (icmp6.Error (icmpv6_error.UnknownType t)) = reason.UnknownType
-icmp6_reason (icmp6.Error (icmpv6_error.Quote why)) = reason.Quote
+icmp6_reason (icmp6.Error error.Short) = reason.Short
+icmp6_reason (icmp6.Error error.Checksum) = reason.Checksum
+icmp6_reason (icmp6.Error (error.UnknownType t)) = reason.UnknownType
+icmp6_reason (icmp6.Error (error.Quote why)) = reason.Quote
 icmp6_reason (icmp6.Message icmpv6.Short) = reason.Short
 icmp6_reason (icmp6.Message icmpv6.Length) = reason.Short
 icmp6_reason (icmp6.Message icmpv6.Checksum) = reason.Checksum

@@ -1,21 +1,14 @@
 -- Times as RFC 3339 writes them (section 5.6), in UTC and with nine digits of a second.
-use Rattle.std.specs.Prelude.{ℕ, ◌/◌, ◌%◌, List, ◌++◌, codes, decimal}
+use Rattle.std.specs.Prelude.{ℕ, ◌/◌, List, ◌++◌, codes}
+use Rattle.wirebase.specs.Digits.{last_digits}
 use Rattle.capture.specs.Calendar.{date_of}
+use Rattle.capture.specs.TimeText.{date_text, month_and_day_text, clock_text}
 use Rattle.capture.specs.declared.calendar.Date.{Date}
-use Rattle.listing.specs.Digits.{last_digits}
-
-abbrev pub month_and_day_text : Date → List ℕ
-month_and_day_text d = codes "-" ++ last_digits 2 d.month ++ codes "-" ++ last_digits 2 d.day
-
--- a date; since the years begin with 1970, each has four digits at least
-abbrev pub date_text : Date → List ℕ
-date_text d = decimal d.year ++ month_and_day_text d
 
 -- hour, minute and second of a number of seconds, and the digits of nanoseconds
 unfoldable pub time_of_day_text : ℕ → ℕ → List ℕ
 time_of_day_text seconds nanoseconds =
-    codes "T" ++ last_digits 2 (seconds / 3600 % 24) ++ codes ":" ++ last_digits 2 (seconds / 60 % 60) ++ codes ":"
-    ++ last_digits 2 (seconds % 60) ++ codes "." ++ last_digits 9 nanoseconds ++ codes "Z"
+    codes "T" ++ clock_text seconds ++ codes "." ++ last_digits 9 nanoseconds ++ codes "Z"
 
 -- the time this many seconds and nanoseconds after 1970-01-01T00:00:00Z
 unfoldable pub time_text : ℕ → ℕ → List ℕ

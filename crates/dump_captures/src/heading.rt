@@ -16,10 +16,11 @@ use crate::sight::Headers;
 use crate::time::Clock;
 use capture::{Record, Time};
 use frame_wire::Addresses;
-use listing::endpoint::{write_v4, write_v6};
+use listing::output::ToWriter;
 use listing::printer::{Value, line};
 use std::io;
 use std::io::Write;
+use wirebase::text::{put_v4, put_v6};
 use wirebase::{Field, Ipv4Address, Ipv6Address, Octets};
 
 // The length of a VLAN tag, and of its part with the VLAN's number, in bytes.
@@ -87,9 +88,9 @@ fn show_v4<W: Write>(
         (addresses_text (Some (V4 source destination)) ports)) }
 {
     output.write_all(b" ")?;
-    write_v4(output, source, source_port(ports))?;
+    put_v4::<_, ToWriter>(output, source, source_port(ports))?;
     output.write_all(b" > ")?;
-    write_v4(output, destination, destination_port(ports))
+    put_v4::<_, ToWriter>(output, destination, destination_port(ports))
 }
 
 fn show_v6<W: Write>(
@@ -102,9 +103,9 @@ fn show_v6<W: Write>(
         (addresses_text (Some (V6 source destination)) ports)) }
 {
     output.write_all(b" ")?;
-    write_v6(output, source, source_port(ports))?;
+    put_v6::<_, ToWriter>(output, source, source_port(ports))?;
     output.write_all(b" > ")?;
-    write_v6(output, destination, destination_port(ports))
+    put_v6::<_, ToWriter>(output, destination, destination_port(ports))
 }
 
 fn source_port(ports: Option<(u16, u16)>) -> Option<u16>

@@ -1,6 +1,6 @@
 //! Times of packets, as RFC 3339 writes them in UTC.
 
-#![tactic(auto, using(listing::proofs::Printing::gained, listing::proofs::Printing::gains_both))]
+#![tactic(auto, using(listing::proofs::Printing::gained, listing::proofs::Printing::gains_both, listing::proofs::Printing::put))]
 
 ghost use Rattle.std.specs.Prelude.{◌≡◌, ◌+◌, ◌/◌, ◌%◌, ◌++◌, OnOk, length};
 ghost use Rattle.capture.specs.Calendar.{date_of as date_after};
@@ -8,9 +8,10 @@ ghost use Rattle.listing.specs.Output.{Gains};
 ghost use Rattle.dump_captures.specs.TimeText.{kept_text, time_of_day_text, time_text};
 
 use capture::calendar::{Date, date_of};
-use listing::number::{two_digits, write_number};
+use listing::output::ToWriter;
 use std::io;
 use std::io::Write;
+use wirebase::text::{last_digit, nine_digits, put_number, two_digits};
 
 const DAY_SECONDS: u64 = 86_400;
 
@@ -57,7 +58,7 @@ impl Clock {
         if self.ten_thousands == 0 {
             return output.write_all(&text);
         }
-        write_number(output, self.ten_thousands)?;
+        put_number::<_, ToWriter>(output, self.ten_thousands)?;
         output.write_all(&text)
     }
 
@@ -89,16 +90,16 @@ fn date_octets(date: Date) -> [u8; DATE_LEN]
 {
     let Date { year, month, day } = date;
     [
-        digit(year / 10 / 10 / 10),
-        digit(year / 10 / 10),
-        digit(year / 10),
-        digit(year),
+        last_digit(year / 10 / 10 / 10),
+        last_digit(year / 10 / 10),
+        last_digit(year / 10),
+        last_digit(year),
         b'-',
-        digit(month / 10),
-        digit(month),
+        last_digit(month / 10),
+        last_digit(month),
         b'-',
-        digit(day / 10),
-        digit(day),
+        last_digit(day / 10),
+        last_digit(day),
     ]
 }
 
@@ -109,22 +110,10 @@ fn time_octets(seconds: u64, nanoseconds: u32) -> [u8; TIME_LEN]
     let [h1, h0] = two_digits(seconds / 60 / 60 % 24);
     let [m1, m0] = two_digits(seconds / 60 % 60);
     let [s1, s0] = two_digits(seconds % 60);
-    let n = u64::from(nanoseconds);
-    let n8 = digit(n / 100 / 100 / 100 / 100);
-    let [n7, n6] = two_digits(n / 100 / 100 / 100);
-    let [n5, n4] = two_digits(n / 100 / 100);
-    let [n3, n2] = two_digits(n / 100);
-    let [n1, n0] = two_digits(n);
+    let [n8, n7, n6, n5, n4, n3, n2, n1, n0] = nine_digits(u64::from(nanoseconds));
     [
         b'T', h1, h0, b':', m1, m0, b':', s1, s0, b'.', n8, n7, n6, n5, n4, n3, n2, n1, n0, b'Z',
     ]
-}
-
-// The last digit of a number.
-fn digit(number: u64) -> u8
-    ensures { result ≡ 48 + number % 10 }
-{
-    b'0' + (number % 10) as u8
 }
 
 // A date, and a time after it.

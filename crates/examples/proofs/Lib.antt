@@ -1,7 +1,8 @@
 pub mod Alerts
 pub mod Leases
 pub mod Listeners
-pub mod Neighbors
 pub mod NameCases
+pub mod Neighbors
+pub mod Pings
 pub mod ResolverSearch
 pub mod Routers

@@ -79,7 +79,16 @@ router_of hops flags lifetime reachable retrans lladdr mtu = record {
 -- an advertisement tells one thing of its router
 pub one_router : {v : NdiscValue} {prefix_info : Option PrefixInformation} (router : RouterInformation) (hops : ℕ)
     (flags : RouterFlags) (lifetime reachable retrans : Duration) (lladdr : Option RawHardwareAddress) (mtu : Option ℕ)
-    → v ≡ router_advert hops flags lifetime reachable retrans (link_of lladdr) mtu prefix_info → RouterIn router v
+    → v ≡ router_advert (record {
+      hop_limit = hops;
+      flags = flags;
+      router_lifetime = lifetime;
+      reachable_time = reachable;
+      retrans_time = retrans;
+      lladdr = link_of lladdr;
+      mtu = mtu;
+      prefix_info = prefix_info;
+    }) → RouterIn router v
     → router_of hops flags lifetime reachable retrans lladdr mtu ≡ router
 one_router router hops flags lifetime reachable retrans lladdr mtu e told =
     let is = subst (λ (v : NdiscValue). RouterIn router v) e told in
@@ -99,13 +108,13 @@ one_router router hops flags lifetime reachable retrans lladdr mtu e told =
 pub tell_prefixes : (source destination : Ipv6Address) (bytes : List ℕ) (v : NdiscValue) (router : RouterInformation)
     → IsGoodMessageV6 source destination bytes (ndisc v) → RouterIn router v
     → (prefixes : List PrefixInformation) × TellPrefixes (options_in bytes) prefixes
-tell_prefixes source destination bytes (router_advert hops flags lifetime reachable retrans l m p) router good is =
+tell_prefixes source destination bytes (router_advert a) router good is =
     let message = good.content.0 in (
       filter_map prefix_in message.options,
       record {
         options = message.options;
         tiling = subst (λ (k : ℕ). AreBlocks (drop (header_len_of (message_of k)) bytes) message.options)
-            message.content.0.kind message.tiling;
+            message.content.kind message.tiling;
         told = refl;
       },
     )

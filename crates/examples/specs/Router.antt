@@ -28,11 +28,12 @@ IsSolicitation own address bytes =
 
 -- a message is the advertisement of a router, which tells this of it and of the link
 abbrev pub RouterIn : RouterInformation → NdiscValue → Type 0
-RouterIn router (router_advert hops flags lifetime reachable retrans told mtu prefix_info) =
-    (hops ≡ router.hop_limit) × (flags ≡ router.flags)
-    × (lifetime ≡ router.lifetime) × (reachable ≡ router.reachable_time) × (retrans ≡ router.retrans_time)
-    × (told ≡ link_of router.lladdr)
-    × (mtu ≡ router.mtu)
+RouterIn router (router_advert a) =
+    (a.hop_limit ≡ router.hop_limit) × (a.flags ≡ router.flags)
+    × (a.router_lifetime ≡ router.lifetime) × (a.reachable_time ≡ router.reachable_time)
+    × (a.retrans_time ≡ router.retrans_time)
+    × (a.lladdr ≡ link_of router.lladdr)
+    × (a.mtu ≡ router.mtu)
 RouterIn router v = ⊥
 
 -- a valid advertisement of a router: it comes from an address of the link (section 6.1.2)

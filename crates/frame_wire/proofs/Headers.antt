@@ -1,8 +1,7 @@
 -- Headers that extend IPv6 follow one another.
-use Rattle.std.proofs.Common.{◌≡◌, ℕ, List, drop, slice_index, Option, subst}
+use Rattle.frame_wire.proofs.Words.{◌≡◌, IpProtocol, List, Option, Passes, ℕ, drop, slice_index, subst}
 use Rattle.wirebase.specs.Ip.{protocol_of}
-use Rattle.wirebase.specs.declared.ip.IpProtocol.{IpProtocol}
-use Rattle.frame_wire.specs.Datagram.{EndsAt, options_of, Routes, Passes, past}
+use Rattle.frame_wire.specs.Datagram.{EndsAt, options_of, Routes, past}
 
 -- headers that are passed from here on are passed from the first on
 pub record SoFar (begin : IpProtocol) (all start : List ℕ) (p : IpProtocol) (rest destination : List ℕ) : Type 0 where

@@ -4,3 +4,4 @@ pub mod Tags
 pub mod UdpFormat
 pub mod UdpSeals
 pub mod Witnesses
+pub mod Words

@@ -1,8 +1,8 @@
 -- The VLAN tags that are in bytes.
-use Rattle.std.proofs.Common.{◌≡◌, ℕ, ◌≤◌, ◌<◌, List, [], ◌∷◌, length, drop, slice_index, Some, refl, ap, arith}
+use Rattle.frame_wire.proofs.Words.{◌≡◌, ◌≤◌, ◌<◌, [], ◌∷◌, List, Some, VlanTag, ℕ, ap, arith, drop, length, refl}
+use Rattle.frame_wire.proofs.Words.{slice_index, tags_in}
 use Rattle.std.specs.Iterator.{MakesProgress, at_most}
-use Rattle.frame_wire.specs.LinkVlans.{tags_in, tag_of}
-use Rattle.frame_wire.specs.declared.link.vlans.VlanTag.{VlanTag}
+use Rattle.frame_wire.specs.LinkVlans.{tag_of}
 
 pub tags_short : (bytes : List ℕ) → length bytes < 4 → tags_in bytes ≡ []
 unfolding tags_in

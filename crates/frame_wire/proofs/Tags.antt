@@ -1,11 +1,10 @@
 -- Tags follow one another.
-use Rattle.std.proofs.Common.{◌≡◌, ℕ, ◌+◌, ◌-◌, ◌≤◌, List, [], ◌++◌, length, take, drop, refl, sym, ap, subst, ◌∙◌}
-use Rattle.std.proofs.Common.{arith, append_assoc, length-drop, ◌<◌, Bool, true, false, IsTrue, ◌↔◌, Result, Ok, Err}
-use Rattle.std.proofs.Common.{IfOk}
-use Rattle.std.proofs.lemmas.List.{drop-drop, append-nil}
+use Rattle.frame_wire.proofs.Words.{◌≡◌, ◌+◌, ◌-◌, ◌≤◌, [], ◌++◌, ◌∙◌, ◌<◌, ◌↔◌, Bool, Err, IfOk, IsTagged, IsTrue}
+use Rattle.frame_wire.proofs.Words.{List, Ok, Result, ℕ, ap, append-nil, append_assoc, arith, drop, false, field}
+use Rattle.frame_wire.proofs.Words.{length, length-drop, number_of, part, refl, subst, sym, take, true}
+use Rattle.std.proofs.lemmas.List.{drop-drop}
 use Rattle.std.proofs.Math.Seq.{take-add}
-use Rattle.wirebase.specs.Bytes.{field, part, number_of}
-use Rattle.frame_wire.specs.Link.{IsTagType, IsTagged, plain, tagged}
+use Rattle.frame_wire.specs.Link.{IsTagType, plain, tagged}
 use Rattle.frame_wire.specs.LinkRefusal.{IsTagCut, here, later}
 
 -- the first bytes are tags, after which `last` is the type of what follows: what is tagged there is tagged here

@@ -1,28 +1,22 @@
 -- The format of datagrams: a text is read back, what was read is canonical, and bytes have one value.
-use Rattle.std.proofs.Common.{◌≡◌, ◌≢◌, ℕ, ◌+◌, ◌-◌, ◌<◌, ◌≤◌, ◌^◌, Bool, true, false, List, [], ◌∷◌, ◌++◌}
-use Rattle.std.proofs.Common.{if◌then◌else◌, length, take, drop, refl, sym, ap, subst, ◌∙◌, arith, append_assoc}
-use Rattle.std.proofs.Common.{length-append, inl, inr}
-use Rattle.std.proofs.lemmas.List.{append-nil, take_at, drop_at}
-use Rattle.byteorder.specs.Endian.{big_bytes}
-use Rattle.wirebase.specs.Bytes.{IsBytes, part, splice, over, bytes_of, number_of}
+use Rattle.frame_wire.proofs.Words.{◌≡◌, ◌≢◌, ◌+◌, ◌-◌, ◌<◌, ◌≤◌, ◌^◌, [], ◌∷◌, ◌++◌, ◌∙◌, Addresses, BeginsWhole, Bool}
+use Rattle.frame_wire.proofs.Words.{ChecksumCapabilities, HasChecksum, IpProtocol, IsGood, List, UdpRepr, ℕ, ap}
+use Rattle.frame_wire.proofs.Words.{append-nil, append_assoc, arith, big_bytes, bytes_of, checksum_field, drop, drop_at}
+use Rattle.frame_wire.proofs.Words.{dst_port_field, false, format, if◌then◌else◌, inl, inr, is_verified, len_in, length}
+use Rattle.frame_wire.proofs.Words.{length-append, number_of, part, payload_field, refl, sealed_datagram, splice}
+use Rattle.frame_wire.proofs.Words.{src_port_field, subst, sum_before, sym, take, take_at, true, udp_checksum}
+use Rattle.wirebase.specs.Bytes.{IsBytes, over}
 use Rattle.wirebase.specs.ByteWriter.{be16, fields}
-use Rattle.wirebase.specs.Capabilities.{is_verified, is_computed}
-use Rattle.wirebase.specs.Checksum.{IsGood}
+use Rattle.wirebase.specs.Capabilities.{is_computed}
 use Rattle.wirebase.specs.Format.{SameText}
 use Rattle.wirebase.specs.declared.capabilities.Checksum.{Checksum}
-use Rattle.wirebase.specs.declared.capabilities.Checksum.TheVariants.{Both, Rx, Tx, None}
-use Rattle.wirebase.specs.declared.capabilities.ChecksumCapabilities.{ChecksumCapabilities}
-use Rattle.wirebase.specs.declared.ip.IpProtocol.TheVariants.{Udp}
 use Rattle.wirebase.proofs.ByteParts.{number_of-small}
 use Rattle.wirebase.proofs.Format.{IsFormat, round_trips, same_text-by}
 use Rattle.wirebase.proofs.Pieces.{over-fits, over-exact, length-part}
-use Rattle.frame_wire.specs.Addresses.{IsV4, sum_before}
-use Rattle.frame_wire.specs.Udp.{BeginsWhole, IsVerified, IsSealed, HasChecksum, IsDatagram, len_in}
-use Rattle.frame_wire.specs.Udp.{src_port_field, dst_port_field, len_field, checksum_field, whole_field, payload_field}
-use Rattle.frame_wire.specs.UdpText.{UdpValue, value_of, text_len, datagram_fields, text, udp_checksum}
-use Rattle.frame_wire.specs.UdpText.{sealed_datagram, packet_text, Reads, IsCanonical, Fills, format, Emits}
-use Rattle.frame_wire.specs.declared.datagram.Addresses.{Addresses}
-use Rattle.frame_wire.specs.declared.udp.UdpRepr.{UdpRepr}
+use Rattle.frame_wire.specs.Addresses.{IsV4}
+use Rattle.frame_wire.specs.Udp.{IsVerified, IsSealed, IsDatagram, len_field, whole_field}
+use Rattle.frame_wire.specs.UdpText.{UdpValue, value_of, text_len, datagram_fields, text, packet_text, Reads}
+use Rattle.frame_wire.specs.UdpText.{IsCanonical, Fills, Emits}
 use Rattle.frame_wire.proofs.UdpSeals.{length-sealed_datagram, checksum-small, checksum-some, sealed-good}
 
 -- ---- a text, and what follows it
@@ -114,7 +108,7 @@ join v checksum rest =
 
 -- a checksum that holds, whatever follows the datagram
 verified : (addresses : Addresses) (v : UdpValue) (checksum : ℕ) (rest : List ℕ) → text_len v ≤ 65535 → checksum ≢ 0
-    → checksum ≤ 65535 → IsGood (datagram_text v checksum []) (sum_before addresses Udp (text_len v))
+    → checksum ≤ 65535 → IsGood (datagram_text v checksum []) (sum_before addresses IpProtocol.Udp (text_len v))
     → IsSealed addresses (datagram_text v checksum rest)
 unfolding part
 verified addresses v checksum rest fits some small good =
@@ -127,8 +121,8 @@ verified addresses v checksum rest fits some small good =
     ap (λ (n : ℕ). take n bytes) count ∙ ap (λ (l : List ℕ). take (text_len v) l) (sym (join v checksum rest))
     ∙ take_at whole rest (text_len v) long in (
       λ none. some (h.sum small ∙ none),
-      subst (λ (n : ℕ). IsGood (take (len_in bytes - 0) bytes) (sum_before addresses Udp n)) (sym h.len)
-          (subst (λ (l : List ℕ). IsGood l (sum_before addresses Udp (text_len v))) (sym front) good),
+      subst (λ (n : ℕ). IsGood (take (len_in bytes - 0) bytes) (sum_before addresses IpProtocol.Udp n)) (sym h.len)
+          (subst (λ (l : List ℕ). IsGood l (sum_before addresses IpProtocol.Udp (text_len v))) (sym front) good),
     )
 
 sealed_before : (addresses : Addresses) (v : UdpValue) (rest : List ℕ) → text_len v ≤ 65535
@@ -137,8 +131,8 @@ sealed_before addresses v rest fits =
     let long : 8 ≤ length (text v) = omega (arith, length-text v) in
     let checksum : ℕ = udp_checksum addresses (text v) in
     let good =
-    subst (λ (n : ℕ). IsGood (datagram_text v checksum []) (sum_before addresses Udp n)) (length-text v)
-    (subst (λ (l : List ℕ). IsGood l (sum_before addresses Udp (length (text v)))) (text_sealed addresses v)
+    subst (λ (n : ℕ). IsGood (datagram_text v checksum []) (sum_before addresses IpProtocol.Udp n)) (length-text v)
+    (subst (λ (l : List ℕ). IsGood l (sum_before addresses IpProtocol.Udp (length (text v)))) (text_sealed addresses v)
     (sealed-good addresses (text v) long)) in
     subst (λ (l : List ℕ). IsSealed addresses l)
     (sym (ap (λ (l : List ℕ). l ++ rest) (text_sealed addresses v) ∙ join v checksum rest))
@@ -155,15 +149,15 @@ sealed-by true addresses v rest fits is = sealed_before addresses v rest fits
 sealed-by false addresses v rest fits is = cc
 
 checked-by : (checksum : Checksum) (addresses : Addresses) (v : UdpValue) (rest : List ℕ) → text_len v ≤ 65535
-    → (checksum ≡ Rx → IsV4 addresses) → is_verified checksum ≡ true
+    → (checksum ≡ Checksum.Rx → IsV4 addresses) → is_verified checksum ≡ true
     → HasChecksum addresses (packet_by (is_computed checksum) addresses v ++ rest)
-checked-by Both addresses v rest fits fills is = inr (sealed_before addresses v rest fits)
-checked-by Rx addresses v rest fits fills is =
+checked-by Checksum.Both addresses v rest fits fills is = inr (sealed_before addresses v rest fits)
+checked-by Checksum.Rx addresses v rest fits fills is =
     let all = ap (λ (l : List ℕ). l ++ rest) (fields_text v 0) ∙ join v 0 rest in
     let none = ap (λ (l : List ℕ). number_of checksum_field l) all ∙ sym ((holds v 0 rest fits).sum (omega arith)) in
     inl (none, fills refl)
-checked-by Tx addresses v rest fits fills is = cc
-checked-by None addresses v rest fits fills is = cc
+checked-by Checksum.Tx addresses v rest fits fills is = cc
+checked-by Checksum.None addresses v rest fits fills is = cc
 
 content-by : (computed : Bool) (addresses : Addresses) (v : UdpValue) (rest : List ℕ) → v.ports.src_port < 2 ^ 16
     → v.ports.dst_port < 2 ^ 16 → text_len v ≤ 65535 → IsContent (packet_by computed addresses v ++ rest) v

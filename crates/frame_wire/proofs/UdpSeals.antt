@@ -1,18 +1,15 @@
 -- The checksum of a datagram: it holds, also where it is written as 0xffff for 0.
-use Rattle.std.proofs.Common.{◌≡◌, ◌≢◌, ℕ, zero, suc, ◌+◌, ◌-◌, ◌≤◌, List, [], ◌∷◌, length, refl, sym, ap, subst, ◌∙◌}
-use Rattle.std.proofs.Common.{take, drop, ◌++◌, arith}
-use Rattle.std.proofs.lemmas.List.{take_at, drop_at, length-take-le}
-use Rattle.byteorder.specs.Endian.{big_bytes, big_number}
-use Rattle.wirebase.specs.Bytes.{Reaches, part, splice, with_field, number_of}
-use Rattle.wirebase.specs.Checksum.{word_sum, fold, IsGood, zeroed, checksum_of, sealed}
-use Rattle.wirebase.specs.declared.ip.IpProtocol.TheVariants.{Udp}
+use Rattle.frame_wire.proofs.Words.{◌≡◌, ◌≢◌, ◌+◌, ◌-◌, ◌≤◌, [], ◌∷◌, ◌∙◌, ◌++◌, Addresses, IpProtocol, IsGood, List, ℕ}
+use Rattle.frame_wire.proofs.Words.{ap, arith, big_bytes, big_number, checksum_field, drop, drop_at, length, number_of}
+use Rattle.frame_wire.proofs.Words.{part, refl, sealed, sealed_datagram, splice, subst, suc, sum_before, sym, take}
+use Rattle.frame_wire.proofs.Words.{take_at, udp_checksum, zero}
+use Rattle.std.proofs.lemmas.List.{length-take-le}
+use Rattle.wirebase.specs.Bytes.{Reaches, with_field}
+use Rattle.wirebase.specs.Checksum.{word_sum, fold, zeroed, checksum_of}
 use Rattle.wirebase.proofs.ChecksumSeals.{word_sum-big_bytes, word_sum-splice, splice-splice}
 use Rattle.wirebase.proofs.ChecksumSums.{fold_le, fold_small, fold_same, fold-add}
 use Rattle.wirebase.proofs.Pieces.{length-splice}
-use Rattle.frame_wire.specs.Addresses.{sum_before}
-use Rattle.frame_wire.specs.Udp.{checksum_field}
-use Rattle.frame_wire.specs.UdpText.{never_zero, udp_checksum, sealed_datagram}
-use Rattle.frame_wire.specs.declared.datagram.Addresses.{Addresses}
+use Rattle.frame_wire.specs.UdpText.{never_zero}
 
 -- ---- 0xffff for 0
 
@@ -46,7 +43,7 @@ number-written bytes n long small =
 
 module _ (addresses : Addresses) (bytes : List ℕ) (long : Reaches checksum_field bytes) where
   abbrev extra : ℕ
-  extra = sum_before addresses Udp (length bytes)
+  extra = sum_before addresses IpProtocol.Udp (length bytes)
 
   abbrev others : ℕ
   others = word_sum (zeroed checksum_field bytes)

@@ -1,15 +1,11 @@
 -- What is read, and what is cut, after the header of a link.
-use Rattle.std.proofs.Common.{◌≡◌, ◌≢◌, ℕ, ◌+◌, ◌-◌, ◌≤◌, List, length, drop, refl, sym, subst, ◌∙◌, arith}
-use Rattle.std.proofs.Common.{Bool, true, false, ◌↔◌, Option, None, Some, IsNone, IsSome}
-use Rattle.byteorder.specs.Endian.{big_number}
-use Rattle.wirebase.specs.Bytes.{field, part, number_of}
-use Rattle.wirebase.specs.Capabilities.{is_verified}
-use Rattle.wirebase.specs.declared.capabilities.ChecksumCapabilities.{ChecksumCapabilities}
-use Rattle.frame_wire.specs.Link.{FrameValue, TypedValue, IsTagged, IsPayload, IsTypedFrame}
+use Rattle.frame_wire.proofs.Words.{◌≡◌, ◌≢◌, ◌+◌, ◌-◌, ◌≤◌, ◌∙◌, ◌↔◌, Addresses, BeginsWhole, Bool}
+use Rattle.frame_wire.proofs.Words.{ChecksumCapabilities, HasChecksum, IsNone, IsSome, IsTagged, List, None, Option}
+use Rattle.frame_wire.proofs.Words.{Some, ℕ, arith, big_number, drop, dst_port_field, false, field, is_verified, length}
+use Rattle.frame_wire.proofs.Words.{number_of, part, refl, src_port_field, subst, sym, true}
+use Rattle.frame_wire.specs.Link.{FrameValue, TypedValue, IsPayload, IsTypedFrame}
 use Rattle.frame_wire.specs.LinkRefusal.{IsSessionCut}
-use Rattle.frame_wire.specs.Udp.{BeginsWhole, HasChecksum, src_port_field, dst_port_field}
 use Rattle.frame_wire.specs.UdpRefusal.{IsRead}
-use Rattle.frame_wire.specs.declared.datagram.Addresses.{Addresses}
 
 -- tags of the type and the bytes that are in a frame
 tagged_at : (octets : List ℕ) (place start kind : ℕ) (rest : List ℕ) (t : TypedValue)

@@ -1,16 +1,11 @@
 -- Datagrams as far as they were captured: whole, cut at their end, or of no stated length.
-use Rattle.std.specs.Prelude.{◌≡◌, ◌≢◌, ℕ, ◌+◌, ◌<◌, ◌≤◌, ◌⊎◌, List, length, drop}
+use Rattle.std.specs.Prelude.{◌≡◌, ◌≢◌, ◌+◌, ◌<◌, ◌≤◌, ◌⊎◌, List, ℕ, drop, length}
+use Rattle.frame_wire.specs.Words.{Extent, IpProtocol, Refusal}
 use Rattle.wirebase.specs.Ipv4 as ipv4
-use Rattle.wirebase.specs.declared.ip.IpProtocol.{IpProtocol}
 use Rattle.frame_wire.specs.Datagram.{DatagramValue, value_of, HasHeader4, IsFragment4, IsHeaded4, IsDatagram4, IsHead4}
 use Rattle.frame_wire.specs.Datagram.{Refuses4, HasHeader6, total_len6, IsHeaded6, IsDatagram6, IsHead6, Refuses6}
 use Rattle.frame_wire.specs.Datagram.{RefusesBehind6}
-use Rattle.frame_wire.specs.declared.datagram.Refusal.{Refusal}
-use Rattle.frame_wire.specs.declared.datagram.Refusal.TheVariants.{TotalLen, Cut, Extension}
-use Rattle.frame_wire.specs.declared.datagram.Refusal.TheVariants.{Fragment}
 use Rattle.frame_wire.specs.declared.datagram.captured.Captured.{Captured}
-use Rattle.frame_wire.specs.declared.datagram.captured.Extent.{Extent}
-use Rattle.frame_wire.specs.declared.datagram.captured.Extent.TheVariants as extent
 
 -- by content
 pub record CapturedValue : Type 0 where
@@ -38,10 +33,10 @@ pub record IsOpen4 (bytes : List ℕ) (v : DatagramValue) : Type 0 where
 
 -- The grammar: a whole datagram; one that lacks some bytes at its end, by its own length; or one that states none.
 pub data IsCaptured4 (bytes : List ℕ) (v : CapturedValue) : Type 0 where
-  whole : IsDatagram4 bytes v.datagram → v.extent ≡ extent.Whole → IsCaptured4 bytes v
+  whole : IsDatagram4 bytes v.datagram → v.extent ≡ Extent.Whole → IsCaptured4 bytes v
   cut : (missing : ℕ) → HasHeader4 bytes → length bytes + missing ≡ ipv4.total_len_in bytes → missing ≢ 0
-      → IsOpen4 bytes v.datagram → v.extent ≡ extent.Cut missing → IsCaptured4 bytes v
-  unstated : HasUnstated4 bytes → IsOpen4 bytes v.datagram → v.extent ≡ extent.Unstated → IsCaptured4 bytes v
+      → IsOpen4 bytes v.datagram → v.extent ≡ Extent.Cut missing → IsCaptured4 bytes v
+  unstated : HasUnstated4 bytes → IsOpen4 bytes v.datagram → v.extent ≡ Extent.Unstated → IsCaptured4 bytes v
 
 -- the header of a datagram that is cut, or of one that states no length
 abbrev pub IsOpening4 : List ℕ → Type 0
@@ -49,17 +44,17 @@ IsOpening4 bytes = (HasHeader4 bytes × (length bytes < ipv4.total_len_in bytes)
 
 -- the refusal of such bytes otherwise: the header itself, with its options, is cut, or they are a fragment
 abbrev pub RefusesOpen4 : List ℕ → Refusal → Type 0
-RefusesOpen4 bytes (Cut head) =
+RefusesOpen4 bytes (Refusal.Cut head) =
     IsOpening4 bytes × (length bytes < ipv4.header_len_in bytes) × IsHead4 bytes head
-RefusesOpen4 bytes (Fragment head) =
+RefusesOpen4 bytes (Refusal.Fragment head) =
     IsOpening4 bytes × (ipv4.header_len_in bytes ≤ length bytes) × IsFragment4 bytes × IsHead4 bytes head
 RefusesOpen4 bytes _ = ⊥
 
 -- the refusal of other bytes: as for a whole datagram, except where the bytes end too early or state no length
 abbrev pub RefusesCaptured4 : List ℕ → Refusal → Type 0
-RefusesCaptured4 bytes (TotalLen n) = Refuses4 bytes (TotalLen n) × (n ≢ 0)
-RefusesCaptured4 bytes (Cut head) = RefusesOpen4 bytes (Cut head)
-RefusesCaptured4 bytes (Fragment head) = Refuses4 bytes (Fragment head) ⊎ RefusesOpen4 bytes (Fragment head)
+RefusesCaptured4 bytes (Refusal.TotalLen n) = Refuses4 bytes (Refusal.TotalLen n) × (n ≢ 0)
+RefusesCaptured4 bytes (Refusal.Cut head) = RefusesOpen4 bytes (Refusal.Cut head)
+RefusesCaptured4 bytes (Refusal.Fragment head) = Refuses4 bytes (Refusal.Fragment head) ⊎ RefusesOpen4 bytes (Refusal.Fragment head)
 RefusesCaptured4 bytes refusal = Refuses4 bytes refusal
 
 -- ---- IPv6
@@ -67,17 +62,17 @@ RefusesCaptured4 bytes refusal = Refuses4 bytes refusal
 -- The grammar: a whole datagram, or one that lacks some bytes at its end, by its own length, with the headers that
 -- extend IPv6 in what is there.
 pub data IsCaptured6 (bytes : List ℕ) (v : CapturedValue) : Type 0 where
-  whole : IsDatagram6 bytes v.datagram → v.extent ≡ extent.Whole → IsCaptured6 bytes v
+  whole : IsDatagram6 bytes v.datagram → v.extent ≡ Extent.Whole → IsCaptured6 bytes v
   cut : (missing : ℕ) → HasHeader6 bytes → length bytes + missing ≡ total_len6 bytes → missing ≢ 0
-      → IsHeaded6 bytes (drop 40 bytes) v.datagram → v.extent ≡ extent.Cut missing → IsCaptured6 bytes v
+      → IsHeaded6 bytes (drop 40 bytes) v.datagram → v.extent ≡ Extent.Cut missing → IsCaptured6 bytes v
 
 -- the refusal of other bytes: as for a whole datagram, except where the bytes end too early
 abbrev pub RefusesCaptured6 : List ℕ → Refusal → Type 0
-RefusesCaptured6 bytes (Cut head) =
+RefusesCaptured6 bytes (Refusal.Cut head) =
     HasHeader6 bytes × (length bytes < total_len6 bytes) × IsHead6 bytes head
-    × ((p : IpProtocol) × RefusesBehind6 bytes (drop 40 bytes) (Extension p))
-RefusesCaptured6 bytes (Fragment head) =
-    Refuses6 bytes (Fragment head)
+    × ((p : IpProtocol) × RefusesBehind6 bytes (drop 40 bytes) (Refusal.Extension p))
+RefusesCaptured6 bytes (Refusal.Fragment head) =
+    Refuses6 bytes (Refusal.Fragment head)
     ⊎ (HasHeader6 bytes × (length bytes < total_len6 bytes)
-    × RefusesBehind6 bytes (drop 40 bytes) (Fragment head))
+    × RefusesBehind6 bytes (drop 40 bytes) (Refusal.Fragment head))
 RefusesCaptured6 bytes refusal = Refuses6 bytes refusal

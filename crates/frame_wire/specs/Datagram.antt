@@ -1,23 +1,16 @@
 -- Datagrams of IPv4 (RFC 791 section 3.1), and of IPv6 with the headers that extend it (RFC 8200 sections 3 and 4).
-use Rattle.std.specs.Prelude.{◌≡◌, ◌≢◌, ℕ, ◌+◌, ◌-◌, ◌*◌, ◌<◌, ◌≤◌, ◌⊎◌, ◌==◌, ◌||◌, nat_le, if◌then◌else◌}
-use Rattle.std.specs.Prelude.{List, length, drop, slice_index, Option, None, Some, ◌↔◌, ◌/◌, ◌%◌, false, IsTrue}
+use Rattle.std.specs.Prelude.{◌≡◌, ◌≢◌, ◌+◌, ◌-◌, ◌*◌, ◌<◌, ◌≤◌, ◌⊎◌, ◌==◌, ◌||◌, ◌↔◌, ◌/◌, ◌%◌, IsTrue, List, None}
+use Rattle.std.specs.Prelude.{Option, Some, ℕ, drop, false, if◌then◌else◌, length, nat_le, slice_index}
+use Rattle.frame_wire.specs.Words.{Addresses, Head, IpProtocol, Refusal, bytes_of, field, number_of, part}
 use Rattle.std.specs.Option.{option_map}
-use Rattle.wirebase.specs.Bytes.{field, part, byte_of, bytes_of, number_of}
+use Rattle.wirebase.specs.Bytes.{byte_of}
 use Rattle.wirebase.specs.Ip.{protocol_of}
 use Rattle.wirebase.specs.Ipv4 as ipv4
 use Rattle.wirebase.specs.Ipv6 as ipv6
 use Rattle.wirebase.specs.Ipv6Address.{octets_of}
-use Rattle.wirebase.specs.declared.ip.IpProtocol.{IpProtocol}
-use Rattle.wirebase.specs.declared.ip.IpProtocol.TheVariants.{HopByHop, Ipv6Route, Ipv6Opts, Ipv6Frag}
 use Rattle.wirebase.specs.declared.ipv4.Ipv4Address.{Ipv4Address}
 use Rattle.wirebase.specs.declared.ipv6.address.Ipv6Address.{Ipv6Address}
-use Rattle.frame_wire.specs.declared.datagram.Addresses.{Addresses}
-use Rattle.frame_wire.specs.declared.datagram.Addresses.TheVariants.{V4, V6}
 use Rattle.frame_wire.specs.declared.datagram.Datagram.{Datagram}
-use Rattle.frame_wire.specs.declared.datagram.Head.{Head}
-use Rattle.frame_wire.specs.declared.datagram.Refusal.{Refusal}
-use Rattle.frame_wire.specs.declared.datagram.Refusal.TheVariants.{Short, Version, HeaderLen, TotalLen, Cut, Extension}
-use Rattle.frame_wire.specs.declared.datagram.Refusal.TheVariants.{Jumbogram, Fragment}
 
 -- a datagram by its content
 pub record DatagramValue : Type 0 where
@@ -55,7 +48,7 @@ pub record IsHeaded4 (bytes : List ℕ) (v : DatagramValue) : Type 0 where
   pub destination : Ipv4Address
   pub source_is : ipv4.octets_of source ≡ bytes_of ipv4.src_addr_field bytes
   pub destination_is : ipv4.octets_of destination ≡ bytes_of ipv4.dst_addr_field bytes
-  pub addresses : v.addresses ≡ V4 source destination
+  pub addresses : v.addresses ≡ Addresses.V4 source destination
   pub protocol : v.protocol ≡ protocol_of (byte_of ipv4.protocol_field bytes)
   pub hop_limit : v.hop_limit ≡ byte_of ipv4.time_to_live_field bytes
   pub hop_by_hop : v.hop_by_hop ≡ None
@@ -74,7 +67,7 @@ pub record IsHead4 (bytes : List ℕ) (h : Head) : Type 0 where
   pub destination : Ipv4Address
   pub source_is : ipv4.octets_of source ≡ bytes_of ipv4.src_addr_field bytes
   pub destination_is : ipv4.octets_of destination ≡ bytes_of ipv4.dst_addr_field bytes
-  pub addresses : h.addresses ≡ V4 source destination
+  pub addresses : h.addresses ≡ Addresses.V4 source destination
   pub protocol : h.protocol ≡ protocol_of (byte_of ipv4.protocol_field bytes)
   pub ident : h.ident ≡ Some (number_of ipv4.ident_field bytes)
   pub frag_offset : h.frag_offset ≡ ipv4.frag_offset_in bytes
@@ -82,24 +75,24 @@ pub record IsHead4 (bytes : List ℕ) (h : Head) : Type 0 where
 
 -- the refusal of other bytes: the check that fails first
 abbrev pub Refuses4 : List ℕ → Refusal → Type 0
-Refuses4 bytes Short = length bytes < 20
-Refuses4 bytes (Version n) = (20 ≤ length bytes) × (ipv4.version_in bytes ≡ n) × (n ≢ 4)
-Refuses4 bytes (HeaderLen n) =
+Refuses4 bytes Refusal.Short = length bytes < 20
+Refuses4 bytes (Refusal.Version n) = (20 ≤ length bytes) × (ipv4.version_in bytes ≡ n) × (n ≢ 4)
+Refuses4 bytes (Refusal.HeaderLen n) =
     (20 ≤ length bytes) × (ipv4.version_in bytes ≡ 4) × (ipv4.header_len_in bytes ≡ n) × (n < 20)
-Refuses4 bytes (TotalLen n) =
+Refuses4 bytes (Refusal.TotalLen n) =
     (20 ≤ length bytes) × (ipv4.version_in bytes ≡ 4) × (20 ≤ ipv4.header_len_in bytes)
     × (ipv4.total_len_in bytes ≡ n) × (n < ipv4.header_len_in bytes)
-Refuses4 bytes (Cut head) = HasHeader4 bytes × (length bytes < ipv4.total_len_in bytes) × IsHead4 bytes head
-Refuses4 bytes (Fragment head) =
+Refuses4 bytes (Refusal.Cut head) = HasHeader4 bytes × (length bytes < ipv4.total_len_in bytes) × IsHead4 bytes head
+Refuses4 bytes (Refusal.Fragment head) =
     HasHeader4 bytes × (ipv4.total_len_in bytes ≤ length bytes) × IsFragment4 bytes × IsHead4 bytes head
-Refuses4 bytes Jumbogram = ⊥
-Refuses4 bytes (Extension p) = ⊥
+Refuses4 bytes Refusal.Jumbogram = ⊥
+Refuses4 bytes (Refusal.Extension p) = ⊥
 
 -- ---- the headers that extend IPv6
 
 -- those that are passed: hop-by-hop and destination options, and routing headers
 abbrev pub IsExtension : IpProtocol → Type 0
-IsExtension p = (p ≡ HopByHop) ⊎ (p ≡ Ipv6Route) ⊎ (p ≡ Ipv6Opts)
+IsExtension p = (p ≡ IpProtocol.HopByHop) ⊎ (p ≡ IpProtocol.Ipv6Route) ⊎ (p ≡ IpProtocol.Ipv6Opts)
 
 -- the end of a header: its length counts eight bytes each, without the first eight
 abbrev pub extension_end : List ℕ → ℕ
@@ -120,16 +113,16 @@ pub record HasAtomic (bytes : List ℕ) : Type 0 where
 
 -- a header that is passed
 abbrev pub IsPassed : IpProtocol → List ℕ → Type 0
-IsPassed p bytes = IsExtension p ⊎ ((p ≡ Ipv6Frag) × HasAtomic bytes)
+IsPassed p bytes = IsExtension p ⊎ ((p ≡ IpProtocol.Ipv6Frag) × HasAtomic bytes)
 
 -- the end of a header
 pub data EndsAt (p : IpProtocol) (bytes : List ℕ) (end : ℕ) : Type 0 where
   extension : IsExtension p → HasExtension bytes → end ≡ extension_end bytes → EndsAt p bytes end
-  atomic : p ≡ Ipv6Frag → HasAtomic bytes → end ≡ 8 → EndsAt p bytes end
+  atomic : p ≡ IpProtocol.Ipv6Frag → HasAtomic bytes → end ≡ 8 → EndsAt p bytes end
 
 -- the options of a hop-by-hop header, after its first two bytes (RFC 8200 section 4.3); other headers have none
 abbrev pub options_of : IpProtocol → List ℕ → Option (List ℕ)
-options_of HopByHop header = Some (part header 2 (extension_end header))
+options_of IpProtocol.HopByHop header = Some (part header 2 (extension_end header))
 options_of _ header = None
 
 -- Where a routing header leads that still has segments left: to the last address of types 0 and 2 (RFC 2460
@@ -145,8 +138,8 @@ routed header destination =
 
 -- the destination after a header
 pub data Routes (p : IpProtocol) (header destination next : List ℕ) : Type 0 where
-  by_route : p ≡ Ipv6Route → next ≡ routed header destination → Routes p header destination next
-  by_options : p ≢ Ipv6Route → next ≡ destination → Routes p header destination next
+  by_route : p ≡ IpProtocol.Ipv6Route → next ≡ routed header destination → Routes p header destination next
+  by_options : p ≢ IpProtocol.Ipv6Route → next ≡ destination → Routes p header destination next
 
 -- A protocol and the bytes after it lead past some headers to a protocol, with these bytes and this destination.
 pub data Passes : IpProtocol → List ℕ → List ℕ → IpProtocol → List ℕ → List ℕ → Type 0 where
@@ -159,7 +152,7 @@ pub data Passes : IpProtocol → List ℕ → List ℕ → IpProtocol → List �
 
 -- a header that is not whole: one of those that are passed, or that of a fragment, which has eight bytes
 abbrev pub IsTornHeader : IpProtocol → List ℕ → Type 0
-IsTornHeader p bytes = (IsExtension p × (HasExtension bytes → ⊥)) ⊎ ((p ≡ Ipv6Frag) × (length bytes < 8))
+IsTornHeader p bytes = (IsExtension p × (HasExtension bytes → ⊥)) ⊎ ((p ≡ IpProtocol.Ipv6Frag) × (length bytes < 8))
 
 -- ---- IPv6
 
@@ -186,13 +179,13 @@ pub record IsHeaded6 (bytes behind : List ℕ) (v : DatagramValue) : Type 0 wher
   pub source : Ipv6Address
   pub destination : Ipv6Address
   pub source_is : octets_of source ≡ bytes_of ipv6.src_addr_field bytes
-  pub addresses : v.addresses ≡ V6 source destination
+  pub addresses : v.addresses ≡ Addresses.V6 source destination
   pub hop_limit : v.hop_limit ≡ byte_of ipv6.hop_limit_field bytes
   pub hop_by_hop : v.hop_by_hop ≡ options_of (next_header_in bytes) behind
   pub passes : Passes (next_header_in bytes) behind (bytes_of ipv6.dst_addr_field bytes) v.protocol v.payload
       (octets_of destination)
   pub passed : IsExtension v.protocol → ⊥
-  pub unfragmented : v.protocol ≢ Ipv6Frag
+  pub unfragmented : v.protocol ≢ IpProtocol.Ipv6Frag
 
 -- The grammar: the bytes begin with a whole datagram by its own length, and what follows it is ignored.
 pub record IsDatagram6 (bytes : List ℕ) (v : DatagramValue) : Type 0 where
@@ -206,7 +199,7 @@ pub record IsHead6 (bytes : List ℕ) (h : Head) : Type 0 where
   pub destination : Ipv6Address
   pub source_is : octets_of source ≡ bytes_of ipv6.src_addr_field bytes
   pub destination_is : octets_of destination ≡ bytes_of ipv6.dst_addr_field bytes
-  pub addresses : h.addresses ≡ V6 source destination
+  pub addresses : h.addresses ≡ Addresses.V6 source destination
   pub protocol : h.protocol ≡ next_header_in bytes
   pub ident : h.ident ≡ None
   pub frag_offset : h.frag_offset ≡ 0
@@ -219,12 +212,12 @@ pub record IsFragment6 (bytes behind : List ℕ) (h : Head) : Type 0 where
   pub source : Ipv6Address
   pub destination : Ipv6Address
   pub header : List ℕ
-  pub passes : Passes (next_header_in bytes) behind (bytes_of ipv6.dst_addr_field bytes) Ipv6Frag header
+  pub passes : Passes (next_header_in bytes) behind (bytes_of ipv6.dst_addr_field bytes) IpProtocol.Ipv6Frag header
       (octets_of destination)
   pub whole : 8 ≤ length header
   pub no_atomic : HasAtomic header → ⊥
   pub source_is : octets_of source ≡ bytes_of ipv6.src_addr_field bytes
-  pub addresses : h.addresses ≡ V6 source destination
+  pub addresses : h.addresses ≡ Addresses.V6 source destination
   pub protocol : h.protocol ≡ protocol_of (slice_index header 0)
   pub ident : h.ident ≡ Some (number_of (field 4 8) header)
   pub frag_offset : h.frag_offset ≡ 8 * (number_of (field 2 4) header / 8)
@@ -241,21 +234,21 @@ pub record LeadsToTorn (p : IpProtocol) (bytes destination : List ℕ) (q : IpPr
 -- its place. A header takes bytes, so that no other datagram has this length before one.
 pub record IsJumbogram (bytes : List ℕ) : Type 0 where
   pub uncounted : ipv6.payload_len_in bytes ≡ 0
-  pub header : next_header_in bytes ≡ HopByHop
+  pub header : next_header_in bytes ≡ IpProtocol.HopByHop
 
 -- the refusal by the bytes after a fixed header, where they lead to no payload
 abbrev pub RefusesBehind6 : List ℕ → List ℕ → Refusal → Type 0
-RefusesBehind6 bytes behind Jumbogram = IsJumbogram bytes
-RefusesBehind6 bytes behind (Extension p) =
+RefusesBehind6 bytes behind Refusal.Jumbogram = IsJumbogram bytes
+RefusesBehind6 bytes behind (Refusal.Extension p) =
     (IsJumbogram bytes → ⊥)
     × LeadsToTorn (next_header_in bytes) behind (bytes_of ipv6.dst_addr_field bytes) p
-RefusesBehind6 bytes behind (Fragment head) = IsFragment6 bytes behind head
+RefusesBehind6 bytes behind (Refusal.Fragment head) = IsFragment6 bytes behind head
 RefusesBehind6 bytes behind _ = ⊥
 
 -- the refusal of other bytes: the check that fails first
 abbrev pub Refuses6 : List ℕ → Refusal → Type 0
-Refuses6 bytes Short = length bytes < 40
-Refuses6 bytes (Version n) = (40 ≤ length bytes) × (ipv6.version_in bytes ≡ n) × (n ≢ 6)
-Refuses6 bytes (Cut head) = HasHeader6 bytes × (length bytes < total_len6 bytes) × IsHead6 bytes head
+Refuses6 bytes Refusal.Short = length bytes < 40
+Refuses6 bytes (Refusal.Version n) = (40 ≤ length bytes) × (ipv6.version_in bytes ≡ n) × (n ≢ 6)
+Refuses6 bytes (Refusal.Cut head) = HasHeader6 bytes × (length bytes < total_len6 bytes) × IsHead6 bytes head
 Refuses6 bytes refusal =
     HasHeader6 bytes × (total_len6 bytes ≤ length bytes) × RefusesBehind6 bytes (behind6 bytes) refusal

@@ -1,25 +1,16 @@
 -- What datagrams, their parts and their refusals print.
-use Rattle.std.specs.Prelude.{ℕ, Bool, if◌then◌else◌, List, [], ◌∷◌, codes, decimal, length, Option, None, Some}
-use Rattle.wirebase.specs.Display.{pieces}
+use Rattle.std.specs.Prelude.{[], ◌∷◌, List, None, Option, Some, ℕ, codes, decimal, length}
+use Rattle.frame_wire.specs.Words.{Addresses, Extent, Head, Refusal, pieces}
+use Rattle.wirebase.specs.Display.{truth_text}
 use Rattle.wirebase.specs.Ip.{protocol_display}
 use Rattle.wirebase.specs.Ipv4.{address_text as address_text_v4}
 use Rattle.wirebase.specs.Ipv6Address.{address_text}
 use Rattle.frame_wire.specs.Captured.{CapturedValue}
 use Rattle.frame_wire.specs.Datagram.{DatagramValue}
-use Rattle.frame_wire.specs.declared.datagram.Addresses.{Addresses}
-use Rattle.frame_wire.specs.declared.datagram.Addresses.TheVariants.{V4, V6}
-use Rattle.frame_wire.specs.declared.datagram.Head.{Head}
-use Rattle.frame_wire.specs.declared.datagram.Refusal.{Refusal}
-use Rattle.frame_wire.specs.declared.datagram.Refusal.TheVariants as refusal
-use Rattle.frame_wire.specs.declared.datagram.captured.Extent.{Extent}
-use Rattle.frame_wire.specs.declared.datagram.captured.Extent.TheVariants as extent
 
 abbrev pub addresses_display : Addresses → List ℕ
-addresses_display (V4 src dst) = pieces (address_text_v4 src ∷ codes " > " ∷ address_text_v4 dst ∷ [])
-addresses_display (V6 src dst) = pieces (address_text src ∷ codes " > " ∷ address_text dst ∷ [])
-
-abbrev truth_text : Bool → List ℕ
-truth_text is = if is then codes "true" else codes "false"
+addresses_display (Addresses.V4 src dst) = pieces (address_text_v4 src ∷ codes " > " ∷ address_text_v4 dst ∷ [])
+addresses_display (Addresses.V6 src dst) = pieces (address_text src ∷ codes " > " ∷ address_text dst ∷ [])
 
 -- what is known of a datagram that is not read, with its place among the fragments where it has an identification
 abbrev head_by : Head → Option ℕ → List ℕ
@@ -35,17 +26,17 @@ abbrev pub head_display : Head → List ℕ
 head_display h = head_by h h.ident
 
 abbrev pub refusal_display : Refusal → List ℕ
-refusal_display refusal.Short = codes "fewer bytes than the fixed header has"
-refusal_display (refusal.Version n) = pieces (codes "version " ∷ decimal n ∷ codes " is not read" ∷ [])
-refusal_display (refusal.HeaderLen n) =
+refusal_display Refusal.Short = codes "fewer bytes than the fixed header has"
+refusal_display (Refusal.Version n) = pieces (codes "version " ∷ decimal n ∷ codes " is not read" ∷ [])
+refusal_display (Refusal.HeaderLen n) =
     pieces (codes "a header length of " ∷ decimal n ∷ codes " is below 20" ∷ [])
-refusal_display (refusal.TotalLen n) =
+refusal_display (Refusal.TotalLen n) =
     pieces (codes "a total length of " ∷ decimal n ∷ codes " is below that of the header" ∷ [])
-refusal_display (refusal.Cut head) = pieces (codes "cut short, " ∷ head_display head ∷ [])
-refusal_display refusal.Jumbogram = codes "a jumbogram is not read"
-refusal_display (refusal.Extension p) =
+refusal_display (Refusal.Cut head) = pieces (codes "cut short, " ∷ head_display head ∷ [])
+refusal_display Refusal.Jumbogram = codes "a jumbogram is not read"
+refusal_display (Refusal.Extension p) =
     pieces (codes "the extension header " ∷ protocol_display p ∷ codes " is cut short" ∷ [])
-refusal_display (refusal.Fragment head) = pieces (codes "a fragment, " ∷ head_display head ∷ [])
+refusal_display (Refusal.Fragment head) = pieces (codes "a fragment, " ∷ head_display head ∷ [])
 
 abbrev pub datagram_display : DatagramValue → List ℕ
 datagram_display d =
@@ -55,9 +46,9 @@ datagram_display d =
 
 -- how much of a datagram is there
 abbrev pub extent_display : Extent → List ℕ
-extent_display extent.Whole = codes "whole"
-extent_display (extent.Cut missing) = pieces (codes "cut missing=" ∷ decimal missing ∷ [])
-extent_display extent.Unstated = codes "of no stated length"
+extent_display Extent.Whole = codes "whole"
+extent_display (Extent.Cut missing) = pieces (codes "cut missing=" ∷ decimal missing ∷ [])
+extent_display Extent.Unstated = codes "of no stated length"
 
 abbrev pub captured_display : CapturedValue → List ℕ
 captured_display c = pieces (datagram_display c.datagram ∷ codes " " ∷ extent_display c.extent ∷ [])

@@ -11,3 +11,4 @@ pub mod Udp
 pub mod UdpCaptured
 pub mod UdpRefusal
 pub mod UdpText
+pub mod Words

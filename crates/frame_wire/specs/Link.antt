@@ -1,14 +1,9 @@
 -- Frames of links: what their headers say of the network, VLAN tags, and the bytes after them.
-use Rattle.std.specs.Prelude.{◌≡◌, ◌≢◌, ℕ, ◌+◌, ◌*◌, ◌/◌, ◌%◌, ◌≤◌, ◌⊎◌, List, [], ◌∷◌, ◌++◌, length, take, drop}
-use Rattle.std.specs.Prelude.{slice_index}
-use Rattle.std.specs.Prelude.{nat_lt, if◌then◌else◌, Option, None, Some}
+use Rattle.std.specs.Prelude.{◌≡◌, ◌≢◌, ◌+◌, ◌*◌, ◌/◌, ◌%◌, ◌≤◌, ◌⊎◌, [], ◌∷◌, ◌++◌, List, None, Option, Some, ℕ, drop}
+use Rattle.std.specs.Prelude.{if◌then◌else◌, length, nat_lt, slice_index, take}
+use Rattle.frame_wire.specs.Words.{Link, Network, field, number_of, part}
 use Rattle.byteorder.specs.Endian.{little_number}
-use Rattle.wirebase.specs.Bytes.{field, part, number_of}
 use Rattle.frame_wire.specs.declared.link.Frame.{Frame}
-use Rattle.frame_wire.specs.declared.link.Link.{Link}
-use Rattle.frame_wire.specs.declared.link.Link.TheVariants.{Null, Ethernet, Ppp, PppEther, Raw, LinuxSll, LinuxSll2}
-use Rattle.frame_wire.specs.declared.link.Network.{Network}
-use Rattle.frame_wire.specs.declared.link.Network.TheVariants.{Ipv4, Ipv6, Other}
 use Rattle.frame_wire.specs.declared.link.Typed.{Typed}
 use Rattle.wirebase.specs.Numbered.{case_in}
 
@@ -28,7 +23,7 @@ frame network tags payload = record { network = network; tags = tags; payload = 
 
 -- the network of an EtherType
 abbrev pub network_of_type : ℕ → Network
-network_of_type n = case_in Other ((Ipv4, 0x0800) ∷ (Ipv6, 0x86dd) ∷ []) n
+network_of_type n = case_in Network.Other ((Network.Ipv4, 0x0800) ∷ (Network.Ipv6, 0x86dd) ∷ []) n
 
 -- the types of a VLAN tag: of a customer, and of a service (IEEE 802.1Q clause 9.6)
 abbrev pub IsTagType : ℕ → Type 0
@@ -56,7 +51,7 @@ typed_of t = record { type = t.kind; tags = t.tags.now; payload = t.payload.now 
 
 -- the network of a protocol
 abbrev pub network_of_protocol : ℕ → Network
-network_of_protocol n = case_in Other ((Ipv4, 0x0021) ∷ (Ipv6, 0x0057) ∷ []) n
+network_of_protocol n = case_in Network.Other ((Network.Ipv4, 0x0021) ∷ (Network.Ipv6, 0x0057) ∷ []) n
 
 -- A protocol takes one byte where that is odd, and else two (RFC 1661 section 6.5).
 pub data IsProtocol (bytes : List ℕ) (tags : List ℕ) (v : FrameValue) : Type 0 where
@@ -96,11 +91,11 @@ pub record IsTypedFrame (type : ℕ) (bytes : List ℕ) (v : FrameValue) : Type 
 
 -- the network of the version in the upper half of the first byte
 abbrev pub network_of_version : ℕ → Network
-network_of_version n = case_in Other ((Ipv4, 4) ∷ (Ipv6, 6) ∷ []) n
+network_of_version n = case_in Network.Other ((Network.Ipv4, 4) ∷ (Network.Ipv6, 6) ∷ []) n
 
 -- the network of an address family: those of Linux, NetBSD, FreeBSD and Darwin
 abbrev pub network_of_family : ℕ → Network
-network_of_family n = case_in Other ((Ipv4, 2) ∷ (Ipv6, 10) ∷ (Ipv6, 24) ∷ (Ipv6, 28) ∷ (Ipv6, 30) ∷ []) n
+network_of_family n = case_in Network.Other ((Network.Ipv4, 2) ∷ (Network.Ipv6, 10) ∷ (Network.Ipv6, 24) ∷ (Network.Ipv6, 28) ∷ (Network.Ipv6, 30) ∷ []) n
 
 -- the bytes are a datagram of IP of either version
 pub record IsRaw (bytes : List ℕ) (v : FrameValue) : Type 0 where
@@ -124,20 +119,20 @@ pub record IsFamily (bytes : List ℕ) (v : FrameValue) : Type 0 where
 abbrev pub link_of : ℕ → Option Link
 link_of n =
     case_in (λ _. None)
-    ((Some Null, 0) ∷ (Some Ethernet, 1) ∷ (Some Ppp, 9) ∷ (Some Raw, 12)
-    ∷ (Some Raw, 14) ∷ (Some Ppp, 50) ∷ (Some PppEther, 51) ∷ (Some Raw, 101)
-    ∷ (Some Null, 108) ∷ (Some LinuxSll, 113) ∷ (Some Raw, 228) ∷ (Some Raw, 229)
-    ∷ (Some LinuxSll2, 276) ∷ []) n
+    ((Some Link.Null, 0) ∷ (Some Link.Ethernet, 1) ∷ (Some Link.Ppp, 9) ∷ (Some Link.Raw, 12)
+    ∷ (Some Link.Raw, 14) ∷ (Some Link.Ppp, 50) ∷ (Some Link.PppEther, 51) ∷ (Some Link.Raw, 101)
+    ∷ (Some Link.Null, 108) ∷ (Some Link.LinuxSll, 113) ∷ (Some Link.Raw, 228) ∷ (Some Link.Raw, 229)
+    ∷ (Some Link.LinuxSll2, 276) ∷ []) n
 
 -- The grammar of a frame, by its link.
 abbrev pub IsFrame : Link → List ℕ → FrameValue → Type 0
-IsFrame Null bytes v = IsFamily bytes v
-IsFrame Ethernet bytes v = (14 ≤ length bytes) × IsTypedFrame (number_of (field 12 14) bytes) (drop 14 bytes) v
-IsFrame Ppp bytes v = IsPpp bytes v
-IsFrame PppEther bytes v = IsSession bytes × IsProtocol (drop 6 bytes) [] v
-IsFrame Raw bytes v = IsRaw bytes v
-IsFrame LinuxSll bytes v = (16 ≤ length bytes) × IsTypedFrame (number_of (field 14 16) bytes) (drop 16 bytes) v
-IsFrame LinuxSll2 bytes v = (20 ≤ length bytes) × IsTypedFrame (number_of (field 0 2) bytes) (drop 20 bytes) v
+IsFrame Link.Null bytes v = IsFamily bytes v
+IsFrame Link.Ethernet bytes v = (14 ≤ length bytes) × IsTypedFrame (number_of (field 12 14) bytes) (drop 14 bytes) v
+IsFrame Link.Ppp bytes v = IsPpp bytes v
+IsFrame Link.PppEther bytes v = IsSession bytes × IsProtocol (drop 6 bytes) [] v
+IsFrame Link.Raw bytes v = IsRaw bytes v
+IsFrame Link.LinuxSll bytes v = (16 ≤ length bytes) × IsTypedFrame (number_of (field 14 16) bytes) (drop 16 bytes) v
+IsFrame Link.LinuxSll2 bytes v = (20 ≤ length bytes) × IsTypedFrame (number_of (field 0 2) bytes) (drop 20 bytes) v
 
 -- the number of the VLAN of a tag, and whether there is one at a place
 abbrev pub vlan_in : List ℕ → ℕ → ℕ

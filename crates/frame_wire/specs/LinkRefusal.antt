@@ -1,12 +1,8 @@
 -- Why octets are no frame of a link: the check that fails first.
-use Rattle.std.specs.Prelude.{◌≡◌, ◌≢◌, ℕ, ◌+◌, ◌/◌, ◌%◌, ◌<◌, ◌≤◌, ◌⊎◌, List, length, drop, slice_index}
-use Rattle.wirebase.specs.Bytes.{field, number_of}
+use Rattle.std.specs.Prelude.{◌≡◌, ◌≢◌, ◌+◌, ◌/◌, ◌%◌, ◌<◌, ◌≤◌, ◌⊎◌, List, ℕ, drop, length, slice_index}
+use Rattle.frame_wire.specs.Words.{Link, field, number_of}
 use Rattle.frame_wire.specs.Link.{FrameValue, TypedValue, IsTagType, IsTagged, HasAddress, IsSession, IsFrame}
-use Rattle.frame_wire.specs.declared.link.Link.{Link}
-use Rattle.frame_wire.specs.declared.link.Link.TheVariants.{Null, Ethernet, Ppp, PppEther, Raw, LinuxSll, LinuxSll2}
 use Rattle.frame_wire.specs.declared.link.refusal.Refusal.{Refusal}
-use Rattle.frame_wire.specs.declared.link.refusal.Refusal.TheVariants.{Short, Tag, Protocol, SessionVersion}
-use Rattle.frame_wire.specs.declared.link.refusal.Refusal.TheVariants.{SessionType, SessionCode}
 
 -- the bytes are a frame of a link
 abbrev pub IsRead : Link → List ℕ → Type 0
@@ -28,10 +24,10 @@ IsSessionCut type bytes = (type ≡ 0x8864) × IsSession bytes × IsProtocolCut 
 
 -- of a frame whose EtherType is at a place and whose payload begins at another
 abbrev pub RefusesTyped : ℕ → ℕ → List ℕ → Refusal → Type 0
-RefusesTyped place start bytes Short = length bytes < start
-RefusesTyped place start bytes Tag =
+RefusesTyped place start bytes Refusal.Short = length bytes < start
+RefusesTyped place start bytes Refusal.Tag =
     (start ≤ length bytes) × IsTagCut (number_of (field place (place + 2)) bytes) (drop start bytes)
-RefusesTyped place start bytes Protocol =
+RefusesTyped place start bytes Refusal.Protocol =
     (start ≤ length bytes) × ((t : TypedValue)
     × IsTagged (number_of (field place (place + 2)) bytes) (drop start bytes) t.tags t.type t.payload
     × IsSessionCut t.type t.payload)
@@ -39,7 +35,7 @@ RefusesTyped place start bytes _ = ⊥
 
 -- of a frame of PPP, after its address and control bytes or without them
 abbrev pub RefusesPpp : List ℕ → Refusal → Type 0
-RefusesPpp bytes Protocol =
+RefusesPpp bytes Refusal.Protocol =
     (HasAddress bytes × IsProtocolCut (drop 2 bytes)) ⊎ ((HasAddress bytes → ⊥) × IsProtocolCut bytes)
 RefusesPpp bytes _ = ⊥
 
@@ -48,26 +44,26 @@ abbrev pub session_word : List ℕ → ℕ
 session_word bytes = number_of (field 0 2) bytes
 
 abbrev pub RefusesSession : List ℕ → Refusal → Type 0
-RefusesSession bytes Short = length bytes < 6
-RefusesSession bytes (SessionVersion n) = (6 ≤ length bytes) × (session_word bytes / 0x1000 ≡ n) × (n ≢ 1)
-RefusesSession bytes (SessionType n) =
+RefusesSession bytes Refusal.Short = length bytes < 6
+RefusesSession bytes (Refusal.SessionVersion n) = (6 ≤ length bytes) × (session_word bytes / 0x1000 ≡ n) × (n ≢ 1)
+RefusesSession bytes (Refusal.SessionType n) =
     (6 ≤ length bytes) × (session_word bytes / 0x1000 ≡ 1) × (session_word bytes / 0x100 % 0x10 ≡ n) × (n ≢ 1)
-RefusesSession bytes (SessionCode n) =
+RefusesSession bytes (Refusal.SessionCode n) =
     (6 ≤ length bytes) × (session_word bytes / 0x100 ≡ 0x11) × (session_word bytes % 0x100 ≡ n) × (n ≢ 0)
-RefusesSession bytes Protocol = IsSession bytes × IsProtocolCut (drop 6 bytes)
-RefusesSession bytes Tag = ⊥
+RefusesSession bytes Refusal.Protocol = IsSession bytes × IsProtocolCut (drop 6 bytes)
+RefusesSession bytes Refusal.Tag = ⊥
 
 -- of a frame that has a header of this many bytes and nothing that could be wrong in it
 abbrev pub RefusesPlain : ℕ → List ℕ → Refusal → Type 0
-RefusesPlain size bytes Short = length bytes < size
+RefusesPlain size bytes Refusal.Short = length bytes < size
 RefusesPlain size bytes _ = ⊥
 
 -- the refusal of other bytes, by their link
 abbrev pub Refuses : Link → List ℕ → Refusal → Type 0
-Refuses Null bytes refusal = RefusesPlain 4 bytes refusal
-Refuses Ethernet bytes refusal = RefusesTyped 12 14 bytes refusal
-Refuses Ppp bytes refusal = RefusesPpp bytes refusal
-Refuses PppEther bytes refusal = RefusesSession bytes refusal
-Refuses Raw bytes refusal = RefusesPlain 1 bytes refusal
-Refuses LinuxSll bytes refusal = RefusesTyped 14 16 bytes refusal
-Refuses LinuxSll2 bytes refusal = RefusesTyped 0 20 bytes refusal
+Refuses Link.Null bytes refusal = RefusesPlain 4 bytes refusal
+Refuses Link.Ethernet bytes refusal = RefusesTyped 12 14 bytes refusal
+Refuses Link.Ppp bytes refusal = RefusesPpp bytes refusal
+Refuses Link.PppEther bytes refusal = RefusesSession bytes refusal
+Refuses Link.Raw bytes refusal = RefusesPlain 1 bytes refusal
+Refuses Link.LinuxSll bytes refusal = RefusesTyped 14 16 bytes refusal
+Refuses Link.LinuxSll2 bytes refusal = RefusesTyped 0 20 bytes refusal

@@ -7,7 +7,7 @@
 -- +-----+-+-----------------------+
 -- | PCP |D|          VID          |
 -- +-----+-+-----------------------+
-use Rattle.std.specs.Prelude.{◌≡◌, ℕ, ◌+◌, ◌*◌, ◌/◌, ◌%◌, ◌==◌, List, [], ◌∷◌, Option, None, Some}
+use Rattle.std.specs.Prelude.{◌≡◌, ◌+◌, ◌*◌, ◌/◌, ◌%◌, ◌==◌, [], ◌∷◌, List, None, Option, Some, ℕ}
 use Rattle.frame_wire.specs.declared.link.vlans.VlanTag.{VlanTag}
 
 -- the tag of two bytes

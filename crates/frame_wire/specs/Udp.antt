@@ -9,17 +9,14 @@
 -- +-------------------------------+-------------------------------+
 -- |  data, up to the length
 -- +- - - - - - - - - - - - - - - -
-use Rattle.std.specs.Prelude.{◌≡◌, ◌≢◌, ℕ, ◌≤◌, ◌⊎◌, true, List, length}
+use Rattle.std.specs.Prelude.{◌≡◌, ◌≢◌, ◌≤◌, ◌⊎◌, List, ℕ, length, true}
+use Rattle.frame_wire.specs.Words.{Addresses, ChecksumCapabilities, IpProtocol, UdpRepr, bytes_of, field, is_verified}
+use Rattle.frame_wire.specs.Words.{number_of}
 use Rattle.std.specs.Borrow.{Bor}
-use Rattle.wirebase.specs.Bytes.{Field, field, Reaches, bytes_of, number_of}
-use Rattle.wirebase.specs.Capabilities.{is_verified}
+use Rattle.wirebase.specs.Bytes.{Field, Reaches}
 use Rattle.wirebase.specs.Checksum.{IsGood}
-use Rattle.wirebase.specs.declared.capabilities.ChecksumCapabilities.{ChecksumCapabilities}
-use Rattle.wirebase.specs.declared.ip.IpProtocol.TheVariants.{Udp}
 use Rattle.frame_wire.specs.Addresses.{IsV4, sum_before}
-use Rattle.frame_wire.specs.declared.datagram.Addresses.{Addresses}
 use Rattle.frame_wire.specs.declared.udp.UdpPacket.{UdpPacket}
-use Rattle.frame_wire.specs.declared.udp.UdpRepr.{UdpRepr}
 
 -- ---- the view
 
@@ -64,7 +61,7 @@ pub record BeginsWhole (bytes : List ℕ) : Type 0 where
 
 -- the datagram at the start of the bytes carries its checksum
 abbrev pub IsVerified : Addresses → List ℕ → Type 0
-IsVerified addresses bytes = IsGood (bytes_of (whole_field bytes) bytes) (sum_before addresses Udp (len_in bytes))
+IsVerified addresses bytes = IsGood (bytes_of (whole_field bytes) bytes) (sum_before addresses IpProtocol.Udp (len_in bytes))
 
 -- a checksum that holds and is not 0, which means that there is none (RFC 768)
 abbrev pub IsSealed : Addresses → List ℕ → Type 0

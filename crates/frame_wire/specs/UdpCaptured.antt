@@ -1,14 +1,10 @@
 -- UDP datagrams as far as they were captured: whole, or cut at their end.
-use Rattle.std.specs.Prelude.{◌≡◌, ◌≢◌, ℕ, ◌+◌, ◌≤◌, List, [], ◌∷◌, codes, decimal, length, drop}
-use Rattle.wirebase.specs.Bytes.{bytes_of, number_of}
-use Rattle.wirebase.specs.Display.{pieces}
+use Rattle.std.specs.Prelude.{◌≡◌, ◌≢◌, ◌+◌, ◌≤◌, [], ◌∷◌, List, ℕ, codes, decimal, drop, length}
+use Rattle.frame_wire.specs.Words.{Extent, bytes_of, number_of, pieces}
 use Rattle.frame_wire.specs.DatagramDisplay.{extent_display}
 use Rattle.frame_wire.specs.Udp.{BeginsWhole, src_port_field, dst_port_field, len_in, payload_field}
 use Rattle.frame_wire.specs.UdpRefusal.{RefusesLen}
-use Rattle.frame_wire.specs.declared.datagram.captured.Extent.{Extent}
-use Rattle.frame_wire.specs.declared.datagram.captured.Extent.TheVariants as extent
 use Rattle.frame_wire.specs.declared.udp.Refusal.{Refusal}
-use Rattle.frame_wire.specs.declared.udp.Refusal.TheVariants.{Short, Length}
 use Rattle.frame_wire.specs.declared.udp.captured.CapturedUdp.{CapturedUdp}
 
 -- by content
@@ -35,14 +31,14 @@ pub record HasHeader (bytes : List ℕ) : Type 0 where
 -- The grammar: a whole datagram, or one that lacks some bytes at its end, by its own length.
 pub data IsCaptured (bytes : List ℕ) (v : CapturedValue) : Type 0 where
   whole : BeginsWhole bytes → HasPorts bytes v → v.payload ≡ bytes_of (payload_field bytes) bytes
-      → v.extent ≡ extent.Whole → IsCaptured bytes v
+      → v.extent ≡ Extent.Whole → IsCaptured bytes v
   cut : (missing : ℕ) → HasHeader bytes → length bytes + missing ≡ len_in bytes → missing ≢ 0 → HasPorts bytes v
-      → v.payload ≡ drop 8 bytes → v.extent ≡ extent.Cut missing → IsCaptured bytes v
+      → v.payload ≡ drop 8 bytes → v.extent ≡ Extent.Cut missing → IsCaptured bytes v
 
 -- the refusal of other bytes: the header is cut, or its length does not count it
 abbrev pub RefusesCaptured : List ℕ → Refusal → Type 0
-RefusesCaptured bytes Short = RefusesLen bytes Short
-RefusesCaptured bytes (Length n) = RefusesLen bytes (Length n)
+RefusesCaptured bytes Refusal.Short = RefusesLen bytes Refusal.Short
+RefusesCaptured bytes (Refusal.Length n) = RefusesLen bytes (Refusal.Length n)
 RefusesCaptured bytes _ = ⊥
 
 abbrev pub captured_display : CapturedValue → List ℕ

@@ -1,18 +1,15 @@
 -- UDP datagrams as they are written, and what is read in them again (RFC 768).
-use Rattle.std.specs.Prelude.{◌≡◌, ◌≢◌, ℕ, zero, suc, ◌+◌, ◌<◌, ◌≤◌, ◌^◌, true, List, [], ◌∷◌, length, if◌then◌else◌}
+use Rattle.std.specs.Prelude.{◌≡◌, ◌≢◌, ◌+◌, ◌<◌, ◌≤◌, ◌^◌, [], ◌∷◌, List, ℕ, if◌then◌else◌, length, suc, true, zero}
+use Rattle.frame_wire.specs.Words.{Addresses, ChecksumCapabilities, IpProtocol, UdpRepr, bytes_of}
 use Rattle.byteorder.specs.Endian.{big_bytes}
-use Rattle.wirebase.specs.Bytes.{bytes_of, with_field, over}
+use Rattle.wirebase.specs.Bytes.{with_field, over}
 use Rattle.wirebase.specs.ByteWriter.{be16, fields}
 use Rattle.wirebase.specs.Capabilities.{is_computed}
 use Rattle.wirebase.specs.Checksum.{checksum_of}
 use Rattle.wirebase.specs.Format.{Format, RoundTrips}
-use Rattle.wirebase.specs.declared.capabilities.Checksum.TheVariants.{Rx}
-use Rattle.wirebase.specs.declared.capabilities.ChecksumCapabilities.{ChecksumCapabilities}
-use Rattle.wirebase.specs.declared.ip.IpProtocol.TheVariants.{Udp}
 use Rattle.frame_wire.specs.Addresses.{IsV4, sum_before}
 use Rattle.frame_wire.specs.Udp.{checksum_field, payload_field, IsDatagram, IsSealed}
-use Rattle.frame_wire.specs.declared.datagram.Addresses.{Addresses}
-use Rattle.frame_wire.specs.declared.udp.UdpRepr.{UdpRepr}
+use Rattle.wirebase.specs.declared.capabilities.Checksum.{Checksum}
 
 -- by content: the ports, and the data
 pub record UdpValue : Type 0 where
@@ -43,7 +40,7 @@ never_zero (suc n) = suc n
 -- the checksum of a datagram that is all the bytes
 abbrev pub udp_checksum : Addresses → List ℕ → ℕ
 udp_checksum addresses bytes =
-    never_zero (checksum_of checksum_field bytes (sum_before addresses Udp (length bytes)))
+    never_zero (checksum_of checksum_field bytes (sum_before addresses IpProtocol.Udp (length bytes)))
 
 -- the bytes with their checksum
 unfoldable pub sealed_datagram : Addresses → List ℕ → List ℕ
@@ -67,7 +64,7 @@ IsCanonical v =
 
 -- where the checksum is verified, it is filled in, or need not be there
 abbrev pub Fills : ChecksumCapabilities → Addresses → Type 0
-Fills capabilities addresses = capabilities.udp ≡ Rx → IsV4 addresses
+Fills capabilities addresses = capabilities.udp ≡ Checksum.Rx → IsV4 addresses
 
 -- the format; a value is its own normal form, without exception
 abbrev pub format : ChecksumCapabilities → Addresses → Format UdpValue

@@ -4,35 +4,32 @@ use Rattle.wirebase.specs.Display.{pieces}
 use Rattle.wirebase.specs.Duration.{duration_text}
 use Rattle.wirebase.specs.Ipv4.{address_text}
 use Rattle.icmp4_wire.specs.declared.igmp.repr.IgmpVersion.{IgmpVersion}
-use Rattle.icmp4_wire.specs.declared.igmp.repr.IgmpVersion.TheVariants.{Version1, Version2}
 use Rattle.icmp4_wire.specs.declared.igmp.tables.Message.{Message}
-use Rattle.icmp4_wire.specs.declared.igmp.tables.Message.TheVariants as message
 use Rattle.icmp4_wire.specs.declared.igmp.repr.Repr.{Repr}
-use Rattle.icmp4_wire.specs.declared.igmp.repr.Repr.TheVariants.{MembershipQuery, MembershipReport, LeaveGroup}
 
 -- the type of a message
 abbrev pub message_display : Message → List ℕ
-message_display message.MembershipQuery = codes "membership query"
-message_display message.MembershipReportV2 = codes "version 2 membership report"
-message_display message.LeaveGroup = codes "leave group"
-message_display message.MembershipReportV1 = codes "version 1 membership report"
-message_display (message.Unknown n) = decimal n
+message_display Message.MembershipQuery = codes "membership query"
+message_display Message.MembershipReportV2 = codes "version 2 membership report"
+message_display Message.LeaveGroup = codes "leave group"
+message_display Message.MembershipReportV1 = codes "version 1 membership report"
+message_display (Message.Unknown n) = decimal n
 
 -- a version, by its name
 abbrev pub version_display : IgmpVersion → List ℕ
-version_display Version1 = codes "Version1"
-version_display Version2 = codes "Version2"
+version_display IgmpVersion.Version1 = codes "Version1"
+version_display IgmpVersion.Version2 = codes "Version2"
 
 -- a message
 abbrev pub repr_display : Repr → List ℕ
-repr_display (MembershipQuery time group version) =
+repr_display (Repr.MembershipQuery time group version) =
     pieces (codes "IGMP membership query max_resp_time=" ∷ duration_text time
     ∷ codes " group_addr=" ∷ address_text group
     ∷ codes " version=" ∷ version_display version ∷ [])
-repr_display (MembershipReport group version) =
+repr_display (Repr.MembershipReport group version) =
     pieces (codes "IGMP membership report group_addr=" ∷ address_text group
     ∷ codes " version=" ∷ version_display version ∷ [])
-repr_display (LeaveGroup group) = pieces (codes "IGMP leave group group_addr=" ∷ address_text group ∷ [])
+repr_display (Repr.LeaveGroup group) = pieces (codes "IGMP leave group group_addr=" ∷ address_text group ∷ [])
 
 -- of octets that are refused
 abbrev pub refused_display : List ℕ

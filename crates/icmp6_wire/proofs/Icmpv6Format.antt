@@ -2,25 +2,14 @@
 use Rattle.std.proofs.Common.{◌≡◌, ℕ, ◌<◌, ◌≤◌, Bool, true, false, List, length, refl, ap}
 use Rattle.std.proofs.Common.{arith}
 use Rattle.std.proofs.lemmas.List.{length-drop}
-use Rattle.wirebase.specs.declared.capabilities.ChecksumCapabilities.{ChecksumCapabilities}
-use Rattle.wirebase.specs.declared.ipv6.address.Ipv6Address.{Ipv6Address}
-use Rattle.wirebase.specs.declared.ipv6.Ipv6Repr.{Ipv6Repr}
-use Rattle.wirebase.specs.Bytes.{IsBytes, byte_of}
-use Rattle.wirebase.specs.ByteWriter.{fields}
-use Rattle.wirebase.specs.Format.{SameText}
-use Rattle.wirebase.specs.Icmp.{code_field, data_in}
-use Rattle.wirebase.specs.Ipv6.{next_header_field, IsHeader}
+use Rattle.icmp6_wire.specs.Words.{IsBytes, byte_of, fields, SameText, code_field, data_in, next_header_field, IsHeader}
+use Rattle.icmp6_wire.specs.Words.{ChecksumCapabilities, Ipv6Address, Ipv6Repr, DstUnreachable, ParamProblem}
+use Rattle.icmp6_wire.specs.Words.{TimeExceeded}
 use Rattle.wirebase.proofs.ByteParts.{IsBytes-drop, number_of-small}
 use Rattle.wirebase.proofs.Format.{IsFormat, same_text-by}
 use Rattle.wirebase.proofs.IpProtocols.{protocol-read}
 use Rattle.wirebase.proofs.Numbered.{case-read}
 use Rattle.wirebase.proofs.WideParts.{number_of-small4}
-use Rattle.icmp6_wire.specs.declared.icmpv6.tables.DstUnreachable.{DstUnreachable}
-use Rattle.icmp6_wire.specs.declared.icmpv6.tables.DstUnreachable.TheVariants as reasons
-use Rattle.icmp6_wire.specs.declared.icmpv6.tables.ParamProblem.{ParamProblem}
-use Rattle.icmp6_wire.specs.declared.icmpv6.tables.ParamProblem.TheVariants as problems
-use Rattle.icmp6_wire.specs.declared.icmpv6.tables.TimeExceeded.{TimeExceeded}
-use Rattle.icmp6_wire.specs.declared.icmpv6.tables.TimeExceeded.TheVariants as times
 use Rattle.icmp6_wire.specs.Icmpv6Tables.{unreachable_number, unreachables}
 use Rattle.icmp6_wire.specs.Icmpv6Tables.{param_problem_number, param_problems}
 use Rattle.icmp6_wire.specs.Icmpv6Tables.{time_exceeded_number, time_exceededs}
@@ -35,15 +24,15 @@ use Rattle.icmp6_wire.proofs.Icmpv6Texts.{quoted-quoted, quoted-whole, message_t
 -- ---- what was read
 
 is_unknown_reason : DstUnreachable → Bool
-is_unknown_reason (reasons.Unknown n) = true
+is_unknown_reason (DstUnreachable.Unknown n) = true
 is_unknown_reason _ = false
 
 is_unknown_problem : ParamProblem → Bool
-is_unknown_problem (problems.Unknown n) = true
+is_unknown_problem (ParamProblem.Unknown n) = true
 is_unknown_problem _ = false
 
 is_unknown_time : TimeExceeded → Bool
-is_unknown_time (times.Unknown n) = true
+is_unknown_time (TimeExceeded.Unknown n) = true
 is_unknown_time _ = false
 
 header-read_canonical : (bytes : List ℕ) (quoted : Ipv6Repr) → IsBytes bytes → IsHeader bytes quoted → CanQuote quoted
@@ -60,7 +49,7 @@ content-canonical : (bytes : List ℕ) (v : MessageValue) → IsBytes bytes → 
 unfolding is_unknown_reason is_unknown_problem is_unknown_time
 content-canonical bytes (unreachable reason quoted d) are some small m =
     let read =
-    case-read unreachable_number reasons.Unknown (λ k. refl) is_unknown_reason (λ k. refl) unreachables
+    case-read unreachable_number DstUnreachable.Unknown (λ k. refl) is_unknown_reason (λ k. refl) unreachables
     (byte_of code_field bytes) refl m.1 in (
       read.0,
       omega (arith, read.1, are 1),
@@ -72,7 +61,7 @@ content-canonical bytes (too_big mtu quoted d) are some small m = (
 )
 content-canonical bytes (time_exceeded reason quoted d) are some small m =
     let read =
-    case-read time_exceeded_number times.Unknown (λ k. refl) is_unknown_time (λ k. refl) time_exceededs
+    case-read time_exceeded_number TimeExceeded.Unknown (λ k. refl) is_unknown_time (λ k. refl) time_exceededs
     (byte_of code_field bytes) refl m.1 in (
       read.0,
       omega (arith, read.1, are 1),
@@ -80,7 +69,7 @@ content-canonical bytes (time_exceeded reason quoted d) are some small m =
     )
 content-canonical bytes (param_problem reason pointer quoted d) are some small m =
     let read =
-    case-read param_problem_number problems.Unknown (λ k. refl) is_unknown_problem (λ k. refl) param_problems
+    case-read param_problem_number ParamProblem.Unknown (λ k. refl) is_unknown_problem (λ k. refl) param_problems
     (byte_of code_field bytes) refl m.1 in (
       read.0,
       omega (arith, read.1, are 1),

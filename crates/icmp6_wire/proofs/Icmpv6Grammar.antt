@@ -1,15 +1,9 @@
 -- The grammar of ICMPv6 messages: the bytes are one message at most, by the type at their front.
 use Rattle.std.proofs.Common.{◌≡◌, ℕ, ◌≤◌, true, List, length, refl, sym, ap, ◌∙◌, arith}
-use Rattle.wirebase.specs.declared.capabilities.ChecksumCapabilities.{ChecksumCapabilities}
-use Rattle.wirebase.specs.declared.ipv6.address.Ipv6Address.{Ipv6Address}
-use Rattle.wirebase.specs.declared.ipv6.Ipv6Repr.{Ipv6Repr}
-use Rattle.wirebase.specs.Bytes.{byte_of}
-use Rattle.wirebase.specs.Icmp.{type_field}
+use Rattle.icmp6_wire.specs.Words.{byte_of, type_field, ChecksumCapabilities, Ipv6Address, Ipv6Repr, Message}
 use Rattle.wirebase.proofs.Ipv6Header.{one_header}
 use Rattle.icmp6_wire.specs.Icmpv6Tables.{message_of}
 use Rattle.icmp6_wire.specs.Icmpv6Packet.{message_in, header_len_of, is_read, BeginsWhole}
-use Rattle.icmp6_wire.specs.declared.icmpv6.tables.Message.{Message}
-use Rattle.icmp6_wire.specs.declared.icmpv6.tables.Message.TheVariants as message
 use Rattle.icmp6_wire.specs.Icmpv6.{MessageValue, unreachable, too_big, time_exceeded, param_problem, echo_request}
 use Rattle.icmp6_wire.specs.Icmpv6.{echo_reply, mld, ndisc, IsError, IsContent, IsMessage}
 use Rattle.icmp6_wire.specs.Mld.{MldValue, query, report, records}
@@ -21,19 +15,19 @@ use Rattle.icmp6_wire.proofs.NdiscFormat.{message-one as neighbor-one}
 -- The kind of message of a type, and that of a value; a query and a report for listeners are one kind, and so are the
 -- messages of neighbor discovery.
 abbrev kind_of : Message → ℕ
-kind_of message.DstUnreachable = 1
-kind_of message.PktTooBig = 2
-kind_of message.TimeExceeded = 3
-kind_of message.ParamProblem = 4
-kind_of message.EchoRequest = 5
-kind_of message.EchoReply = 6
-kind_of message.RouterSolicit = 7
-kind_of message.RouterAdvert = 7
-kind_of message.NeighborSolicit = 7
-kind_of message.NeighborAdvert = 7
-kind_of message.Redirect = 7
-kind_of message.MldQuery = 8
-kind_of message.MldReport = 8
+kind_of Message.DstUnreachable = 1
+kind_of Message.PktTooBig = 2
+kind_of Message.TimeExceeded = 3
+kind_of Message.ParamProblem = 4
+kind_of Message.EchoRequest = 5
+kind_of Message.EchoReply = 6
+kind_of Message.RouterSolicit = 7
+kind_of Message.RouterAdvert = 7
+kind_of Message.NeighborSolicit = 7
+kind_of Message.NeighborAdvert = 7
+kind_of Message.Redirect = 7
+kind_of Message.MldQuery = 8
+kind_of Message.MldReport = 8
 kind_of _ = 0
 
 abbrev value_kind : MessageValue → ℕ
@@ -59,8 +53,7 @@ content-value_kind bytes (param_problem reason pointer quoted d) c = same_kind 4
 content-value_kind bytes (echo_request ident seq_no d) c = same_kind 0x80 bytes c.kind
 content-value_kind bytes (echo_reply ident seq_no d) c = same_kind 0x81 bytes c.kind
 content-value_kind bytes (ndisc (router_solicit l)) c = same_kind 0x85 bytes c.0.content.0
-content-value_kind bytes (ndisc (router_advert hops flags lifetime reachable retrans l m p)) c =
-    same_kind 0x86 bytes c.0.content.0.kind
+content-value_kind bytes (ndisc (router_advert a)) c = same_kind 0x86 bytes c.0.content.kind
 content-value_kind bytes (ndisc (neighbor_solicit t l)) c = same_kind 0x87 bytes c.0.content.0
 content-value_kind bytes (ndisc (neighbor_advert flags t l)) c = same_kind 0x88 bytes c.0.content.0
 content-value_kind bytes (ndisc (redirect t d l r)) c = same_kind 0x89 bytes c.0.content.0

@@ -1,11 +1,6 @@
 -- Sealing a message keeps its length, and all of its bytes but the checksum.
 use Rattle.std.proofs.Common.{◌≡◌, ℕ, ◌≤◌, true, List, ◌∷◌, length, refl}
-use Rattle.wirebase.specs.Bytes.{splice}
-use Rattle.wirebase.specs.Capabilities.{is_computed, sealed_where}
-use Rattle.wirebase.specs.Checksum.{IsGood, sealed}
-use Rattle.wirebase.specs.Icmp.{checksum_field}
-use Rattle.wirebase.specs.declared.capabilities.Checksum.{Checksum}
-use Rattle.wirebase.specs.declared.capabilities.Checksum.TheVariants.{Both, Rx, Tx, None}
+use Rattle.icmp6_wire.specs.Words.{splice, is_computed, sealed_where, IsGood, sealed, checksum_field, Checksum}
 use Rattle.wirebase.proofs.ChecksumSeals.{length-sealed, IsGood-sealed}
 
 pub length-sealed_message : (bytes : List ℕ) (extra : ℕ) → 4 ≤ length bytes
@@ -15,10 +10,10 @@ length-sealed_message bytes extra some = length-sealed checksum_field bytes extr
 -- what is computed is good
 pub good-seal : (checksum : Checksum) (bytes : List ℕ) (extra : ℕ) → 4 ≤ length bytes → is_computed checksum ≡ true
     → IsGood (sealed_where checksum checksum_field bytes extra) extra
-good-seal Both bytes extra some computed = IsGood-sealed checksum_field bytes extra refl some refl
-good-seal Rx bytes extra some computed = cc
-good-seal Tx bytes extra some computed = IsGood-sealed checksum_field bytes extra refl some refl
-good-seal None bytes extra some computed = cc
+good-seal Checksum.Both bytes extra some computed = IsGood-sealed checksum_field bytes extra refl some refl
+good-seal Checksum.Rx bytes extra some computed = cc
+good-seal Checksum.Tx bytes extra some computed = IsGood-sealed checksum_field bytes extra refl some refl
+good-seal Checksum.None bytes extra some computed = cc
 
 pub ruleset lengths = (length-sealed_message)
 
@@ -31,7 +26,7 @@ pub record Begins (bytes : List ℕ) (t code : ℕ) (rest : List ℕ) : Type 0 w
 pub sealed-begins : (checksum : Checksum) (bytes : List ℕ) (extra t code : ℕ) (rest : List ℕ)
     → bytes ≡ t ∷ code ∷ 0 ∷ 0 ∷ rest → Begins (sealed_where checksum checksum_field bytes extra) t code rest
 unfolding sealed splice
-sealed-begins Both bytes extra t code rest e = rw e (record { first = _; second = _; whole = refl })
-sealed-begins Rx bytes extra t code rest e = record { first = 0; second = 0; whole = e }
-sealed-begins Tx bytes extra t code rest e = rw e (record { first = _; second = _; whole = refl })
-sealed-begins None bytes extra t code rest e = record { first = 0; second = 0; whole = e }
+sealed-begins Checksum.Both bytes extra t code rest e = rw e (record { first = _; second = _; whole = refl })
+sealed-begins Checksum.Rx bytes extra t code rest e = record { first = 0; second = 0; whole = e }
+sealed-begins Checksum.Tx bytes extra t code rest e = rw e (record { first = _; second = _; whole = refl })
+sealed-begins Checksum.None bytes extra t code rest e = record { first = 0; second = 0; whole = e }

@@ -4,14 +4,9 @@ use Rattle.std.proofs.Common.{refl, sym, ap, subst, ◌∙◌, arith, length-app
 use Rattle.std.proofs.lemmas.List.{append-nil, length-take, take_all, take_min}
 use Rattle.byteorder.specs.Endian.{big_bytes}
 use Rattle.byteorder.specs.Numbers.{big_number-reads_back}
-use Rattle.wirebase.specs.declared.capabilities.ChecksumCapabilities.{ChecksumCapabilities}
-use Rattle.wirebase.specs.declared.ipv6.address.Ipv6Address.{Ipv6Address}
-use Rattle.wirebase.specs.declared.ipv6.Ipv6Repr.{Ipv6Repr}
-use Rattle.wirebase.specs.Bytes.{part, byte_of, number_of}
-use Rattle.wirebase.specs.ByteWriter.{be8, be16, be32, fields}
-use Rattle.wirebase.specs.Icmp.{code_field, checksum_field, IsEcho, echo_fields}
-use Rattle.wirebase.specs.Ipv6.{header_text}
-use Rattle.wirebase.specs.Numbered.{IsProper}
+use Rattle.icmp6_wire.specs.Words.{part, byte_of, number_of, be8, be16, be32, fields, code_field, checksum_field}
+use Rattle.icmp6_wire.specs.Words.{IsEcho, echo_fields, header_text, IsProper, IsGood, ChecksumCapabilities}
+use Rattle.icmp6_wire.specs.Words.{Ipv6Address, Ipv6Repr, DstUnreachable, ParamProblem, TimeExceeded}
 use Rattle.wirebase.proofs.CapabilitySeals.{length-sealed_where, IsGood-sealed_where}
 use Rattle.wirebase.proofs.IcmpTexts.{echo_text, header_sealed, echo_read}
 use Rattle.wirebase.proofs.Ipv6Header.{length-header_text, header-read, drop-header_text}
@@ -24,13 +19,6 @@ use Rattle.icmp6_wire.specs.Icmpv6.{MessageValue, unreachable, too_big, time_exc
 use Rattle.icmp6_wire.specs.Icmpv6.{echo_reply, mld, ndisc, quoted_data, error_fields, text, error_len, text_len, seal}
 use Rattle.icmp6_wire.specs.Icmpv6.{packet_text, CanEmit, IsError, IsContent, IsMessage, CanQuote, IsCanonical}
 use Rattle.icmp6_wire.specs.Icmpv6.{Fills, norm}
-use Rattle.icmp6_wire.specs.declared.icmpv6.tables.DstUnreachable.{DstUnreachable}
-use Rattle.icmp6_wire.specs.declared.icmpv6.tables.DstUnreachable.TheVariants as reasons
-use Rattle.icmp6_wire.specs.declared.icmpv6.tables.ParamProblem.{ParamProblem}
-use Rattle.icmp6_wire.specs.declared.icmpv6.tables.ParamProblem.TheVariants as problems
-use Rattle.icmp6_wire.specs.declared.icmpv6.tables.TimeExceeded.{TimeExceeded}
-use Rattle.icmp6_wire.specs.declared.icmpv6.tables.TimeExceeded.TheVariants as times
-use Rattle.wirebase.specs.Checksum.{IsGood}
 use Rattle.icmp6_wire.proofs.Icmpv6Grammar.{whole-content}
 use Rattle.icmp6_wire.proofs.Icmpv6Seals.{Begins, sealed-begins}
 use Rattle.icmp6_wire.specs.Mld as listeners
@@ -118,19 +106,22 @@ pub ruleset texts = (length-text, length-packet_text)
 
 -- ---- reading what was written
 
-unreachable_of-number : (reason : DstUnreachable) → IsProper reasons.Unknown unreachable_rows reason
+unreachable_of-number : (reason : DstUnreachable) → IsProper DstUnreachable.Unknown unreachable_rows reason
     → reason ≡ unreachable_of (unreachable_number reason)
-unreachable_of-number (reasons.Unknown n) p = sym (case_in-unnamed reasons.Unknown unreachable_rows n (p n refl))
+unreachable_of-number (DstUnreachable.Unknown n) p =
+    sym (case_in-unnamed DstUnreachable.Unknown unreachable_rows n (p n refl))
 unreachable_of-number _ p = refl
 
-time_exceeded_of-number : (reason : TimeExceeded) → IsProper times.Unknown time_exceeded_rows reason
+time_exceeded_of-number : (reason : TimeExceeded) → IsProper TimeExceeded.Unknown time_exceeded_rows reason
     → reason ≡ time_exceeded_of (time_exceeded_number reason)
-time_exceeded_of-number (times.Unknown n) p = sym (case_in-unnamed times.Unknown time_exceeded_rows n (p n refl))
+time_exceeded_of-number (TimeExceeded.Unknown n) p =
+    sym (case_in-unnamed TimeExceeded.Unknown time_exceeded_rows n (p n refl))
 time_exceeded_of-number _ p = refl
 
-param_problem_of-number : (reason : ParamProblem) → IsProper problems.Unknown param_problem_rows reason
+param_problem_of-number : (reason : ParamProblem) → IsProper ParamProblem.Unknown param_problem_rows reason
     → reason ≡ param_problem_of (param_problem_number reason)
-param_problem_of-number (problems.Unknown n) p = sym (case_in-unnamed problems.Unknown param_problem_rows n (p n refl))
+param_problem_of-number (ParamProblem.Unknown n) p =
+    sym (case_in-unnamed ParamProblem.Unknown param_problem_rows n (p n refl))
 param_problem_of-number _ p = refl
 
 -- what is read in the bytes of an error

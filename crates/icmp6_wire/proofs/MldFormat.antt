@@ -4,11 +4,7 @@ use Rattle.std.proofs.Common.{◌++◌, length, take, drop, refl, sym, ap, subst
 use Rattle.std.proofs.lemmas.List.{append-nil, take_at, drop_at, drop-drop, length-drop, get_or-append_right}
 use Rattle.byteorder.specs.Endian.{big_bytes, big_number}
 use Rattle.byteorder.specs.Numbers.{big_number-reads_back}
-use Rattle.wirebase.specs.Bytes.{IsBytes, part}
-use Rattle.wirebase.specs.ByteWriter.{fields}
-use Rattle.wirebase.specs.Format.{SameText}
-use Rattle.wirebase.specs.Ipv6Address.{octets_of}
-use Rattle.wirebase.specs.declared.ipv6.address.Ipv6Address.{Ipv6Address}
+use Rattle.icmp6_wire.specs.Words.{IsBytes, part, fields, SameText, octets_of, Ipv6Address}
 use Rattle.wirebase.proofs.ByteParts.{number_of-small}
 use Rattle.wirebase.proofs.Format.{IsFormat, same_text}
 use Rattle.icmp6_wire.specs.Mld.{MldValue, query, report, records, sqrv, record_texts, text, IsQuery, IsReport}

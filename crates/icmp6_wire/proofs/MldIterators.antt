@@ -11,13 +11,11 @@ use Rattle.std.proofs.lemmas.Bool.{leb-true, leb-false, le-leb}
 use Rattle.std.proofs.lemmas.List.{take-append-drop, take-append-le, drop-append-le, length-take-le, length-drop}
 use Rattle.std.proofs.lemmas.List.{take_at, drop_at}
 use Rattle.byteorder.specs.Endian.{big_number}
-use Rattle.wirebase.specs.Bytes.{part, byte_of, number_of}
+use Rattle.icmp6_wire.specs.Words.{part, byte_of, number_of, RecordRefusal}
 use Rattle.icmp6_wire.specs.MldRecord.{aux_data_len_field, num_srcs_field, record_len_in}
 use Rattle.icmp6_wire.specs.MldRefusal.{RefusesRecord}
 use Rattle.icmp6_wire.specs.MldIterators.{Answer, AreRecords, ends, goes_on, breaks, first_refusal, after_record}
 use Rattle.icmp6_wire.specs.MldIterators.{records_ahead, AreSources, sources_ahead, sources_in}
-use Rattle.icmp6_wire.specs.declared.mld.refusal.RecordRefusal.{RecordRefusal}
-use Rattle.icmp6_wire.specs.declared.mld.refusal.RecordRefusal.TheVariants as record_refusal
 
 -- an answer that is taken off leaves fewer
 pub first_off : {X A : Type 0} (old new : List X) (first : X) (given : A) → old ≡ first ∷ new
@@ -57,16 +55,16 @@ front_len bytes fits =
 -- one reason alone holds of bytes
 refusal-one : (bytes : List ℕ) (one other : RecordRefusal) → RefusesRecord bytes one → RefusesRecord bytes other
     → one ≡ other
-refusal-one bytes record_refusal.Short record_refusal.Short short also = refl
-refusal-one bytes record_refusal.Short record_refusal.Cut short cut = absurd (omega (arith, short, cut.0))
-refusal-one bytes record_refusal.Cut record_refusal.Short cut short = absurd (omega (arith, cut.0, short))
-refusal-one bytes record_refusal.Cut record_refusal.Cut cut also = refl
+refusal-one bytes RecordRefusal.Short RecordRefusal.Short short also = refl
+refusal-one bytes RecordRefusal.Short RecordRefusal.Cut short cut = absurd (omega (arith, short, cut.0))
+refusal-one bytes RecordRefusal.Cut RecordRefusal.Short cut short = absurd (omega (arith, cut.0, short))
+refusal-one bytes RecordRefusal.Cut RecordRefusal.Cut cut also = refl
 
 -- with it the bytes end before a record does
 refused_len : (bytes : List ℕ) (refusal : RecordRefusal) → RefusesRecord bytes refusal
     → length bytes < record_len_in bytes
-refused_len bytes record_refusal.Short short = omega (arith, short)
-refused_len bytes record_refusal.Cut cut = cut.1
+refused_len bytes RecordRefusal.Short short = omega (arith, short)
+refused_len bytes RecordRefusal.Cut cut = cut.1
 
 -- and where they do, the reason that is computed holds
 refused_as : (bytes : List ℕ) (fields : Bool) → nat_le 20 (length bytes) ≡ fields → length bytes < record_len_in bytes

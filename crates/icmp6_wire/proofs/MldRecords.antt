@@ -5,12 +5,8 @@ use Rattle.std.proofs.lemmas.List.{append-nil, take_all, drop_all, nil_from_leng
 use Rattle.byteorder.specs.Endian.{big_bytes}
 use Rattle.byteorder.specs.Numbers.{big_number-reads_back}
 use Rattle.std.proofs.lemmas.Result.{IfOk-weaker}
-use Rattle.wirebase.specs.Bytes.{IsBytes, part, byte_of, over}
-use Rattle.wirebase.specs.ByteWriter.{be8, be16, fields}
-use Rattle.wirebase.specs.Format.{Rewrites, SameText}
-use Rattle.wirebase.specs.Ipv6Address.{octets_of, IsMulticast}
-use Rattle.wirebase.specs.Numbered.{IsProper}
-use Rattle.wirebase.specs.declared.ipv6.address.Ipv6Address.{Ipv6Address}
+use Rattle.icmp6_wire.specs.Words.{IsBytes, part, byte_of, over, be8, be16, fields, Rewrites, SameText, octets_of}
+use Rattle.icmp6_wire.specs.Words.{IsMulticast, IsProper, Ipv6Address, RecordType}
 use Rattle.wirebase.proofs.ByteParts.{number_of-small}
 use Rattle.wirebase.proofs.Format.{IsFormat, same_text}
 use Rattle.wirebase.proofs.Ipv6Header.{same_address}
@@ -19,8 +15,6 @@ use Rattle.wirebase.proofs.Numbered.{case_in-unnamed, case-read}
 use Rattle.icmp6_wire.specs.MldTables.{record_type_number, record_types, record_type_rows, record_type_of}
 use Rattle.icmp6_wire.specs.MldRecord.{RecordValue, address_record, record_type_field, text, group_of, IsFields}
 use Rattle.icmp6_wire.specs.MldRecord.{IsRecord, IsCanonical, norm, IsCut, IsGroupRecord, format}
-use Rattle.icmp6_wire.specs.declared.mld.tables.RecordType.{RecordType}
-use Rattle.icmp6_wire.specs.declared.mld.tables.RecordType.TheVariants as record_type
 
 -- ---- the text
 
@@ -42,14 +36,14 @@ pub ruleset record_texts = (length-text, over-record_whole)
 
 -- ---- reading what was written
 
-record_type_of-number : (kind : RecordType) → IsProper record_type.Unknown record_type_rows kind
+record_type_of-number : (kind : RecordType) → IsProper RecordType.Unknown record_type_rows kind
     → kind ≡ record_type_of (record_type_number kind)
-record_type_of-number (record_type.Unknown n) p =
-    sym (case_in-unnamed record_type.Unknown record_type_rows n (p n refl))
+record_type_of-number (RecordType.Unknown n) p =
+    sym (case_in-unnamed RecordType.Unknown record_type_rows n (p n refl))
 record_type_of-number _ p = refl
 
 fields_read : (kind : RecordType) (words sources : ℕ) (group : Ipv6Address)
-    → IsProper record_type.Unknown record_type_rows kind → sources < 2 ^ 16
+    → IsProper RecordType.Unknown record_type_rows kind → sources < 2 ^ 16
     → IsFields (record_type_number kind ∷ words ∷ (big_bytes 2 sources ++ octets_of group)) kind words sources group []
 unfolding part
 fields_read kind words sources group proper small = record {
@@ -80,14 +74,14 @@ record-one bytes (address_record kind words sources group rest) (address_record 
 -- ---- what was read
 
 is_unknown : RecordType → Bool
-is_unknown (record_type.Unknown n) = true
+is_unknown (RecordType.Unknown n) = true
 is_unknown _ = false
 
 record-canonical : (bytes : List ℕ) (v : RecordValue) → IsBytes bytes → IsGroupRecord bytes v → IsCanonical v
 unfolding is_unknown
 record-canonical bytes (address_record kind words sources group rest) are m =
     let read =
-    case-read record_type_number record_type.Unknown (λ k. refl) is_unknown (λ k. refl) record_types
+    case-read record_type_number RecordType.Unknown (λ k. refl) is_unknown (λ k. refl) record_types
     (byte_of record_type_field bytes) refl m.0.kind_is in (
       read.0,
       omega (arith, read.1, are 0),

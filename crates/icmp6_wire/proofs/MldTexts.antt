@@ -3,9 +3,7 @@ use Rattle.std.proofs.Common.{◌≡◌, ◌↔◌, ◌≤◌, ℕ, ◌*◌, Boo
 use Rattle.std.proofs.Common.{sym, ap, ◌∙◌, arith, length-append}
 use Rattle.std.proofs.lemmas.List.{append-nil, length-map}
 use Rattle.byteorder.specs.Endian.{big_bytes}
-use Rattle.wirebase.specs.ByteWriter.{be8, be16, fields}
-use Rattle.wirebase.specs.Ipv6Address.{octets_of}
-use Rattle.wirebase.specs.declared.ipv6.address.Ipv6Address.{Ipv6Address}
+use Rattle.icmp6_wire.specs.Words.{be8, be16, fields, octets_of, Ipv6Address}
 use Rattle.wirebase.proofs.Ipv6Header.{same_address}
 use Rattle.icmp6_wire.specs.Mld.{MldValue, query, report, records, sqrv, query_fields, report_fields}
 use Rattle.icmp6_wire.specs.Mld.{record_texts, text, text_len, IsMessage}

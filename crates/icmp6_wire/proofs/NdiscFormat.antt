@@ -6,11 +6,10 @@ use Rattle.std.specs.Prelude.{Option, None, Some}
 use Rattle.std.specs.List.{AllByRecursion}
 use Rattle.std.specs.Option.{option_map, option_or}
 use Rattle.std.proofs.lemmas.Nat.{and_assoc}
-use Rattle.wirebase.specs.Bytes.{IsBytes, over, byte_of, number_of}
-use Rattle.wirebase.specs.Duration.{micros_of, millis_of, seconds_of, whole_millis, whole_seconds}
-use Rattle.wirebase.specs.Format.{SameText}
-use Rattle.wirebase.specs.Icmp.{type_field}
-use Rattle.wirebase.specs.declared.duration.Duration.{Duration}
+use Rattle.icmp6_wire.specs.Words.{IsBytes, over, byte_of, number_of, micros_of, millis_of, seconds_of, whole_millis}
+use Rattle.icmp6_wire.specs.Words.{whole_seconds, SameText, type_field, last_of, OptionValue, source, target}
+use Rattle.icmp6_wire.specs.Words.{prefix_information}
+use Rattle.icmp6_wire.specs.Words.{redirected, mtu, filled, Duration, PrefixInformation, NeighborFlags, RouterFlags}
 use Rattle.wirebase.proofs.ByteParts.{IsBytes-drop, IsBytes-front, IsBytes-rest, number_of-small}
 use Rattle.wirebase.proofs.Durations.{same_duration, millis-times, seconds-times}
 use Rattle.wirebase.proofs.Durations.{whole_millis-read, whole_seconds-read}
@@ -18,10 +17,7 @@ use Rattle.wirebase.proofs.Format.{IsFormat, round_trips, same_text}
 use Rattle.wirebase.proofs.Ipv6Header.{same_address}
 use Rattle.wirebase.proofs.Pieces.{over-exact}
 use Rattle.wirebase.proofs.WideParts.{number_of-small4}
-use Rattle.wirebase.specs.LastOf.{last_of}
 use Rattle.opt_wire.specs.NdiscOptionRepr as option
-use Rattle.opt_wire.specs.NdiscOptionRepr.{OptionValue, source, target, prefix_information, redirected, mtu, filled}
-use Rattle.opt_wire.specs.declared.ndiscoption.repr.PrefixInformation.{PrefixInformation}
 use Rattle.opt_wire.proofs.NdiscOptionFormat.{ndisc_option_format}
 use Rattle.icmp6_wire.specs.Icmpv6Packet.{header_len_in, payload_in}
 use Rattle.icmp6_wire.specs.NdiscBlocks.{AreBlocks, ends, goes_on, skips, source_in, target_in, mtu_in}
@@ -34,8 +30,6 @@ use Rattle.icmp6_wire.specs.Ndisc.{redirect}
 use Rattle.icmp6_wire.specs.Ndisc.{sources, targets, mtus, prefixes, packets, option_text, text, text_len}
 use Rattle.icmp6_wire.specs.Ndisc.{IfThere, IsContent, IsMessage, IsCanonicalHeader, IsCanonical}
 use Rattle.icmp6_wire.specs.Ndisc.{whole_prefix, norm, format, Emits}
-use Rattle.icmp6_wire.specs.declared.ndisc.flags.NeighborFlags.{NeighborFlags}
-use Rattle.icmp6_wire.specs.declared.ndisc.flags.RouterFlags.{RouterFlags}
 use Rattle.icmp6_wire.proofs.NdiscReading.{kind_of, message_text}
 use Rattle.icmp6_wire.proofs.NdiscTexts.{length-text}
 use Rattle.icmp6_wire.proofs.NdiscTiling.{blocks-unique}
@@ -58,23 +52,23 @@ same_neighbor_flags f g e = ap neighbor_flags_of e
 
 kind-content : (bytes : List ℕ) (os : List OptionValue) (v : NdiscValue) → IsContent bytes os v
     → byte_of type_field bytes ≡ kind_of v
-kind-content bytes os (router_advert hops flags lifetime reachable retrans l m p) a = a.0.kind
+kind-content bytes os (router_advert v) a = a.kind
 kind-content bytes os _ a = a.0
 
 same_content : (bytes : List ℕ) (os : List OptionValue) (v w : NdiscValue) → IsContent bytes os v → IsContent bytes os w
     → kind_of v ≡ kind_of w → v ≡ w
 same_content bytes os (router_solicit l) (router_solicit k) a b same = ap router_solicit (a.1 ∙ sym b.1)
-same_content bytes os (router_advert hops flags lifetime reachable retrans l m p)
-    (router_advert others marks time reaches waits k n q) a b same =
-    let one = a.0.hops_are ∙ sym b.0.hops_are in
-    let two = same_router_flags flags marks (a.0.flags_are ∙ sym b.0.flags_are) in
-    let three = same_duration lifetime time (a.0.lifetime_is ∙ sym b.0.lifetime_is) in
-    let four = same_duration reachable reaches (a.0.reachable_is ∙ sym b.0.reachable_is) in
-    let five = same_duration retrans waits (a.0.retrans_is ∙ sym b.0.retrans_is) in
-    let six = a.1 ∙ sym b.1 in
-    let seven = a.2 ∙ sym b.2 in
-    let eight = a.3 ∙ sym b.3 in
-    cc
+same_content bytes os (router_advert v) (router_advert w) a b same =
+    λ i. router_advert (record {
+      hop_limit = (a.hop_limit ∙ sym b.hop_limit) i;
+      flags = same_router_flags v.flags w.flags (a.flags ∙ sym b.flags) i;
+      router_lifetime = same_duration v.router_lifetime w.router_lifetime (a.router_lifetime ∙ sym b.router_lifetime) i;
+      reachable_time = same_duration v.reachable_time w.reachable_time (a.reachable_time ∙ sym b.reachable_time) i;
+      retrans_time = same_duration v.retrans_time w.retrans_time (a.retrans_time ∙ sym b.retrans_time) i;
+      lladdr = (a.lladdr ∙ sym b.lladdr) i;
+      mtu = (a.mtu ∙ sym b.mtu) i;
+      prefix_info = (a.prefix_info ∙ sym b.prefix_info) i;
+    })
 same_content bytes os (neighbor_solicit t l) (neighbor_solicit u k) a b same =
     cc (same_address t u (a.1 ∙ sym b.1), a.2 ∙ sym b.2)
 same_content bytes os (neighbor_advert flags t l) (neighbor_advert marks u k) a b same =
@@ -145,8 +139,8 @@ good_packet _ g = tt
 -- each option of a message that was read
 AreGood : NdiscValue → Type 0
 AreGood (router_solicit l) = IfThere IsGood (sources l)
-AreGood (router_advert hops flags lifetime reachable retrans l m p) =
-    IfThere IsGood (sources l) × IfThere IsGood (mtus m) × IfThere IsGood (prefixes p)
+AreGood (router_advert a) =
+    IfThere IsGood (sources a.lladdr) × IfThere IsGood (mtus a.mtu) × IfThere IsGood (prefixes a.prefix_info)
 AreGood (neighbor_solicit t l) = IfThere IsGood (sources l)
 AreGood (neighbor_advert flags t l) = IfThere IsGood (targets l)
 AreGood (redirect t d l r) = IfThere IsGood (targets l) × IfThere IsGood (packets r)
@@ -163,10 +157,10 @@ good_content : (bytes : List ℕ) (os : List OptionValue) (v : NdiscValue) → A
     → IsContent bytes os v → AreGood v
 unfolding AreGood
 good_content bytes os (router_solicit l) all a = good_sources l os all a.1
-good_content bytes os (router_advert hops flags lifetime reachable retrans l m p) all a = (
-  good_sources l os all a.1,
-  rw a.2 (last_good mtu_in mtu good_mtu os all),
-  rw a.3 (last_good prefix_in prefix_information good_prefix os all),
+good_content bytes os (router_advert v) all a = (
+  good_sources v.lladdr os all a.lladdr,
+  rw a.mtu (last_good mtu_in mtu good_mtu os all),
+  rw a.prefix_info (last_good prefix_in prefix_information good_prefix os all),
 )
 good_content bytes os (neighbor_solicit t l) all a = good_sources l os all a.2
 good_content bytes os (neighbor_advert flags t l) all a = good_targets l os all a.3
@@ -199,13 +193,13 @@ few_millis time n e small = omega (arith, e, small)
 
 canonical_header : (bytes : List ℕ) (os : List OptionValue) (v : NdiscValue) → IsBytes bytes → IsContent bytes os v
     → IsCanonicalHeader v
-canonical_header bytes os (router_advert hops flags lifetime reachable retrans l m p) are a = (
-  omega (arith, a.0.hops_are, are 4),
-  ap known_router a.0.flags_are ∙ known-router (byte_of router_flags_field bytes) ∙ sym a.0.flags_are,
+canonical_header bytes os (router_advert v) are a = (
+  omega (arith, a.hop_limit, are 4),
+  ap known_router a.flags ∙ known-router (byte_of router_flags_field bytes) ∙ sym a.flags,
   (
-    few_seconds lifetime (number_of router_lifetime_field bytes) a.0.lifetime_is (number_of-small 6 8 bytes refl are),
-    few_millis reachable (number_of reachable_time_field bytes) a.0.reachable_is (number_of-small4 8 12 bytes refl are),
-    few_millis retrans (number_of retrans_time_field bytes) a.0.retrans_is (number_of-small4 12 16 bytes refl are),
+    few_seconds v.router_lifetime _ a.router_lifetime (number_of-small 6 8 bytes refl are),
+    few_millis v.reachable_time _ a.reachable_time (number_of-small4 8 12 bytes refl are),
+    few_millis v.retrans_time _ a.retrans_time (number_of-small4 12 16 bytes refl are),
   ),
 )
 canonical_header bytes os (neighbor_advert flags t l) are a =
@@ -215,11 +209,11 @@ canonical_header bytes os _ are a = tt
 canonical_options : (v : NdiscValue) → IsCanonicalHeader v → AreGood v → IsCanonical v
 unfolding AreGood
 canonical_options (router_solicit l) c g = (c, (canonical_there (sources l) g, tt))
-canonical_options (router_advert hops flags lifetime reachable retrans l m p) c g = (
+canonical_options (router_advert v) c g = (
   c,
   (
-    canonical_there (sources l) g.0,
-    (canonical_there (mtus m) g.1, (canonical_there (prefixes p) g.2, tt)),
+    canonical_there (sources v.lladdr) g.0,
+    (canonical_there (mtus v.mtu) g.1, (canonical_there (prefixes v.prefix_info) g.2, tt)),
   ),
 )
 canonical_options (neighbor_solicit t l) c g = (c, (canonical_there (sources l) g, tt))
@@ -251,13 +245,15 @@ kept_prefix (Some p) g = ap prefix_in g.1
 norm-content : (bytes : List ℕ) (os : List OptionValue) (v : NdiscValue) → IsContent bytes os v → AreGood v → norm v ≡ v
 unfolding AreGood
 norm-content bytes os (router_solicit l) a g = ap router_solicit (kept_source l g)
-norm-content bytes os (router_advert hops flags lifetime reachable retrans l m p) a g =
-    let one = whole_seconds-read lifetime (number_of router_lifetime_field bytes) a.0.lifetime_is in
-    let two = whole_millis-read reachable (number_of reachable_time_field bytes) a.0.reachable_is in
-    let three = whole_millis-read retrans (number_of retrans_time_field bytes) a.0.retrans_is in
-    let four = kept_source l g.0 in
-    let five = kept_prefix p g.2 in
-    cc
+norm-content bytes os (router_advert v) a g =
+    λ i. router_advert (record v {
+      router_lifetime =
+          whole_seconds-read v.router_lifetime (number_of router_lifetime_field bytes) a.router_lifetime i;
+      reachable_time = whole_millis-read v.reachable_time (number_of reachable_time_field bytes) a.reachable_time i;
+      retrans_time = whole_millis-read v.retrans_time (number_of retrans_time_field bytes) a.retrans_time i;
+      lladdr = kept_source v.lladdr g.0 i;
+      prefix_info = kept_prefix v.prefix_info g.2 i;
+    })
 norm-content bytes os (neighbor_solicit t l) a g = ap (λ x. neighbor_solicit t x) (kept_source l g)
 norm-content bytes os (neighbor_advert flags t l) a g = ap (λ x. neighbor_advert flags t x) (kept_target l g)
 norm-content bytes os (redirect t d l r) a g = ap (λ x. redirect t d x r) (kept_target l g.0)
@@ -284,17 +280,17 @@ norm_prefix (Some p) c = ndisc_option_format.norm_canonical (prefix_information 
 
 pub norm-canonical : (v : NdiscValue) → IsCanonical v → IsCanonical (norm v)
 norm-canonical (router_solicit l) c = (tt, (norm_source l c.1.0, tt))
-norm-canonical (router_advert hops flags lifetime reachable retrans l m p) c = (
+norm-canonical (router_advert v) c = (
   (
     c.0.0,
     c.0.1,
     (
-      omega (arith, seconds-times (seconds_of lifetime), c.0.2.0),
-      omega (arith, millis-times (millis_of reachable), c.0.2.1),
-      omega (arith, millis-times (millis_of retrans), c.0.2.2),
+      omega (arith, seconds-times (seconds_of v.router_lifetime), c.0.2.0),
+      omega (arith, millis-times (millis_of v.reachable_time), c.0.2.1),
+      omega (arith, millis-times (millis_of v.retrans_time), c.0.2.2),
     ),
   ),
-  (norm_source l c.1.0, (c.1.1.0, (norm_prefix p c.1.1.1.0, tt))),
+  (norm_source v.lladdr c.1.0, (c.1.1.0, (norm_prefix v.prefix_info c.1.1.1.0, tt))),
 )
 norm-canonical (neighbor_solicit t l) c = (tt, (norm_source l c.1.0, tt))
 norm-canonical (neighbor_advert flags t l) c = (c.0, (norm_target l c.1.0, tt))
@@ -311,15 +307,15 @@ prefix-prefix (Some p) = ap prefix_in (ndisc_option_format.norm_norm (prefix_inf
 
 pub norm-norm : (v : NdiscValue) → norm (norm v) ≡ norm v
 norm-norm (router_solicit l) = ap router_solicit (filled-filled l)
-norm-norm (router_advert hops flags lifetime reachable retrans l m p) =
-    let one : whole_seconds (whole_seconds lifetime) ≡ whole_seconds lifetime =
-    whole_seconds-read (whole_seconds lifetime) (seconds_of lifetime) refl in
-    let two : whole_millis (whole_millis reachable) ≡ whole_millis reachable =
-    whole_millis-read (whole_millis reachable) (millis_of reachable) refl in
-    let three : whole_millis (whole_millis retrans) ≡ whole_millis retrans =
-    whole_millis-read (whole_millis retrans) (millis_of retrans) refl in
-    let four = filled-filled l in
-    let five = prefix-prefix p in
+norm-norm (router_advert v) =
+    let one : whole_seconds (whole_seconds v.router_lifetime) ≡ whole_seconds v.router_lifetime =
+    whole_seconds-read (whole_seconds v.router_lifetime) (seconds_of v.router_lifetime) refl in
+    let two : whole_millis (whole_millis v.reachable_time) ≡ whole_millis v.reachable_time =
+    whole_millis-read (whole_millis v.reachable_time) (millis_of v.reachable_time) refl in
+    let three : whole_millis (whole_millis v.retrans_time) ≡ whole_millis v.retrans_time =
+    whole_millis-read (whole_millis v.retrans_time) (millis_of v.retrans_time) refl in
+    let four = filled-filled v.lladdr in
+    let five = prefix-prefix v.prefix_info in
     cc
 norm-norm (neighbor_solicit t l) = ap (λ x. neighbor_solicit t x) (filled-filled l)
 norm-norm (neighbor_advert flags t l) = ap (λ x. neighbor_advert flags t x) (filled-filled l)
@@ -342,13 +338,13 @@ prefix-text (Some p) c = ndisc_option_format.norm_text (prefix_information p) c 
 
 pub norm-text : (v : NdiscValue) → IsCanonical v → text (norm v) ≡ text v
 norm-text (router_solicit l) c = cc (source-text l c.1.0)
-norm-text (router_advert hops flags lifetime reachable retrans l m p) c =
+norm-text (router_advert v) c =
     cc (
-      seconds-times (seconds_of lifetime),
-      millis-times (millis_of reachable),
-      millis-times (millis_of retrans),
-      source-text l c.1.0,
-      prefix-text p c.1.1.1.0,
+      seconds-times (seconds_of v.router_lifetime),
+      millis-times (millis_of v.reachable_time),
+      millis-times (millis_of v.retrans_time),
+      source-text v.lladdr c.1.0,
+      prefix-text v.prefix_info c.1.1.1.0,
     )
 norm-text (neighbor_solicit t l) c = cc (source-text l c.1.0)
 norm-text (neighbor_advert flags t l) c = cc (target-text l c.1.0)

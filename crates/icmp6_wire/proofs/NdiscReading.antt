@@ -6,21 +6,14 @@ use Rattle.std.specs.Option.{option_map}
 use Rattle.std.proofs.lemmas.List.{append_assoc, append-nil, take_at, drop_at}
 use Rattle.byteorder.specs.Endian.{big_bytes}
 use Rattle.byteorder.specs.Numbers.{big_number-reads_back}
-use Rattle.wirebase.specs.Bytes.{part}
-use Rattle.wirebase.specs.ByteWriter.{be8, be16, be32, fields}
-use Rattle.wirebase.specs.Duration.{millis_of, seconds_of}
-use Rattle.wirebase.specs.Ipv6Address.{octets_of}
-use Rattle.wirebase.specs.declared.ipv6.Ipv6Repr.{Ipv6Repr}
-use Rattle.opt_wire.specs.NdiscOption.{units_in}
+use Rattle.icmp6_wire.specs.Words.{part, be8, be16, be32, fields, millis_of, seconds_of, octets_of, units_in}
+use Rattle.icmp6_wire.specs.Words.{OptionValue, source, target, prefix_information, redirected, mtu, unknown, filled}
+use Rattle.icmp6_wire.specs.Words.{BeginsWith}
+use Rattle.icmp6_wire.specs.Words.{last_of, Ipv6Repr, PrefixInformation}
 use Rattle.opt_wire.specs.NdiscOptionRepr as option
-use Rattle.opt_wire.specs.NdiscOptionRepr.{OptionValue, source, target, prefix_information, redirected, mtu, unknown}
-use Rattle.opt_wire.specs.NdiscOptionRepr.{filled}
-use Rattle.opt_wire.specs.NdiscOptionRepr.{BeginsWith}
-use Rattle.opt_wire.specs.declared.ndiscoption.repr.PrefixInformation.{PrefixInformation}
 use Rattle.opt_wire.proofs.NdiscOptionReading.{option_read}
 use Rattle.opt_wire.proofs.NdiscOptionTexts.{link_text, prefix_text, redirected_text, mtu_text, unknown_text}
 use Rattle.opt_wire.proofs.NdiscOptionTexts.{length-text as length-option}
-use Rattle.wirebase.specs.LastOf.{last_of}
 use Rattle.icmp6_wire.specs.NdiscBlocks.{IsBlock, AreBlocks, ends, goes_on, source_in, target_in, mtu_in}
 use Rattle.icmp6_wire.specs.NdiscBlocks.{prefix_in, redirected_in}
 use Rattle.icmp6_wire.specs.NdiscTables.{router_bits, neighbor_bits}
@@ -106,7 +99,7 @@ of_redirect l r = record { link = grind arith; packet = grind arith }
 -- the type, and what follows the checksum
 abbrev pub kind_of : NdiscValue → ℕ
 kind_of (router_solicit l) = 0x85
-kind_of (router_advert hops flags lifetime reachable retrans l m p) = 0x86
+kind_of (router_advert a) = 0x86
 kind_of (neighbor_solicit t l) = 0x87
 kind_of (neighbor_advert flags t l) = 0x88
 kind_of (redirect t d l r) = 0x89
@@ -116,11 +109,11 @@ tail v = fields (option_texts (options_of v))
 
 pub body : NdiscValue → List ℕ
 body (router_solicit l) = 0 ∷ 0 ∷ 0 ∷ 0 ∷ tail (router_solicit l)
-body (router_advert hops flags lifetime reachable retrans l m p) =
-    hops ∷ router_bits flags
-    ∷ (big_bytes 2 (seconds_of lifetime)
-    ++ (big_bytes 4 (millis_of reachable)
-    ++ (big_bytes 4 (millis_of retrans) ++ tail (router_advert hops flags lifetime reachable retrans l m p))))
+body (router_advert a) =
+    a.hop_limit ∷ router_bits a.flags
+    ∷ (big_bytes 2 (seconds_of a.router_lifetime)
+    ++ (big_bytes 4 (millis_of a.reachable_time)
+    ++ (big_bytes 4 (millis_of a.retrans_time) ++ tail (router_advert a))))
 body (neighbor_solicit t l) = 0 ∷ 0 ∷ 0 ∷ 0 ∷ (octets_of t ++ tail (neighbor_solicit t l))
 body (neighbor_advert flags t l) = neighbor_bits flags ∷ 0 ∷ 0 ∷ 0 ∷ (octets_of t ++ tail (neighbor_advert flags t l))
 body (redirect t d l r) = 0 ∷ 0 ∷ 0 ∷ 0 ∷ (octets_of t ++ (octets_of d ++ tail (redirect t d l r)))
@@ -148,31 +141,30 @@ message_at first second (router_solicit l) c = record {
   tiling = tail_blocks (router_solicit l) c;
   content = (refl, sym (one_source l));
 }
-message_at first second (router_advert hops flags lifetime reachable retrans l m p) c =
-    let v : NdiscValue = router_advert hops flags lifetime reachable retrans l m p in
-    let last = of_router l m p in
+message_at first second (router_advert a) c =
+    let v : NdiscValue = router_advert a in
+    let last = of_router a.lladdr a.mtu a.prefix_info in
     record {
       options = read_options (options_of v);
       whole = record { fixed = omega arith; known = refl; whole = omega arith };
       tiling = tail_blocks v c;
-      content = (
-        record {
-          kind = refl;
-          hops_are = refl;
-          flags_are = sym c.0.1;
-          lifetime_is =
-              ap (λ (n : ℕ). 1000000 * n)
-              (sym (big_number-reads_back 2 (seconds_of lifetime) [] (omega (arith, c.0.2.0))));
-          reachable_is =
-              ap (λ (n : ℕ). 1000 * n)
-              (sym (big_number-reads_back 4 (millis_of reachable) [] (omega (arith, c.0.2.1))));
-          retrans_is =
-              ap (λ (n : ℕ). 1000 * n) (sym (big_number-reads_back 4 (millis_of retrans) [] (omega (arith, c.0.2.2))));
-        },
-        last.link,
-        last.mtu,
-        last.prefix_info,
-      );
+      content = record {
+        kind = refl;
+        hop_limit = refl;
+        flags = sym c.0.1;
+        router_lifetime =
+            ap (λ (n : ℕ). 1000000 * n)
+            (sym (big_number-reads_back 2 (seconds_of a.router_lifetime) [] (omega (arith, c.0.2.0))));
+        reachable_time =
+            ap (λ (n : ℕ). 1000 * n)
+            (sym (big_number-reads_back 4 (millis_of a.reachable_time) [] (omega (arith, c.0.2.1))));
+        retrans_time =
+            ap (λ (n : ℕ). 1000 * n)
+            (sym (big_number-reads_back 4 (millis_of a.retrans_time) [] (omega (arith, c.0.2.2))));
+        lladdr = last.link;
+        mtu = last.mtu;
+        prefix_info = last.prefix_info;
+      };
     }
 message_at first second (neighbor_solicit t l) c =
     let v : NdiscValue = neighbor_solicit t l in

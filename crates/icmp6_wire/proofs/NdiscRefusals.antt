@@ -2,7 +2,7 @@
 use Rattle.std.proofs.Common.{◌≡◌, ℕ, ◌+◌, ◌≤◌, true, List, [], ◌∷◌, ◌++◌, length, drop, sym, ap, ◌∙◌}
 use Rattle.std.proofs.Common.{arith, length-append}
 use Rattle.std.proofs.lemmas.List.{append-nil, append_assoc}
-use Rattle.opt_wire.specs.NdiscOptionRepr.{OptionValue}
+use Rattle.icmp6_wire.specs.Words.{OptionValue}
 use Rattle.icmp6_wire.specs.Icmpv6Packet.{message_in, header_len_in, payload_in, BeginsWhole}
 use Rattle.icmp6_wire.specs.Icmpv6Tables.{is_ndisc}
 use Rattle.icmp6_wire.specs.NdiscBlocks.{IsBlock, AreBlocks, ends, goes_on, skips}

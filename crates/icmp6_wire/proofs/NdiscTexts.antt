@@ -4,14 +4,10 @@ use Rattle.std.proofs.Common.{arith, length-append}
 use Rattle.std.specs.Prelude.{Option, None, Some}
 use Rattle.std.specs.List.{AllByRecursion}
 use Rattle.std.proofs.lemmas.List.{length-replicate}
-use Rattle.wirebase.specs.ByteWriter.{Sheet, put, put_all, be8, be16, be32, fields}
-use Rattle.wirebase.specs.Ipv6.{header_text}
-use Rattle.wirebase.specs.Ipv6Address.{octets_of}
-use Rattle.wirebase.specs.declared.ipv6.Ipv6Repr.{Ipv6Repr}
+use Rattle.icmp6_wire.specs.Words.{Sheet, put, put_all, be8, be16, be32, fields, header_text, octets_of, OptionValue}
+use Rattle.icmp6_wire.specs.Words.{units, padding, Ipv6Repr, PrefixInformation}
 use Rattle.wirebase.proofs.Chains.{put-fields}
 use Rattle.wirebase.proofs.Ipv6Header.{length-header_text}
-use Rattle.opt_wire.specs.NdiscOptionRepr.{OptionValue, units, padding}
-use Rattle.opt_wire.specs.declared.ndiscoption.repr.PrefixInformation.{PrefixInformation}
 use Rattle.opt_wire.proofs.NdiscOptionTexts.{prefix_text, redirected_text, mtu_text, length-link}
 use Rattle.icmp6_wire.specs.Ndisc.{NdiscValue, router_solicit, router_advert, neighbor_solicit, neighbor_advert}
 use Rattle.icmp6_wire.specs.Ndisc.{redirect}
@@ -55,7 +51,7 @@ length-header : (v : NdiscValue) (behind : List (List ℕ))
     → length (fields (header_fields v behind)) ≡ header_len v + length (fields behind)
 unfolding fields be8 be16 be32
 length-header (router_solicit l) behind = omega arith
-length-header (router_advert hops flags lifetime reachable retrans l m p) behind = omega arith
+length-header (router_advert a) behind = omega arith
 length-header (neighbor_solicit t l) behind = omega (arith, length-append (octets_of t) (fields behind), t.whole)
 length-header (neighbor_advert flags t l) behind = omega (arith, length-append (octets_of t) (fields behind), t.whole)
 length-header (redirect t d l r) behind =
@@ -78,8 +74,8 @@ length-options (o ∷ os) h =
 
 are_counted : (v : NdiscValue) → AreCounted (options_of v)
 are_counted (router_solicit l) = (length-source l, tt)
-are_counted (router_advert hops flags lifetime reachable retrans l m p) =
-    (length-source l, (length-mtu m, (length-prefix p, tt)))
+are_counted (router_advert a) =
+    (length-source a.lladdr, (length-mtu a.mtu, (length-prefix a.prefix_info, tt)))
 are_counted (neighbor_solicit t l) = (length-source l, tt)
 are_counted (neighbor_advert flags t l) = (length-target l, tt)
 are_counted (redirect t d l r) = (length-target l, (length-packet r, tt))

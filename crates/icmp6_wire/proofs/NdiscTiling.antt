@@ -5,13 +5,9 @@ use Rattle.std.specs.Prelude.{Option, None}
 use Rattle.std.specs.Option.{option_or}
 use Rattle.std.proofs.Math.ListN.{get_or-append}
 use Rattle.std.proofs.lemmas.List.{take_at, drop_at}
-use Rattle.wirebase.specs.Bytes.{byte_of}
-use Rattle.wirebase.specs.Icmp.{type_field}
-use Rattle.wirebase.specs.LastOf.{last_of, keep_all}
+use Rattle.icmp6_wire.specs.Words.{byte_of, type_field, last_of, keep_all, units_in, OptionValue, BeginsWith, Message}
 use Rattle.wirebase.proofs.LastOf.{kept}
 use Rattle.wirebase.proofs.Numbered.{number-case_in}
-use Rattle.opt_wire.specs.NdiscOption.{units_in}
-use Rattle.opt_wire.specs.NdiscOptionRepr.{OptionValue, BeginsWith}
 use Rattle.opt_wire.proofs.NdiscOptionGrammar.{one_option}
 use Rattle.icmp6_wire.specs.Icmpv6Packet.{message_in, BeginsWhole, payload_in}
 use Rattle.icmp6_wire.specs.Icmpv6Tables.{message_number, messages}
@@ -19,8 +15,6 @@ use Rattle.icmp6_wire.specs.Ndisc.{NdiscValue, IsContent, IsMessage}
 use Rattle.icmp6_wire.specs.NdiscBlocks.{IsBlock, AreBlocks, ends, goes_on, skips, source_in, target_in}
 use Rattle.icmp6_wire.specs.NdiscBlocks.{mtu_in, prefix_in, redirected_in}
 use Rattle.icmp6_wire.specs.NdiscOptionsSeen.{Kept, nothing, keep, Says, HasBlocks, Notes, noted, passed}
-use Rattle.icmp6_wire.specs.declared.icmpv6.tables.Message.{Message}
-use Rattle.icmp6_wire.specs.declared.icmpv6.tables.Message.TheVariants as message
 
 -- ---- blocks
 
@@ -134,7 +128,7 @@ said_packet s = said (λ j. j.redirected_hdr) redirected_in (λ j o. refl) refl 
 -- the number of the type that was read
 pub kind_read : (bytes : List ℕ) (m : Message) → message_in bytes ≡ m → byte_of type_field bytes ≡ message_number m
 kind_read bytes m is =
-    sym (number-case_in message_number message.Unknown (λ k. refl) messages (byte_of type_field bytes))
+    sym (number-case_in message_number Message.Unknown (λ k. refl) messages (byte_of type_field bytes))
     ∙ ap message_number is
 
 -- a message, of which this was kept of the blocks after its header

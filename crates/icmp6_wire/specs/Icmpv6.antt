@@ -2,20 +2,11 @@
 -- error is zero, the largest packet or the pointer; the header is followed by the IPv6 header that the error is about,
 -- and the data after that.
 use Rattle.std.specs.Prelude.{◌≡◌, ◌≢◌, ℕ, ◌+◌, ◌≤◌, ◌<◌, ◌^◌, min, true, List, [], ◌∷◌, length, drop, take}
-use Rattle.wirebase.specs.declared.capabilities.ChecksumCapabilities.{ChecksumCapabilities}
-use Rattle.wirebase.specs.declared.capabilities.Checksum.TheVariants.{Rx}
-use Rattle.wirebase.specs.Bytes.{Reaches, byte_of, number_of, over}
-use Rattle.wirebase.specs.ByteWriter.{be8, be16, be32, fields}
-use Rattle.wirebase.specs.Capabilities.{is_verified, is_computed, sealed_where}
-use Rattle.wirebase.specs.Checksum.{IsGood}
-use Rattle.wirebase.specs.Format.{Format, RoundTrips}
-use Rattle.wirebase.specs.Icmp.{type_field, code_field, checksum_field, header, data_in, IsEcho, echo_fields}
-use Rattle.wirebase.specs.Ip.{protocol_number, protocol_rows}
-use Rattle.wirebase.specs.Ipv6.{IsHeader, header_text}
-use Rattle.wirebase.specs.Numbered.{IsProper}
-use Rattle.wirebase.specs.declared.ip.IpProtocol.TheVariants as protocol
-use Rattle.wirebase.specs.declared.ipv6.address.Ipv6Address.{Ipv6Address}
-use Rattle.wirebase.specs.declared.ipv6.Ipv6Repr.{Ipv6Repr}
+use Rattle.icmp6_wire.specs.Words.{Reaches, byte_of, number_of, over, be8, be16, be32, fields, is_verified, is_computed}
+use Rattle.icmp6_wire.specs.Words.{sealed_where, IsGood, Format, RoundTrips, type_field, code_field, checksum_field}
+use Rattle.icmp6_wire.specs.Words.{header, data_in, IsEcho, echo_fields, protocol_number, protocol_rows, IsHeader}
+use Rattle.icmp6_wire.specs.Words.{header_text, IsProper, ChecksumCapabilities, Checksum, IpProtocol, Ipv6Address}
+use Rattle.icmp6_wire.specs.Words.{Ipv6Repr, DstUnreachable, ParamProblem, TimeExceeded}
 use Rattle.icmp6_wire.specs.Icmpv6Packet.{BeginsWhole, word_field, message_sum}
 use Rattle.icmp6_wire.specs.Icmpv6Tables.{unreachable_number, unreachable_rows, unreachable_of, param_problem_number}
 use Rattle.icmp6_wire.specs.Icmpv6Tables.{param_problem_rows, param_problem_of, time_exceeded_number}
@@ -25,13 +16,6 @@ use Rattle.icmp6_wire.specs.Mld.{MldValue}
 use Rattle.icmp6_wire.specs.Ndisc as neighbors
 use Rattle.icmp6_wire.specs.Ndisc.{NdiscValue}
 use Rattle.icmp6_wire.specs.declared.icmpv6.repr.Repr.{Repr}
-use Rattle.icmp6_wire.specs.declared.icmpv6.repr.Repr.TheVariants as repr
-use Rattle.icmp6_wire.specs.declared.icmpv6.tables.DstUnreachable.{DstUnreachable}
-use Rattle.icmp6_wire.specs.declared.icmpv6.tables.DstUnreachable.TheVariants as reasons
-use Rattle.icmp6_wire.specs.declared.icmpv6.tables.ParamProblem.{ParamProblem}
-use Rattle.icmp6_wire.specs.declared.icmpv6.tables.ParamProblem.TheVariants as problems
-use Rattle.icmp6_wire.specs.declared.icmpv6.tables.TimeExceeded.{TimeExceeded}
-use Rattle.icmp6_wire.specs.declared.icmpv6.tables.TimeExceeded.TheVariants as times
 
 -- A message by its content: an error with its reason, the largest packet, the time or the problem and its place, the
 -- header that it is about and the data after it; an echo with its identifier, its sequence number and its data; or a
@@ -47,14 +31,14 @@ pub data MessageValue : Type 0 where
   mld : MldValue → MessageValue
 
 abbrev pub value_of : Repr → MessageValue
-value_of (repr.DstUnreachable reason quoted d) = unreachable reason quoted d.now
-value_of (repr.PktTooBig mtu quoted d) = too_big mtu quoted d.now
-value_of (repr.TimeExceeded reason quoted d) = time_exceeded reason quoted d.now
-value_of (repr.ParamProblem reason pointer quoted d) = param_problem reason pointer quoted d.now
-value_of (repr.EchoRequest ident seq_no d) = echo_request ident seq_no d.now
-value_of (repr.EchoReply ident seq_no d) = echo_reply ident seq_no d.now
-value_of (repr.Ndisc m) = ndisc (neighbors.value_of m)
-value_of (repr.Mld m) = mld (listeners.value_of m)
+value_of (Repr.DstUnreachable reason quoted d) = unreachable reason quoted d.now
+value_of (Repr.PktTooBig mtu quoted d) = too_big mtu quoted d.now
+value_of (Repr.TimeExceeded reason quoted d) = time_exceeded reason quoted d.now
+value_of (Repr.ParamProblem reason pointer quoted d) = param_problem reason pointer quoted d.now
+value_of (Repr.EchoRequest ident seq_no d) = echo_request ident seq_no d.now
+value_of (Repr.EchoReply ident seq_no d) = echo_reply ident seq_no d.now
+value_of (Repr.Ndisc m) = ndisc (neighbors.value_of m)
+value_of (Repr.Mld m) = mld (listeners.value_of m)
 
 -- ---- the text
 
@@ -171,18 +155,18 @@ pub record IsMessage (capabilities : ChecksumCapabilities) (source destination :
 -- a header that its own text gives back
 abbrev pub CanQuote : Ipv6Repr → Type 0
 CanQuote quoted =
-    IsProper protocol.Unknown protocol_rows quoted.next_header × (protocol_number quoted.next_header < 256)
+    IsProper IpProtocol.Unknown protocol_rows quoted.next_header × (protocol_number quoted.next_header < 256)
     × (quoted.hop_limit < 256)
     × (quoted.payload_len < 2 ^ 16)
 
 abbrev pub IsCanonical : MessageValue → Type 0
 IsCanonical (unreachable reason quoted d) =
-    IsProper reasons.Unknown unreachable_rows reason × (unreachable_number reason < 256) × CanQuote quoted
+    IsProper DstUnreachable.Unknown unreachable_rows reason × (unreachable_number reason < 256) × CanQuote quoted
 IsCanonical (too_big mtu quoted d) = (mtu < 2 ^ 32) × CanQuote quoted
 IsCanonical (time_exceeded reason quoted d) =
-    IsProper times.Unknown time_exceeded_rows reason × (time_exceeded_number reason < 256) × CanQuote quoted
+    IsProper TimeExceeded.Unknown time_exceeded_rows reason × (time_exceeded_number reason < 256) × CanQuote quoted
 IsCanonical (param_problem reason pointer quoted d) =
-    IsProper problems.Unknown param_problem_rows reason × (param_problem_number reason < 256) × (pointer < 2 ^ 32)
+    IsProper ParamProblem.Unknown param_problem_rows reason × (param_problem_number reason < 256) × (pointer < 2 ^ 32)
     × CanQuote quoted
 IsCanonical (echo_request ident seq_no d) = (ident < 2 ^ 16) × (seq_no < 2 ^ 16) × (8 + length d ≤ 65535)
 IsCanonical (echo_reply ident seq_no d) = (ident < 2 ^ 16) × (seq_no < 2 ^ 16) × (8 + length d ≤ 65535)
@@ -191,7 +175,7 @@ IsCanonical (mld m) = listeners.IsCanonical m
 
 -- the checksum is filled where it is verified
 abbrev pub Fills : ChecksumCapabilities → Type 0
-Fills capabilities = capabilities.icmpv6 ≢ Rx
+Fills capabilities = capabilities.icmpv6 ≢ Checksum.Rx
 
 -- the normal form: of an error, the data that it quotes; of a message of multicast listener discovery or of neighbor
 -- discovery its own

@@ -2,14 +2,8 @@
 -- word after the checksum depends on the type.
 use Rattle.std.specs.Prelude.{◌≡◌, ℕ, ◌%◌, ◌^◌, ◌≤◌, Bool, true, false, List, [], ◌∷◌, length, drop}
 use Rattle.std.specs.Borrow.{Bor}
-use Rattle.wirebase.specs.Bytes.{Field, field, Reaches, byte_of, with_field}
-use Rattle.wirebase.specs.Icmp.{type_field, header}
-use Rattle.wirebase.specs.Ipv6.{pseudo_sum}
-use Rattle.wirebase.specs.declared.ip.IpProtocol.TheVariants.{Icmpv6}
-use Rattle.wirebase.specs.declared.ipv6.address.Ipv6Address.{Ipv6Address}
-use Rattle.icmp6_wire.specs.declared.icmpv6.packet.Packet.{Packet}
-use Rattle.icmp6_wire.specs.declared.icmpv6.tables.Message.{Message}
-use Rattle.icmp6_wire.specs.declared.icmpv6.tables.Message.TheVariants as message
+use Rattle.icmp6_wire.specs.Words.{Field, field, Reaches, Writes, byte_of, with_field, type_field, header, pseudo_sum}
+use Rattle.icmp6_wire.specs.Words.{IpProtocol, Ipv6Address, Packet, Message}
 use Rattle.icmp6_wire.specs.Icmpv6Tables.{message_of}
 
 -- the buffer of a view, and the view with another buffer
@@ -48,19 +42,19 @@ message_in bytes = message_of (byte_of type_field bytes)
 -- The bytes of the header of each type: the last field that every message of the type has (RFC 4443, RFC 4861 section
 -- 4, RFC 3810 section 5). Of a type that is not read here they are the type, the code and the checksum.
 abbrev pub header_len_of : Message → ℕ
-header_len_of message.DstUnreachable = 8
-header_len_of message.PktTooBig = 8
-header_len_of message.TimeExceeded = 8
-header_len_of message.ParamProblem = 8
-header_len_of message.EchoRequest = 8
-header_len_of message.EchoReply = 8
-header_len_of message.MldQuery = 28
-header_len_of message.RouterSolicit = 8
-header_len_of message.RouterAdvert = 16
-header_len_of message.NeighborSolicit = 24
-header_len_of message.NeighborAdvert = 24
-header_len_of message.Redirect = 40
-header_len_of message.MldReport = 8
+header_len_of Message.DstUnreachable = 8
+header_len_of Message.PktTooBig = 8
+header_len_of Message.TimeExceeded = 8
+header_len_of Message.ParamProblem = 8
+header_len_of Message.EchoRequest = 8
+header_len_of Message.EchoReply = 8
+header_len_of Message.MldQuery = 28
+header_len_of Message.RouterSolicit = 8
+header_len_of Message.RouterAdvert = 16
+header_len_of Message.NeighborSolicit = 24
+header_len_of Message.NeighborAdvert = 24
+header_len_of Message.Redirect = 40
+header_len_of Message.MldReport = 8
 header_len_of _ = 4
 
 abbrev pub header_len_in : List ℕ → ℕ
@@ -72,8 +66,8 @@ payload_in bytes = drop (header_len_in bytes) bytes
 
 -- the types whose messages are read here
 abbrev pub is_read : Message → Bool
-is_read message.RplControl = false
-is_read (message.Unknown n) = false
+is_read Message.RplControl = false
+is_read (Message.Unknown n) = false
 is_read _ = true
 
 -- the bytes begin with a header of a type that is read here
@@ -86,27 +80,27 @@ pub record BeginsWhole (bytes : List ℕ) : Type 0 where
 
 -- the bytes with all zero that is reserved in a message of this type
 abbrev pub cleared : Message → List ℕ → List ℕ
-cleared message.RouterSolicit bytes = with_field word_field (0 ∷ 0 ∷ 0 ∷ 0 ∷ []) bytes
-cleared message.NeighborSolicit bytes = with_field word_field (0 ∷ 0 ∷ 0 ∷ 0 ∷ []) bytes
-cleared message.NeighborAdvert bytes = with_field word_field (0 ∷ 0 ∷ 0 ∷ 0 ∷ []) bytes
-cleared message.Redirect bytes = with_field word_field (0 ∷ 0 ∷ 0 ∷ 0 ∷ []) bytes
-cleared message.MldQuery bytes =
+cleared Message.RouterSolicit bytes = with_field word_field (0 ∷ 0 ∷ 0 ∷ 0 ∷ []) bytes
+cleared Message.NeighborSolicit bytes = with_field word_field (0 ∷ 0 ∷ 0 ∷ 0 ∷ []) bytes
+cleared Message.NeighborAdvert bytes = with_field word_field (0 ∷ 0 ∷ 0 ∷ 0 ∷ []) bytes
+cleared Message.Redirect bytes = with_field word_field (0 ∷ 0 ∷ 0 ∷ 0 ∷ []) bytes
+cleared Message.MldQuery bytes =
     with_field sqrv_field (byte_of sqrv_field bytes % 16 ∷ []) (with_field query_reserved_field (0 ∷ 0 ∷ []) bytes)
-cleared message.MldReport bytes = with_field report_reserved_field (0 ∷ 0 ∷ []) bytes
+cleared Message.MldReport bytes = with_field report_reserved_field (0 ∷ 0 ∷ []) bytes
 cleared _ bytes = bytes
 
 -- the type has something reserved, and the bytes reach it
 abbrev pub CanClear : Message → List ℕ → Type 0
-CanClear message.RouterSolicit bytes = Reaches word_field bytes
-CanClear message.NeighborSolicit bytes = Reaches word_field bytes
-CanClear message.NeighborAdvert bytes = Reaches word_field bytes
-CanClear message.Redirect bytes = Reaches word_field bytes
-CanClear message.MldQuery bytes = Reaches sqrv_field bytes
-CanClear message.MldReport bytes = Reaches report_reserved_field bytes
+CanClear Message.RouterSolicit bytes = Reaches word_field bytes
+CanClear Message.NeighborSolicit bytes = Reaches word_field bytes
+CanClear Message.NeighborAdvert bytes = Reaches word_field bytes
+CanClear Message.Redirect bytes = Reaches word_field bytes
+CanClear Message.MldQuery bytes = Reaches sqrv_field bytes
+CanClear Message.MldReport bytes = Reaches report_reserved_field bytes
 CanClear _ bytes = ⊥
 
 -- ---- the checksum
 
 -- the sum of the pseudo header of a message of a given number of bytes (RFC 4443 section 2.3, RFC 8200 section 8.1)
 unfoldable pub message_sum : Ipv6Address → Ipv6Address → ℕ → ℕ
-message_sum source destination bytes = pseudo_sum source destination Icmpv6 (bytes % 2 ^ 32)
+message_sum source destination bytes = pseudo_sum source destination IpProtocol.Icmpv6 (bytes % 2 ^ 32)

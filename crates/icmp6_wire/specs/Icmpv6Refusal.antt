@@ -1,17 +1,12 @@
 -- Why bytes are not an ICMPv6 message: the first check that fails.
 use Rattle.std.specs.Prelude.{◌≡◌, ◌≢◌, ℕ, ◌≤◌, ◌<◌, ◌⊎◌, true, false, List, length}
-use Rattle.wirebase.specs.declared.capabilities.ChecksumCapabilities.{ChecksumCapabilities}
-use Rattle.wirebase.specs.declared.ipv6.address.Ipv6Address.{Ipv6Address}
-use Rattle.wirebase.specs.Bytes.{byte_of}
-use Rattle.wirebase.specs.Capabilities.{is_verified}
-use Rattle.wirebase.specs.Checksum.{IsGood}
-use Rattle.wirebase.specs.Icmp.{type_field, code_field}
+use Rattle.icmp6_wire.specs.Words.{byte_of, is_verified, IsGood, type_field, code_field, ChecksumCapabilities}
+use Rattle.icmp6_wire.specs.Words.{Ipv6Address}
 use Rattle.icmp6_wire.specs.Icmpv6.{MessageValue, IsContent, IsMessage}
 use Rattle.icmp6_wire.specs.Icmpv6Packet.{message_in, header_len_in, is_read, BeginsWhole, message_sum}
 use Rattle.icmp6_wire.specs.Icmpv6Tables.{message_of, is_ndisc}
 use Rattle.icmp6_wire.specs.NdiscRefusal as neighbors
 use Rattle.icmp6_wire.specs.declared.icmpv6.refusal.Refusal.{Refusal}
-use Rattle.icmp6_wire.specs.declared.icmpv6.refusal.Refusal.TheVariants as refusal
 
 -- the bytes are some message between these addresses
 abbrev pub IsRead : ChecksumCapabilities → Ipv6Address → Ipv6Address → List ℕ → Type 0
@@ -43,18 +38,18 @@ pub record HasOtherCode (bytes : List ℕ) (code : ℕ) : Type 0 where
 -- of the header of that type; the checksum is good where it is verified; an error quotes a whole header; the code is 0
 -- in a message of a type that has no other; and a message of neighbor discovery has whole options.
 abbrev pub Refuses : ChecksumCapabilities → Ipv6Address → Ipv6Address → List ℕ → Refusal → Type 0
-Refuses capabilities source destination bytes refusal.Short = length bytes < 8
-Refuses capabilities source destination bytes (refusal.UnknownType t) =
+Refuses capabilities source destination bytes Refusal.Short = length bytes < 8
+Refuses capabilities source destination bytes (Refusal.UnknownType t) =
     (8 ≤ length bytes) × (t ≡ byte_of type_field bytes) × (is_read (message_of t) ≡ false)
-Refuses capabilities source destination bytes refusal.Length =
+Refuses capabilities source destination bytes Refusal.Length =
     (8 ≤ length bytes) × (is_read (message_in bytes) ≡ true) × (length bytes < header_len_in bytes)
-Refuses capabilities source destination bytes refusal.Checksum =
+Refuses capabilities source destination bytes Refusal.Checksum =
     BeginsWhole bytes × (is_verified capabilities.icmpv6 ≡ true)
     × (IsGood bytes (message_sum source destination (length bytes)) → ⊥)
-Refuses capabilities source destination bytes refusal.Quote =
+Refuses capabilities source destination bytes Refusal.Quote =
     Passes capabilities source destination bytes × IsCutError bytes
-Refuses capabilities source destination bytes (refusal.Code code) =
+Refuses capabilities source destination bytes (Refusal.Code code) =
     Passes capabilities source destination bytes × HasOtherCode bytes code
-Refuses capabilities source destination bytes (refusal.Ndisc reason) =
+Refuses capabilities source destination bytes (Refusal.Ndisc reason) =
     Passes capabilities source destination bytes × (is_ndisc (message_in bytes) ≡ true)
     × (byte_of code_field bytes ≡ 0) × neighbors.Refuses bytes reason

@@ -17,3 +17,4 @@ pub mod NdiscOptionsSeen
 pub mod NdiscPacket
 pub mod NdiscRefusal
 pub mod NdiscTables
+pub mod Words

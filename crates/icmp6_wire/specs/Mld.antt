@@ -2,19 +2,13 @@
 use Rattle.std.specs.Prelude.{◌≡◌, ◌↔◌, ℕ, ◌+◌, ◌*◌, ◌^◌, ◌<◌, ◌≤◌, Bool, IsTrue, List, [], ◌∷◌, length, drop, map}
 use Rattle.std.specs.Prelude.{if◌then◌else◌}
 use Rattle.std.specs.List.{AllByRecursion}
-use Rattle.wirebase.specs.Bytes.{Reaches, byte_of, bytes_of, number_of, over}
-use Rattle.wirebase.specs.ByteWriter.{be8, be16, fields}
-use Rattle.wirebase.specs.Format.{Format, RoundTrips}
-use Rattle.wirebase.specs.Icmp.{type_field}
-use Rattle.wirebase.specs.Ipv6Address.{octets_of, IsMulticast}
-use Rattle.wirebase.specs.declared.ipv6.address.Ipv6Address.{Ipv6Address}
+use Rattle.icmp6_wire.specs.Words.{Reaches, byte_of, bytes_of, number_of, over, be8, be16, fields, Format, RoundTrips}
+use Rattle.icmp6_wire.specs.Words.{type_field, octets_of, IsMulticast, Ipv6Address, AddressRecordRepr}
 use Rattle.icmp6_wire.specs.MldPacket.{max_resp_code_field, mcast_addr_field, qqic_field, num_srcs_field}
 use Rattle.icmp6_wire.specs.MldPacket.{nr_mcast_addr_rcrds_field, s_flag_in, qrv_in}
 use Rattle.icmp6_wire.specs.MldRecord.{RecordValue, group_of}
 use Rattle.icmp6_wire.specs.MldRecord as a_record
-use Rattle.icmp6_wire.specs.declared.mld.record.AddressRecordRepr.{AddressRecordRepr}
 use Rattle.icmp6_wire.specs.declared.mld.repr.Repr.{Repr}
-use Rattle.icmp6_wire.specs.declared.mld.repr.Repr.TheVariants as repr
 
 -- A message by its content: a query with its response code, the group, its flag, the robustness variable, the
 -- interval's code, the number of sources and the bytes of them; a report with the number of its records and the bytes
@@ -28,9 +22,9 @@ abbrev pub values_of : List AddressRecordRepr → List RecordValue
 values_of rs = map a_record.value_of rs
 
 abbrev pub value_of : Repr → MldValue
-value_of (repr.Query code group flag qrv qqic sources d) = query code group flag qrv qqic sources d.now
-value_of (repr.Report count d) = report count d.now
-value_of (repr.ReportRecordReprs rs) = records (values_of rs.now)
+value_of (Repr.Query code group flag qrv qqic sources d) = query code group flag qrv qqic sources d.now
+value_of (Repr.Report count d) = report count d.now
+value_of (Repr.ReportRecordReprs rs) = records (values_of rs.now)
 
 -- ---- the text
 

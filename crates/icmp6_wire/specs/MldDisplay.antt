@@ -1,27 +1,19 @@
 -- The printed texts of messages of multicast listener discovery and their parts.
-use Rattle.std.specs.Prelude.{ℕ, Bool, List, [], ◌∷◌, ◌++◌, codes, decimal, flat_map, length}
-use Rattle.std.specs.Prelude.{if◌then◌else◌}
-use Rattle.wirebase.specs.Display.{pieces}
-use Rattle.wirebase.specs.Ipv6Address.{address_text}
-use Rattle.opt_wire.specs.Digits.{octets_text}
+use Rattle.std.specs.Prelude.{ℕ, List, [], ◌∷◌, ◌++◌, codes, decimal, flat_map, length}
+use Rattle.icmp6_wire.specs.Words.{pieces, truth_text, address_text, octets_text, RecordRefusal, RecordType}
 use Rattle.icmp6_wire.specs.Mld.{MldValue, query, report, records}
 use Rattle.icmp6_wire.specs.MldRecord.{RecordValue, address_record}
 use Rattle.icmp6_wire.specs.declared.mld.refusal.Refusal.{Refusal}
-use Rattle.icmp6_wire.specs.declared.mld.refusal.Refusal.TheVariants as refusal
-use Rattle.icmp6_wire.specs.declared.mld.refusal.RecordRefusal.{RecordRefusal}
-use Rattle.icmp6_wire.specs.declared.mld.refusal.RecordRefusal.TheVariants as record_refusal
-use Rattle.icmp6_wire.specs.declared.mld.tables.RecordType.{RecordType}
-use Rattle.icmp6_wire.specs.declared.mld.tables.RecordType.TheVariants as record_type
 
 -- the type of a record (RFC 3810 section 5.2.12)
 abbrev pub record_type_display : RecordType → List ℕ
-record_type_display record_type.ModeIsInclude = codes "MODE_IS_INCLUDE"
-record_type_display record_type.ModeIsExclude = codes "MODE_IS_EXCLUDE"
-record_type_display record_type.ChangeToInclude = codes "CHANGE_TO_INCLUDE_MODE"
-record_type_display record_type.ChangeToExclude = codes "CHANGE_TO_EXCLUDE_MODE"
-record_type_display record_type.AllowNewSources = codes "ALLOW_NEW_SOURCES"
-record_type_display record_type.BlockOldSources = codes "BLOCK_OLD_SOURCES"
-record_type_display (record_type.Unknown n) = pieces (codes "unknown " ∷ decimal n ∷ [])
+record_type_display RecordType.ModeIsInclude = codes "MODE_IS_INCLUDE"
+record_type_display RecordType.ModeIsExclude = codes "MODE_IS_EXCLUDE"
+record_type_display RecordType.ChangeToInclude = codes "CHANGE_TO_INCLUDE_MODE"
+record_type_display RecordType.ChangeToExclude = codes "CHANGE_TO_EXCLUDE_MODE"
+record_type_display RecordType.AllowNewSources = codes "ALLOW_NEW_SOURCES"
+record_type_display RecordType.BlockOldSources = codes "BLOCK_OLD_SOURCES"
+record_type_display (RecordType.Unknown n) = pieces (codes "unknown " ∷ decimal n ∷ [])
 
 -- a record: its fields, and the bytes of what follows them
 unfoldable pub record_display : RecordValue → List ℕ
@@ -35,10 +27,6 @@ record_display (address_record kind words sources group rest) =
 -- records after one another, each in parentheses
 abbrev pub records_display : List RecordValue → List ℕ
 records_display rs = flat_map (λ r. codes " (" ++ (record_display r ++ codes ")")) rs
-
--- a flag
-abbrev truth_text : Bool → List ℕ
-truth_text is = if is then codes "true" else codes "false"
 
 -- the fields of a query after its flag
 abbrev pub counts_display : ℕ → ℕ → ℕ → List ℕ → List ℕ
@@ -62,10 +50,10 @@ repr_display (records rs) =
 
 -- why octets are refused
 abbrev pub refusal_display : Refusal → List ℕ
-refusal_display refusal.Short = codes "fewer than 8 bytes"
-refusal_display (refusal.UnknownType t) = pieces (codes "type " ∷ decimal t ∷ codes " is not read" ∷ [])
-refusal_display refusal.Length = codes "fewer bytes than the header of its type"
+refusal_display Refusal.Short = codes "fewer than 8 bytes"
+refusal_display (Refusal.UnknownType t) = pieces (codes "type " ∷ decimal t ∷ codes " is not read" ∷ [])
+refusal_display Refusal.Length = codes "fewer bytes than the header of its type"
 
 abbrev pub record_refusal_display : RecordRefusal → List ℕ
-record_refusal_display record_refusal.Short = codes "fewer than 20 bytes"
-record_refusal_display record_refusal.Cut = codes "fewer bytes than its sources and its auxiliary data take"
+record_refusal_display RecordRefusal.Short = codes "fewer than 20 bytes"
+record_refusal_display RecordRefusal.Cut = codes "fewer bytes than its sources and its auxiliary data take"

@@ -3,15 +3,11 @@
 use Rattle.std.specs.Prelude.{◌≡◌, ℕ, zero, suc, ◌*◌, ◌/◌, ◌<◌, ◌⊎◌, min, nat_le, Bool, true, false, List}
 use Rattle.std.specs.Prelude.{[], ◌∷◌, ◌++◌, length, map, take, drop, Option, None, Some, Result, Ok, Err}
 use Rattle.std.specs.List.{AllByRecursion, concat}
-use Rattle.wirebase.specs.Ipv6Address.{octets_of}
-use Rattle.wirebase.specs.declared.ipv6.address.Ipv6Address.{Ipv6Address}
+use Rattle.icmp6_wire.specs.Words.{octets_of, Ipv6Address, AddressRecordRepr, RecordRefusal}
 use Rattle.icmp6_wire.specs.Mld.{MldValue, records}
 use Rattle.icmp6_wire.specs.MldRecord.{RecordValue, address_record, record_len_in, value_of, IsRecord}
 use Rattle.icmp6_wire.specs.MldRecord.{text as record_text}
 use Rattle.icmp6_wire.specs.MldRefusal.{RefusesRecord}
-use Rattle.icmp6_wire.specs.declared.mld.record.AddressRecordRepr.{AddressRecordRepr}
-use Rattle.icmp6_wire.specs.declared.mld.refusal.RecordRefusal.{RecordRefusal}
-use Rattle.icmp6_wire.specs.declared.mld.refusal.RecordRefusal.TheVariants as record_refusal
 
 -- ---- records
 
@@ -40,8 +36,8 @@ GivesRecord old (Some (Err refusal)) new = old ≡ Err refusal ∷ new
 
 -- the answers as they are computed, which the iterator's model needs; the reason depends on whether there are 20 bytes
 abbrev pub first_refusal : Bool → RecordRefusal
-first_refusal true = record_refusal.Cut
-first_refusal false = record_refusal.Short
+first_refusal true = RecordRefusal.Cut
+first_refusal false = RecordRefusal.Short
 
 abbrev pub after_record : Bool → ℕ → List ℕ → (List ℕ → List Answer) → List Answer
 after_record true len bytes go = Ok (take len bytes) ∷ go (drop len bytes)

@@ -23,7 +23,7 @@
 -- | records
 -- +- - - -
 use Rattle.std.specs.Prelude.{ℕ, ◌+◌, ◌*◌, ◌/◌, ◌%◌, ◌^◌, nat_lt, if◌then◌else◌, List}
-use Rattle.wirebase.specs.Bytes.{Field, field, byte_of}
+use Rattle.icmp6_wire.specs.Words.{Field, field, byte_of}
 use Rattle.icmp6_wire.specs.Icmpv6Packet.{sqrv_field}
 
 -- of a query

@@ -11,17 +11,10 @@
 -- +- - - -
 use Rattle.std.specs.Prelude.{◌≡◌, ℕ, ◌+◌, ◌*◌, ◌<◌, ◌^◌, List, [], ◌∷◌, length, drop}
 use Rattle.std.specs.Borrow.{Bor}
-use Rattle.wirebase.specs.Bytes.{Field, field, Reaches, bytes_of, byte_of, number_of, over}
-use Rattle.wirebase.specs.ByteWriter.{be8, be16, fields}
-use Rattle.wirebase.specs.Format.{Format, RoundTrips}
-use Rattle.wirebase.specs.Numbered.{IsProper}
-use Rattle.wirebase.specs.Ipv6Address.{octets_of, IsMulticast}
-use Rattle.wirebase.specs.declared.ipv6.address.Ipv6Address.{Ipv6Address}
+use Rattle.icmp6_wire.specs.Words.{Field, field, Reaches, Writes, bytes_of, byte_of, number_of, over, be8, be16, fields}
+use Rattle.icmp6_wire.specs.Words.{Format, RoundTrips, IsProper, octets_of, IsMulticast, Ipv6Address, AddressRecord}
+use Rattle.icmp6_wire.specs.Words.{AddressRecordRepr, RecordType}
 use Rattle.icmp6_wire.specs.MldTables.{record_type_number, record_type_rows, record_type_of}
-use Rattle.icmp6_wire.specs.declared.mld.record.AddressRecord.{AddressRecord}
-use Rattle.icmp6_wire.specs.declared.mld.record.AddressRecordRepr.{AddressRecordRepr}
-use Rattle.icmp6_wire.specs.declared.mld.tables.RecordType.{RecordType}
-use Rattle.icmp6_wire.specs.declared.mld.tables.RecordType.TheVariants as record_type
 
 -- the buffer of a view, and the view with another buffer
 abbrev pub inner : {T : Type 0} → AddressRecord T → T
@@ -90,7 +83,7 @@ IsRecord bytes (address_record kind words sources group rest) = IsFields bytes k
 -- a record that its own text gives back as its normal form
 abbrev pub IsCanonical : RecordValue → Type 0
 IsCanonical (address_record kind words sources group rest) =
-    IsProper record_type.Unknown record_type_rows kind × (record_type_number kind < 256) × (words < 256)
+    IsProper RecordType.Unknown record_type_rows kind × (record_type_number kind < 256) × (words < 256)
     × (sources < 2 ^ 16) × IsMulticast group
 
 -- the normal form: what follows the fields is not written

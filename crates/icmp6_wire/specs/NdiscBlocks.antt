@@ -1,10 +1,9 @@
 -- The options of a message of neighbor discovery: its payload is blocks one after another (RFC 4861 section 4.6), and a
 -- field is given by the last option of its kind.
 use Rattle.std.specs.Prelude.{◌≡◌, ℕ, ◌*◌, List, [], ◌∷◌, ◌++◌, length, Option, None, Some}
-use Rattle.wirebase.specs.declared.ipv6.Ipv6Repr.{Ipv6Repr}
-use Rattle.opt_wire.specs.NdiscOption.{units_in, BeginsWithBlock}
-use Rattle.opt_wire.specs.NdiscOptionRepr.{OptionValue, source, target, prefix_information, redirected, mtu, BeginsWith}
-use Rattle.opt_wire.specs.declared.ndiscoption.repr.PrefixInformation.{PrefixInformation}
+use Rattle.icmp6_wire.specs.Words.{units_in, BeginsWithBlock, OptionValue, source, target, prefix_information}
+use Rattle.icmp6_wire.specs.Words.{redirected, mtu}
+use Rattle.icmp6_wire.specs.Words.{BeginsWith, Ipv6Repr, PrefixInformation}
 
 -- a block: all the bytes that it counts, and no more
 pub record IsBlock (bytes : List ℕ) : Type 0 where

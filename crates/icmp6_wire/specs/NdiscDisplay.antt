@@ -1,20 +1,11 @@
 -- The printed texts of messages of neighbor discovery.
 use Rattle.std.specs.Prelude.{ℕ, List, [], ◌∷◌, codes, decimal, Option, None, Some}
-use Rattle.wirebase.specs.Display.{pieces}
-use Rattle.wirebase.specs.Duration.{duration_text}
-use Rattle.wirebase.specs.Ethernet.{hex_colons}
-use Rattle.wirebase.specs.Ipv6.{header_display}
-use Rattle.wirebase.specs.Ipv6Address.{address_text}
-use Rattle.wirebase.specs.declared.duration.Duration.{Duration}
-use Rattle.wirebase.specs.declared.ipv6.Ipv6Repr.{Ipv6Repr}
-use Rattle.opt_wire.specs.Digits.{octets_text}
-use Rattle.opt_wire.specs.NdiscOptionTables.{flag_bits, flags_text}
-use Rattle.opt_wire.specs.declared.ndiscoption.repr.PrefixInformation.{PrefixInformation}
+use Rattle.icmp6_wire.specs.Words.{pieces, duration_text, hex_colons, header_display, address_text, Duration, Ipv6Repr}
+use Rattle.icmp6_wire.specs.Words.{octets_text, flag_bits, flags_text, PrefixInformation}
 use Rattle.icmp6_wire.specs.Ndisc.{NdiscValue, router_solicit, router_advert, neighbor_solicit, neighbor_advert}
 use Rattle.icmp6_wire.specs.Ndisc.{redirect}
 use Rattle.icmp6_wire.specs.NdiscTables.{router_bits, neighbor_bits, router_flags_text, neighbor_flags_text}
 use Rattle.icmp6_wire.specs.declared.ndisc.refusal.Refusal.{Refusal}
-use Rattle.icmp6_wire.specs.declared.ndisc.refusal.Refusal.TheVariants as refusal
 
 -- the printed text of an optional field: nothing where it is absent
 unfoldable pub lladdr_display : Option (List ℕ) → List ℕ
@@ -57,11 +48,11 @@ options_display l m p = pieces (lladdr_display l ∷ mtu_display m ∷ prefix_di
 -- a message: its fields, flags by their names
 abbrev pub repr_display : NdiscValue → List ℕ
 repr_display (router_solicit l) = pieces (codes "NDISC router solicitation" ∷ lladdr_display l ∷ [])
-repr_display (router_advert hops flags lifetime reachable retrans l m p) =
-    pieces (codes "NDISC router advertisement hop_limit=" ∷ decimal hops
-    ∷ codes " flags=" ∷ router_flags_text (router_bits flags)
-    ∷ times_display lifetime reachable retrans
-    ∷ options_display l m p ∷ [])
+repr_display (router_advert a) =
+    pieces (codes "NDISC router advertisement hop_limit=" ∷ decimal a.hop_limit
+    ∷ codes " flags=" ∷ router_flags_text (router_bits a.flags)
+    ∷ times_display a.router_lifetime a.reachable_time a.retrans_time
+    ∷ options_display a.lladdr a.mtu a.prefix_info ∷ [])
 repr_display (neighbor_solicit t l) =
     pieces (codes "NDISC neighbor solicitation target_addr=" ∷ address_text t ∷ lladdr_display l ∷ [])
 repr_display (neighbor_advert flags t l) =
@@ -73,14 +64,14 @@ repr_display (redirect t d l r) =
 
 -- why octets are refused
 abbrev pub refusal_display : Refusal → List ℕ
-refusal_display refusal.Short = codes "fewer than 8 bytes"
-refusal_display (refusal.UnknownType t) = pieces (codes "type " ∷ decimal t ∷ codes " is not read" ∷ [])
-refusal_display refusal.Length = codes "fewer bytes than the header of its type"
-refusal_display (refusal.OptionCut kind place) =
+refusal_display Refusal.Short = codes "fewer than 8 bytes"
+refusal_display (Refusal.UnknownType t) = pieces (codes "type " ∷ decimal t ∷ codes " is not read" ∷ [])
+refusal_display Refusal.Length = codes "fewer bytes than the header of its type"
+refusal_display (Refusal.OptionCut kind place) =
     pieces (codes "the option of type " ∷ decimal kind ∷ codes " at byte " ∷ decimal place ∷ codes " is cut" ∷ [])
-refusal_display (refusal.OptionEmpty kind place) =
+refusal_display (Refusal.OptionEmpty kind place) =
     pieces (codes "the option of type " ∷ decimal kind ∷ codes " at byte " ∷ decimal place
     ∷ codes " has length 0" ∷ [])
-refusal_display (refusal.OptionLength kind units place) =
+refusal_display (Refusal.OptionLength kind units place) =
     pieces (codes "the option of type " ∷ decimal kind ∷ codes " at byte " ∷ decimal place
     ∷ codes " has length " ∷ decimal units ∷ codes ", too short for its type" ∷ [])

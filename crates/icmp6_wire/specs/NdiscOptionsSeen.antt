@@ -1,15 +1,9 @@
 -- A pass over the options of a message keeps the last option of each kind.
 use Rattle.std.specs.Prelude.{◌≡◌, ℕ, List, Option, None}
 use Rattle.std.specs.Option.{option_map, option_or}
-use Rattle.wirebase.specs.HardwareAddress.{raw_bytes}
-use Rattle.wirebase.specs.LastOf.{keep_all}
-use Rattle.wirebase.specs.declared.ethernet.RawHardwareAddress.{RawHardwareAddress}
-use Rattle.wirebase.specs.declared.ipv6.Ipv6Repr.{Ipv6Repr}
-use Rattle.opt_wire.specs.NdiscOptionRepr.{OptionValue, BeginsWith}
-use Rattle.opt_wire.specs.declared.ndiscoption.repr.PrefixInformation.{PrefixInformation}
-use Rattle.opt_wire.specs.declared.ndiscoption.repr.RedirectedHeader.{RedirectedHeader}
+use Rattle.icmp6_wire.specs.Words.{raw_bytes, keep_all, OptionValue, BeginsWith, RawHardwareAddress, Ipv6Repr}
+use Rattle.icmp6_wire.specs.Words.{PrefixInformation, RedirectedHeader, OptionsSeen}
 use Rattle.icmp6_wire.specs.NdiscBlocks.{AreBlocks, source_in, target_in, mtu_in, prefix_in, redirected_in}
-use Rattle.icmp6_wire.specs.declared.ndisc.options_seen.OptionsSeen.{OptionsSeen}
 
 pub record Kept : Type 0 where
   pub source : Option (List ℕ)

@@ -17,7 +17,7 @@
 -- +---------------------------------------------------------------+
 -- |        destination address of a redirect, 16 bytes            |
 -- +---------------------------------------------------------------+
-use Rattle.wirebase.specs.Bytes.{Field, field}
+use Rattle.icmp6_wire.specs.Words.{Field, field}
 
 abbrev pub hop_limit_field : Field
 hop_limit_field = field 4 5

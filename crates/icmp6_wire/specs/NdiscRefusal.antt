@@ -1,15 +1,12 @@
 -- Why bytes are not a message of neighbor discovery: the first check that fails.
 use Rattle.std.specs.Prelude.{◌≡◌, ℕ, ◌+◌, ◌*◌, ◌≤◌, ◌<◌, ◌⊎◌, true, false, List, [], ◌++◌, length}
-use Rattle.wirebase.specs.Bytes.{byte_of}
-use Rattle.wirebase.specs.Icmp.{type_field}
+use Rattle.icmp6_wire.specs.Words.{byte_of, type_field, units_in}
 use Rattle.opt_wire.specs.NdiscOption as option
-use Rattle.opt_wire.specs.NdiscOption.{units_in}
 use Rattle.icmp6_wire.specs.Icmpv6Packet.{message_in, header_len_in, payload_in, BeginsWhole}
 use Rattle.icmp6_wire.specs.Icmpv6Tables.{is_ndisc, message_of}
 use Rattle.icmp6_wire.specs.Ndisc.{NdiscValue, IsMessage}
 use Rattle.icmp6_wire.specs.NdiscBlocks.{IsBlock}
 use Rattle.icmp6_wire.specs.declared.ndisc.refusal.Refusal.{Refusal}
-use Rattle.icmp6_wire.specs.declared.ndisc.refusal.Refusal.TheVariants as refusal
 
 -- the bytes are some message
 abbrev pub IsRead : List ℕ → Type 0
@@ -56,12 +53,12 @@ pub record IsTooShort (rest : List ℕ) (kind units : ℕ) : Type 0 where
 -- the bytes of the header of that type; and whole options follow it. The first that is not whole is given by its type
 -- and its place, counted from the front of the message.
 abbrev pub Refuses : List ℕ → Refusal → Type 0
-Refuses bytes refusal.Short = length bytes < 8
-Refuses bytes (refusal.UnknownType t) =
+Refuses bytes Refusal.Short = length bytes < 8
+Refuses bytes (Refusal.UnknownType t) =
     (8 ≤ length bytes) × (t ≡ byte_of type_field bytes) × (is_ndisc (message_of t) ≡ false)
-Refuses bytes refusal.Length =
+Refuses bytes Refusal.Length =
     (8 ≤ length bytes) × (is_ndisc (message_in bytes) ≡ true) × (length bytes < header_len_in bytes)
-Refuses bytes (refusal.OptionCut kind place) = (rest : List ℕ) × AreWholeUpTo bytes place rest × IsCut rest kind
-Refuses bytes (refusal.OptionEmpty kind place) = (rest : List ℕ) × AreWholeUpTo bytes place rest × IsEmpty rest kind
-Refuses bytes (refusal.OptionLength kind units place) =
+Refuses bytes (Refusal.OptionCut kind place) = (rest : List ℕ) × AreWholeUpTo bytes place rest × IsCut rest kind
+Refuses bytes (Refusal.OptionEmpty kind place) = (rest : List ℕ) × AreWholeUpTo bytes place rest × IsEmpty rest kind
+Refuses bytes (Refusal.OptionLength kind units place) =
     (rest : List ℕ) × AreWholeUpTo bytes place rest × IsTooShort rest kind units

@@ -1,8 +1,7 @@
 -- The flags of router and neighbor advertisements (RFC 4861 sections 4.2 and 4.4).
 use Rattle.std.specs.Prelude.{ℕ, ◌==◌, if◌then◌else◌, List, [], ◌∷◌, codes}
 use Rattle.std.specs.Int.RustNames.{bit_and}
-use Rattle.icmp6_wire.specs.declared.ndisc.flags.NeighborFlags.{NeighborFlags}
-use Rattle.icmp6_wire.specs.declared.ndisc.flags.RouterFlags.{RouterFlags}
+use Rattle.icmp6_wire.specs.Words.{NeighborFlags, RouterFlags}
 
 -- each flag with its bit
 abbrev pub router_rows : List (List ℕ × ℕ)

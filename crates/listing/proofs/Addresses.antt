@@ -1,11 +1,9 @@
 -- Addresses with commas between them, and one that may be missing.
-use Rattle.std.proofs.Common.{◌≡◌, ℕ, ◌-◌, ◌≤◌, List, [], ◌∷◌, ◌++◌, length, get_or, take, drop, codes, refl, arith}
-use Rattle.std.proofs.lemmas.List.{take_all}
+use Rattle.listing.proofs.Words.{◌≡◌, ◌-◌, ◌≤◌, [], ◌∷◌, ◌++◌, Ipv4Address, List, ℕ, address_text, arith, codes, drop}
+use Rattle.listing.proofs.Words.{get_or, length, refl, take, take_all}
 use Rattle.std.specs.Option.{option_map}
 use Rattle.std.specs.Prelude.{flat_map, Option, None, Some}
 use Rattle.wirebase.specs.HardwareAddress.{ethernet_of}
-use Rattle.wirebase.specs.Ipv4.{address_text}
-use Rattle.wirebase.specs.declared.ipv4.Ipv4Address.{Ipv4Address}
 use Rattle.wirebase.specs.declared.ethernet.EthernetAddress.{EthernetAddress}
 use Rattle.listing.specs.Layout.{text_or_none}
 use Rattle.listing.specs.ListingDhcp.{addresses_text, hardware_text}

@@ -1,18 +1,14 @@
 -- The entries of a message in turn, and the whole message.
-use Rattle.std.proofs.Common.{◌≡◌, ℕ, Bool, true, false, List, [], ◌++◌, Option, None, Some, Result, Ok, Err}
-use Rattle.std.proofs.Common.{IfOk, IfSome, IsSome, refl, ap, sym, ◌∙◌, subst, append_assoc}
-use Rattle.std.proofs.lemmas.List.{append-nil}
+use Rattle.listing.proofs.Words.{◌≡◌, [], ◌++◌, ◌∙◌, Bool, Err, Gains, GainsSome, IfOk, IfSome, IsSome, List, None, Ok}
+use Rattle.listing.proofs.Words.{Option, Result, Section, Some, Unread, ℕ, all_of, ap, append-nil, append_assoc, false}
+use Rattle.listing.proofs.Words.{refl, subst, sym, true}
 use Rattle.std.specs.Option.{is_some}
 use Rattle.wirebase.specs.Bytes.{Reaches}
 use Rattle.dns_wire.specs.DnsPacket.{header}
-use Rattle.record_wire.specs.Entries.{EntryValue, Left, IsNext, IsBroken, RefusesEntry, section_at, all_of}
-use Rattle.record_wire.specs.declared.entries.Section.{Section}
+use Rattle.record_wire.specs.Entries.{EntryValue, Left, IsNext, IsBroken, RefusesEntry, section_at}
 use Rattle.listing.specs.ListingMessage.{header_listing, EntryPrints, EntriesPrint, is_listed, is_unread, MessagePrints}
 use Rattle.listing.specs.ListingMessage.{has_header, none_begins}
 use Rattle.listing.specs.ListingParts.{RefusesNext}
-use Rattle.listing.specs.Output.{Gains, GainsSome}
-use Rattle.listing.specs.declared.message.unread.Unread.{Unread}
-use Rattle.listing.specs.declared.message.unread.Unread.TheVariants as unread
 use Rattle.listing.proofs.Printing.{gains_none, gains_both}
 
 module _ (margin : List ℕ) (is_multicast : Bool) (message : List ℕ) where
@@ -45,7 +41,7 @@ module _ (margin : List ℕ) (is_multicast : Bool) (message : List ℕ) where
       rw (broken.ends, broken.taken) refl in
       nothing_more left all a b (Some why) so_far
       (subst (λ (w : Unread). EntriesPrint margin is_multicast message left [] (Some w))
-      (sym (is ∙ ap (λ (s : Section). unread.Entry s refusal) place))
+      (sym (is ∙ ap (λ (s : Section). Unread.Entry s refusal) place))
       (none_begins left after refusal broken
       (subst (λ (bytes : List ℕ). RefusesEntry (section_at left.ends left.taken) bytes refusal) broken.bytes
       (subst (λ (s : Section). RefusesEntry s after.bytes refusal) place refuses))))

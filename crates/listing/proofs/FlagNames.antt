@@ -1,9 +1,9 @@
 -- The names of flags, with commas between them and after them.
-use Rattle.std.proofs.Common.{◌≡◌, ℕ, ◌+◌, ◌-◌, ◌≤◌, Bool, true, false, cond, List, [], ◌∷◌, ◌++◌, length, take, codes}
-use Rattle.std.proofs.Common.{refl, sym, ap, ◌∙◌, arith, length-append, append_assoc, flat_map}
-use Rattle.std.proofs.lemmas.List.{length-take-le, take-take}
+use Rattle.listing.proofs.Words.{◌≡◌, ◌+◌, ◌-◌, ◌≤◌, [], ◌∷◌, ◌++◌, ◌∙◌, Bool, List, ℕ, ap, append_assoc, arith, codes}
+use Rattle.listing.proofs.Words.{cond, false, flat_map, if◌then◌else◌, length, length-append, length-take-le, refl, sym}
+use Rattle.listing.proofs.Words.{take, true}
+use Rattle.std.proofs.lemmas.List.{take-take}
 use Rattle.std.proofs.Math.Seq.{take-append_seam}
-use Rattle.std.specs.Prelude.{if◌then◌else◌}
 use Rattle.listing.specs.ListingMessage.{flag_names, has_bit, names_set, with_commas, flags_text}
 use Rattle.listing.specs.ListingParts.{each_behind}
 

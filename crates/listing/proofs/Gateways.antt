@@ -1,8 +1,6 @@
 -- IPv4 addresses as their octets with dots between them.
-use Rattle.std.proofs.Common.{◌≡◌, codes, decimal, append_assoc, append-nil}
-use Rattle.std.specs.List.{join_by}
-use Rattle.wirebase.specs.Ipv4.{address_text, octets_of}
-use Rattle.wirebase.specs.declared.ipv4.Ipv4Address.{Ipv4Address}
+use Rattle.listing.proofs.Words.{◌≡◌, Ipv4Address, address_text, append_assoc, codes, decimal, join_by, octets_of}
+use Rattle.std.proofs.Common.{append-nil}
 
 -- the text of an address is its octets with dots between them
 pub address_joined : (address : Ipv4Address) → address_text address ≡ join_by decimal (codes ".") (octets_of address)

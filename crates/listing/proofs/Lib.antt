@@ -1,16 +1,13 @@
 pub mod Addresses
-pub mod Digits
 pub mod Entries
 pub mod FlagNames
 pub mod Gateways
-pub mod HexBytes
 pub mod Lines
-pub mod Numbers
 pub mod OneLine
 pub mod Options
 pub mod Printing
 pub mod Reading
-pub mod Rooms
 pub mod Showing
 pub mod Walking
+pub mod Words
 pub mod ZoneTexts

@@ -1,9 +1,7 @@
 -- The first line of a text.
-use Rattle.std.proofs.Common.{◌≡◌, ℕ, zero, suc, ◌<◌, List, [], ◌∷◌, ◌++◌, length, take, drop, refl, ap}
-use Rattle.std.proofs.Common.{arith, append_assoc, ne_eqb}
-use Rattle.std.proofs.lemmas.Bool.{eq-eqb}
-use Rattle.std.specs.Prelude.{slice_index, codes}
-use Rattle.listing.specs.Indented.{before_first, lines_in, indented}
+use Rattle.listing.proofs.Words.{◌≡◌, ◌<◌, [], ◌∷◌, ◌++◌, List, ℕ, ap, append_assoc, arith, before_first, drop, eq-eqb}
+use Rattle.listing.proofs.Words.{indented, length, lines_in, ne_eqb, refl, slice_index, suc, take, zero}
+use Rattle.std.specs.Prelude.{codes}
 
 -- it ends after the first LF
 pub line_until : (text : List ℕ) (end : ℕ) → end < length text

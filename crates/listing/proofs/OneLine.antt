@@ -1,12 +1,13 @@
 -- Texts of one line, each of which is indented by itself.
-use Rattle.std.proofs.Common.{◌≡◌, ℕ, zero, suc, ◌+◌, ◌/◌, ◌%◌, ◌^◌, ◌<◌, List, [], ◌∷◌, ◌++◌}
-use Rattle.std.proofs.Common.{codes, decimal, refl, ap, ◌∙◌, arith, append_assoc, append-nil, ne_eqb}
+use Rattle.listing.proofs.Words.{◌≡◌, ◌+◌, ◌/◌, ◌%◌, ◌^◌, ◌<◌, [], ◌∷◌, ◌++◌, ◌∙◌, ◌==◌, List, ℕ, ap, append_assoc}
+use Rattle.listing.proofs.Words.{arith, before_first, codes, decimal, encode_lower, encode_with, field, if◌then◌else◌}
+use Rattle.listing.proofs.Words.{indented, line, lines_in, lower_digits, ne_eqb, not, octets_text, part_field, refl}
+use Rattle.listing.proofs.Words.{slice_index, suc, zero}
+use Rattle.std.proofs.Common.{append-nil}
 use Rattle.std.proofs.lemmas.Fmt.{decimal_by_steps}
 use Rattle.std.proofs.lemmas.List.Folds.{list_all-append}
-use Rattle.std.specs.Prelude.{true, false, not, ◌==◌, ◌&&◌, if◌then◌else◌, slice_index}
-use Rattle.hex.specs.Hex.{encode_lower, encode_with, lower_digits}
-use Rattle.listing.specs.Indented.{before_first, lines_in, indented, is_of_one_line}
-use Rattle.listing.specs.Layout.{line, field, part_field, octets_text}
+use Rattle.std.specs.Prelude.{true, false, ◌&&◌}
+use Rattle.listing.specs.Indented.{is_of_one_line}
 use Rattle.listing.specs.ListingIcmp4.{echo_listing}
 
 -- ---- which texts are of one line

@@ -1,11 +1,8 @@
 -- The lines of an OPT record.
-use Rattle.std.proofs.Common.{◌≡◌, List, ℕ, ◌++◌, Option, Result, Ok, Err, IfOk, sym, subst}
+use Rattle.listing.proofs.Words.{◌≡◌, ◌++◌, Err, Gains, GainsSome, IfOk, List, NameReads, Ok, Option, RecordValue}
+use Rattle.listing.proofs.Words.{Result, Unread, ℕ, options_listing, subst, sym, unread_option}
 use Rattle.record_wire.specs.Edns.{EdnsValue, IsEdns, Answer, Tile}
-use Rattle.record_wire.specs.Record.{RecordValue}
-use Rattle.listing.specs.ListingEdns.{OptPrints, says, sender_listing, options_listing, unread_option}
-use Rattle.listing.specs.ListingRecord.{NameReads}
-use Rattle.listing.specs.Output.{Gains, GainsSome}
-use Rattle.listing.specs.declared.message.unread.Unread.{Unread}
+use Rattle.listing.specs.ListingEdns.{OptPrints, says, sender_listing}
 use Rattle.listing.proofs.Printing.{gains_both}
 
 -- what it says of its sender, and then its options up to one that is cut

@@ -1,17 +1,45 @@
 -- What an output gains in several writes.
-use Rattle.std.proofs.Common.{◌≡◌, ℕ, ◌+◌, ◌<◌, List, [], ◌++◌, length, get_or, take, Option, Result, Ok, Err, OnOk}
-use Rattle.std.proofs.Common.{codes, refl, ap, inl, inr}
-use Rattle.std.proofs.lemmas.List.{append-nil, map-append, take_more}
-use Rattle.std.proofs.lemmas.Grind.{flat_map-append}
-use Rattle.std.specs.Prelude.{map, flat_map}
+use Rattle.listing.proofs.Words.{◌≡◌, ◌+◌, ◌<◌, [], ◌∷◌, ◌++◌, Err, Gains, GainsSome, IsListingOrRefused, List, Ok}
+use Rattle.listing.proofs.Words.{OnOk, Option, Result, ℕ, ap, append-nil, codes, flat_map-append, get_or, inl, inr}
+use Rattle.listing.proofs.Words.{length, line, map, refl, subst, take, take_more}
+use Rattle.std.proofs.lemmas.List.{map-append}
+use Rattle.std.specs.Prelude.{flat_map}
 use Rattle.std.proofs.KnownBytes.{Appends-nil, Appends-trans}
 use Rattle.std.specs.Io.KnownBytes.{Appends}
-use Rattle.listing.specs.Layout.{line, IsListingOrRefused}
-use Rattle.listing.specs.Output.{Gains, GainsSome}
+use Rattle.std.specs.Fmt.{WritesInCalls}
+use Rattle.std.specs.List.{FoldsTo, concat}
+use Rattle.wirebase.proofs.Sinks.{put_one}
 
 -- what was appended was gained
 pub gained : (a b : Option (List ℕ)) (text : List ℕ) → Appends a b text → Gains a b text
 gained a b text appends = record { appends = appends }
+
+-- texts that were put into a writer, and one of one call
+calls_append : {W : Type 0} (contents : W → Option (List ℕ)) (a b : W) (parts : List (List ℕ))
+    → FoldsTo (λ a text b. Appends (contents a) (contents b) text) a parts b
+    → Appends (contents a) (contents b) (concat parts)
+calls_append contents a b [] calls = subst (λ w. Appends (contents a) (contents w) []) calls (Appends-nil (contents a))
+calls_append contents a b (part ∷ parts) (next, first, more) =
+    Appends-trans (contents a) (contents next) (contents b) part (concat parts) first
+    (calls_append contents next b parts more)
+
+pub put : {W : Type 0} (contents : W → Option (List ℕ)) (a b : W) (text : List ℕ)
+    → WritesInCalls (λ a text b. Appends (contents a) (contents b) text) a text b
+    → Gains (contents a) (contents b) text
+put contents a b text calls =
+    record { appends = subst (Appends (contents a) (contents b)) calls.whole (calls_append contents a b calls.parts calls.calls) }
+
+pub put_on_ok : {W E : Type 0} (contents : W → Option (List ℕ)) (a b : W) (text : List ℕ) (r : Result (Unit {0}) E)
+    → OnOk r (WritesInCalls (λ a text b. Appends (contents a) (contents b) text) a text b)
+    → OnOk r (Gains (contents a) (contents b) text)
+put_on_ok contents a b text (Ok x) calls = put contents a b text calls
+put_on_ok contents a b text (Err e) calls = tt
+
+pub put_once : {W E : Type 0} (contents : W → Option (List ℕ)) (a b : W) (text : List ℕ) (r : Result (Unit {0}) E)
+    → OnOk r (Appends (contents a) (contents b) text)
+    → OnOk r (WritesInCalls (λ a text b. Appends (contents a) (contents b) text) a text b)
+put_once contents a b text (Ok x) appends = put_one (λ a text b. Appends (contents a) (contents b) text) a b text appends
+put_once contents a b text (Err e) appends = tt
 
 -- nothing is gained where nothing is written
 pub gains_none : (a : Option (List ℕ)) → Gains a a []

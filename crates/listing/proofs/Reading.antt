@@ -1,27 +1,22 @@
 -- Records that read, and records that do not.
-use Rattle.std.proofs.Common.{◌≡◌, ℕ, Bool, true, false, ◌&&◌, List, [], ◌∷◌, ◌++◌, Option, None, Some, codes}
-use Rattle.std.proofs.Common.{IfSome, IsSome, refl, sym, ◌∙◌, subst, arith}
+use Rattle.listing.proofs.Words.{◌≡◌, ◌&&◌, [], ◌∷◌, ◌++◌, ◌∙◌, Bool, Gains, GainsSome, IfSome, IsSome, List, NameReads}
+use Rattle.listing.proofs.Words.{None, Option, RecordValue, Section, Some, Unread, ℕ, arith, codes, false, refl, subst}
+use Rattle.listing.proofs.Words.{sym, true}
 use Rattle.record_wire.specs.NameDotted.{dotted_text, AreUsual}
 use Rattle.record_wire.specs.NameRefusal.{HasName}
 use Rattle.record_wire.specs.Multicast.{flushes}
 use Rattle.record_wire.specs.RData.{RDataValue, IsLaidOut}
-use Rattle.record_wire.specs.Record.{RecordValue}
 use Rattle.record_wire.specs.Names.{Names}
 use Rattle.record_wire.specs.Update.{IsDataOf}
-use Rattle.record_wire.specs.declared.entries.Section.{Section}
 use Rattle.record_wire.specs.declared.name.refusal.NameRefusal.{NameRefusal}
 use Rattle.record_wire.specs.declared.rdata.Layout.{Layout}
-use Rattle.record_wire.specs.declared.rdata.Layout.TheVariants as layout
-use Rattle.record_wire.specs.declared.text.refusal.TextRefusal.TheVariants as refusal
 use Rattle.record_wire.proofs.NameDotted.{usual_name}
 use Rattle.listing.specs.ListingParts.{LineShown, HasStrings, RefusesData}
-use Rattle.listing.specs.ListingRecord.{NameReads, record_class, line_end, record_front, record_line}
-use Rattle.listing.specs.ListingRecord.{RecordPrints, has, has_no_data, has_no_name_in_data}
+use Rattle.listing.specs.ListingRecord.{record_class, line_end, record_front, record_line, RecordPrints, has}
+use Rattle.listing.specs.ListingRecord.{has_no_data, has_no_name_in_data}
 use Rattle.record_wire.specs.ZoneText.{whole_name}
-use Rattle.listing.specs.Output.{Gains, GainsSome}
-use Rattle.listing.specs.declared.message.unread.Unread.{Unread}
-use Rattle.listing.specs.declared.message.unread.Unread.TheVariants as unread
 use Rattle.listing.proofs.Printing.{gains_both}
+use Rattle.record_wire.specs.declared.text.refusal.TextRefusal.{TextRefusal}
 
 -- a name that was read
 pub reads : (message bytes : List ℕ) (labels : List (List ℕ)) → Names message bytes labels
@@ -70,11 +65,11 @@ module _ (margin : List ℕ) (is_multicast : Bool) (message : List ℕ) (section
       → GainsSome a b (λ text.
       LineShown (record_front margin is_multicast section r owner) message value text (Some why))
       → GainsSome a b (λ text.
-      RecordPrints margin is_multicast message section r text (Some (unread.Record (refusal.DataName why))))
+      RecordPrints margin is_multicast message section r text (Some (Unread.Record (TextRefusal.DataName why))))
   record_unread a b why (text, (none, refused, empty), gains) = (
     text,
     subst (λ (t : List ℕ).
-        RecordPrints margin is_multicast message section r t (Some (unread.Record (refusal.DataName why)))) (sym empty)
+        RecordPrints margin is_multicast message section r t (Some (Unread.Record (TextRefusal.DataName why)))) (sym empty)
         (has_no_name_in_data owner value why name is none refused),
     gains,
   )
@@ -95,12 +90,12 @@ module _ (margin : List ℕ) (is_multicast : Bool) (message : List ℕ) (section
 -- data that are strings are whole strings
 pub has_strings : (layout : Layout) (bytes : List ℕ) (value : RDataValue) → IsLaidOut layout bytes value
     → HasStrings value
-has_strings layout.Ipv4 bytes value is = subst HasStrings (sym is.is) tt
-has_strings layout.Ipv6 bytes value is = subst HasStrings (sym is.is) tt
-has_strings layout.Name bytes value is = subst HasStrings (sym is.is) tt
-has_strings layout.Mail bytes value is = subst HasStrings (sym is.is) tt
-has_strings layout.Service bytes value is = subst HasStrings (sym is.is) tt
-has_strings layout.Authority bytes value is = subst HasStrings (sym is.is) tt
-has_strings layout.Strings bytes value is = subst HasStrings (sym is.is) is.are
-has_strings (layout.Fields form) bytes value is = subst HasStrings (sym is.2) tt
-has_strings layout.Opaque bytes value is = subst HasStrings (sym is) tt
+has_strings Layout.Ipv4 bytes value is = subst HasStrings (sym is.is) tt
+has_strings Layout.Ipv6 bytes value is = subst HasStrings (sym is.is) tt
+has_strings Layout.Name bytes value is = subst HasStrings (sym is.is) tt
+has_strings Layout.Mail bytes value is = subst HasStrings (sym is.is) tt
+has_strings Layout.Service bytes value is = subst HasStrings (sym is.is) tt
+has_strings Layout.Authority bytes value is = subst HasStrings (sym is.is) tt
+has_strings Layout.Strings bytes value is = subst HasStrings (sym is.is) is.are
+has_strings (Layout.Fields form) bytes value is = subst HasStrings (sym is.2) tt
+has_strings Layout.Opaque bytes value is = subst HasStrings (sym is) tt

@@ -1,8 +1,7 @@
 -- What is printed a part at a time: what an output gained so far goes on to a whole text by what is still to come.
-use Rattle.std.proofs.Common.{◌≡◌, ℕ, List, [], ◌++◌, Option, Result, Ok, Err, OnOk, sym, subst, append_assoc}
-use Rattle.std.proofs.lemmas.List.{append-nil}
+use Rattle.listing.proofs.Words.{◌≡◌, [], ◌++◌, Err, Gains, GainsSome, List, Ok, OnOk, Option, Result, ℕ, append-nil}
+use Rattle.listing.proofs.Words.{append_assoc, subst, sym}
 use Rattle.listing.proofs.Printing.{gains_none, gains_both}
-use Rattle.listing.specs.Output.{Gains, GainsSome}
 
 -- after what is done, each text of the rest makes a text of the whole
 abbrev pub GoesOn : (List ℕ → Type 0) → (List ℕ → Type 0) → List ℕ → Type 0

@@ -1,12 +1,10 @@
 -- What the walk over a name prints, an answer at a time.
-use Rattle.std.proofs.Common.{◌≡◌, ℕ, ◌<◌, List, [], ◌∷◌, ◌++◌, length, codes, Option, None, Some, Result, Ok, Err}
-use Rattle.std.proofs.Common.{refl, ap, arith}
+use Rattle.listing.proofs.Words.{◌≡◌, ◌<◌, [], ◌∷◌, ◌++◌, Err, List, None, Ok, Option, Result, Some, ℕ, answers_listing}
+use Rattle.listing.proofs.Words.{ap, arith, codes, field, length, line, octets_text, refl, slice_get}
 use Rattle.std.specs.Borrow.{Bor}
-use Rattle.std.specs.Prelude.{decimal, slice_get}
+use Rattle.std.specs.Prelude.{decimal}
 use Rattle.wirebase.specs.declared.error.Error.{Error}
 use Rattle.dns_wire.specs.DnsNameWalk.{Coming, Walk, GivesFirst, answer_of}
-use Rattle.listing.specs.Layout.{line, field, octets_text}
-use Rattle.listing.specs.ListingDns.{answers_listing}
 
 -- the first of the answers, by the result of a call
 first_listing : (ahead : List Coming) (result : Option (Result (Bor (List ℕ)) Error)) (steps : ℕ)

@@ -1,24 +1,19 @@
 -- The parts of a record in a zone file.
-use Rattle.std.proofs.Common.{◌≡◌, ℕ, ◌+◌, ◌<◌, ◌≤◌, Bool, true, false, cond, leb, List, [], ◌∷◌, ◌++◌, length}
-use Rattle.std.proofs.Common.{take, drop}
-use Rattle.std.proofs.Common.{Option, None, Some, codes, refl, sym, ap, ◌∙◌, subst, arith, length-append, length-drop}
-use Rattle.std.proofs.Common.{append_assoc, flat_map, add-one, drop-cons}
-use Rattle.std.proofs.Common.{◌&&◌, not, ◌/◌, ◌%◌}
-use Rattle.std.specs.Prelude.{slice_index}
+use Rattle.listing.proofs.Words.{◌≡◌, ◌+◌, ◌<◌, ◌≤◌, [], ◌∷◌, ◌++◌, ◌∙◌, ◌&&◌, ◌/◌, ◌%◌, AreStrings, Bool, List, None}
+use Rattle.listing.proofs.Words.{Option, Some, StringsRead, ℕ, add-one, ap, append_assoc, arith, codes, cond, drop}
+use Rattle.listing.proofs.Words.{drop-cons, false, flat_map, flat_map-append, leb, length, length-append, length-drop}
+use Rattle.listing.proofs.Words.{length-take-le, refl, slice_index, string_character, string_text, subst, sym, take}
+use Rattle.listing.proofs.Words.{take_all, take_more, true, wire, word, append-nil, decimal, octets_text}
+use Rattle.std.proofs.Common.{not}
 use Rattle.std.proofs.lemmas.Fmt.{decimal_digit}
-use Rattle.std.proofs.lemmas.List.{take_more}
 use Rattle.std.proofs.lemmas.Bool.{leb-true, leb-false}
-use Rattle.std.proofs.lemmas.List.{take-append-drop, take_all, length-take-le}
-use Rattle.std.proofs.lemmas.Grind.{flat_map-append}
+use Rattle.std.proofs.lemmas.List.{take-append-drop}
 use Rattle.dns_wire.specs.DnsName.{written}
-use Rattle.record_wire.specs.Labels.{wire}
 use Rattle.record_wire.specs.NameText.{name_text}
-use Rattle.record_wire.specs.RData.{AreStrings}
 use Rattle.record_wire.proofs.RDataParts.{string_first}
 use Rattle.record_wire.specs.Strings.{first_string}
-use Rattle.record_wire.specs.ZoneText.{word, has_meaning, is_itself, string_character, string_text}
+use Rattle.record_wire.specs.ZoneText.{has_meaning, is_itself, generic_text}
 use Rattle.record_wire.proofs.RecordTexts.{itself_text, hidden}
-use Rattle.listing.specs.ListingRecord.{StringsRead}
 
 -- ---- strings
 
@@ -129,3 +124,17 @@ itself_more string len h e plain =
     (ap (λ front. front ++ flat_map string_character (slice_index string len ∷ [])) plain
     ∙ ap (λ more. take len string ++ more)
     (ap (λ one. one ++ []) (itself_text (slice_index string len) e)))
+
+-- ---- data of any type, each word after a space
+
+pub generic_none : (bytes : List ℕ) → length bytes ≡ 0
+    → word (generic_text bytes) ≡ word (codes "\\#") ++ word (decimal 0)
+unfolding word
+generic_none [] none = ap (λ (l : List ℕ). 32 ∷ 92 ∷ 35 ∷ 32 ∷ l) (append-nil (decimal 0))
+generic_none (byte ∷ rest) none = absurd (omega (arith, none))
+
+pub generic_some : (bytes : List ℕ) → (length bytes ≡ 0 → ⊥)
+    → word (generic_text bytes) ≡ word (codes "\\#") ++ word (decimal (length bytes)) ++ word (octets_text bytes)
+unfolding word
+generic_some [] some = absurd (some refl)
+generic_some (byte ∷ rest) some = refl

@@ -1,5 +1,5 @@
 -- Indented texts.
-use Rattle.std.specs.Prelude.{ℕ, ◌==◌, not, Bool, if◌then◌else◌, List, [], ◌∷◌, ◌++◌, codes, flat_map}
+use Rattle.std.specs.Prelude.{◌==◌, [], ◌∷◌, ◌++◌, Bool, List, ℕ, codes, flat_map, if◌then◌else◌, not}
 use Rattle.std.specs.List.{list_all}
 
 -- an octet before the first of some lines

@@ -1,9 +1,7 @@
 -- How the program lays out what it prints: lines and fields, and the values after a field's name.
-use Rattle.std.specs.Prelude.{◌≡◌, ℕ, ◌⊎◌, Bool, if◌then◌else◌, List, [], ◌∷◌, ◌++◌, Option, None, Some, codes}
-use Rattle.std.specs.Prelude.{decimal}
-use Rattle.hex.specs.Hex.{encode_lower}
+use Rattle.std.specs.Prelude.{◌≡◌, ◌⊎◌, [], ◌∷◌, ◌++◌, List, None, Option, Some, ℕ, codes, decimal}
+use Rattle.listing.specs.Words.{Duration}
 use Rattle.wirebase.specs.Duration.{millis_of}
-use Rattle.wirebase.specs.declared.duration.Duration.{Duration}
 
 -- ---- lines and fields
 
@@ -21,18 +19,9 @@ part_field part name value = part ++ field name value
 
 -- ---- values: numbers in decimal digits, IPv4 addresses with dots, other addresses as octets, and names as they are
 
--- octets: two lower-case hexadecimal digits each, or `-` for none
-abbrev pub octets_text : List ℕ → List ℕ
-octets_text [] = codes "-"
-octets_text (octet ∷ rest) = encode_lower (octet ∷ rest)
-
 -- a time: its whole milliseconds
 abbrev pub millis_text : Duration → List ℕ
 millis_text time = decimal (millis_of time)
-
--- a truth value
-abbrev pub truth_text : Bool → List ℕ
-truth_text is = if is then codes "true" else codes "false"
 
 -- what may be missing: `none`
 abbrev pub text_or_none : {V : Type 0} → (V → List ℕ) → Option V → List ℕ

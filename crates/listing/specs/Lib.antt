@@ -1,5 +1,3 @@
-pub mod Digits
-pub mod EndpointText
 pub mod Indented
 pub mod Layout
 pub mod ListingDhcp
@@ -23,3 +21,4 @@ pub mod ListingUnread
 pub mod Output
 pub mod Page
 pub mod Ports
+pub mod Words

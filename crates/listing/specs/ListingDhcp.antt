@@ -1,11 +1,11 @@
 -- What a DHCP packet prints: its fields in turn.
-use Rattle.std.specs.Prelude.{ℕ, List, [], ◌∷◌, ◌++◌, flat_map, codes, decimal}
+use Rattle.std.specs.Prelude.{[], ◌∷◌, ◌++◌, List, ℕ, codes, decimal, flat_map}
+use Rattle.listing.specs.Words.{address_text, octets_text, truth_text}
 use Rattle.wirebase.specs.Ethernet.{Ethernet, octets_of}
-use Rattle.wirebase.specs.Ipv4.{address_text}
 use Rattle.wirebase.specs.declared.ipv4.Ipv4Address.{Ipv4Address}
 use Rattle.dhcp_wire.specs.Dhcpv4.{Value, IsPacket}
 use Rattle.dhcp_wire.specs.Dhcpv4Tables.{message_number}
-use Rattle.listing.specs.Layout.{field, octets_text, truth_text, text_or_none, IsListingOrRefused}
+use Rattle.listing.specs.Layout.{field, text_or_none, IsListingOrRefused}
 
 -- an address of hardware: its octets
 abbrev pub hardware_text : Ethernet → List ℕ

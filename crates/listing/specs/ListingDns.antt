@@ -1,9 +1,9 @@
 -- What a question of DNS prints, and the walk over a name.
-use Rattle.std.specs.Prelude.{◌≡◌, ℕ, List, [], ◌∷◌, ◌++◌, codes, decimal, drop, length}
+use Rattle.std.specs.Prelude.{◌≡◌, [], ◌∷◌, ◌++◌, List, ℕ, codes, decimal, drop, length}
+use Rattle.listing.specs.Words.{octets_text, type_number}
 use Rattle.dns_wire.specs.DnsNameWalk.{Answer, label, fault, ending, Coming, Walk, IsWalkOver}
 use Rattle.dns_wire.specs.DnsQuestion.{IsQuestion, QuestionValue}
-use Rattle.dns_wire.specs.DnsTables.{type_number}
-use Rattle.listing.specs.Layout.{line, field, octets_text, IsListingOrRefused}
+use Rattle.listing.specs.Layout.{line, field, IsListingOrRefused}
 
 -- a question, and the number of octets after it
 abbrev pub question_listing : QuestionValue × List ℕ → List ℕ

@@ -1,15 +1,9 @@
 -- What an OPT record prints (RFC 6891 section 6.1): what it says of its sender, and options.
-use Rattle.std.specs.Prelude.{ℕ, List, [], ◌∷◌, ◌++◌, Option, None, Some, Ok, Err, codes, decimal}
+use Rattle.std.specs.Prelude.{[], ◌∷◌, ◌++◌, Err, List, None, Ok, Option, Some, ℕ, codes, decimal}
+use Rattle.listing.specs.Words.{NameRefusal, RecordValue, RefusesName, TextRefusal, Unread, octets_text, word}
 use Rattle.record_wire.specs.Edns.{EdnsValue, IsEdns, OptionValue, Answer, Tile}
-use Rattle.record_wire.specs.NameRefusal.{RefusesName}
-use Rattle.record_wire.specs.Record.{RecordValue}
-use Rattle.listing.specs.Layout.{part_field, octets_text}
+use Rattle.listing.specs.Layout.{part_field}
 use Rattle.listing.specs.ListingRecord.{NameReads}
-use Rattle.record_wire.specs.ZoneText.{word}
-use Rattle.record_wire.specs.declared.name.refusal.NameRefusal.{NameRefusal}
-use Rattle.record_wire.specs.declared.text.refusal.TextRefusal.TheVariants as refusal
-use Rattle.listing.specs.declared.message.unread.Unread.{Unread}
-use Rattle.listing.specs.declared.message.unread.Unread.TheVariants as unread
 
 -- ---- lines
 
@@ -42,7 +36,7 @@ sender_listing margin edns =
 abbrev pub unread_option : List Answer → Option Unread
 unread_option [] = None
 unread_option (Ok option ∷ answers) = unread_option answers
-unread_option (Err why ∷ answers) = Some (unread.Option why)
+unread_option (Err why ∷ answers) = Some (Unread.Option why)
 
 -- An OPT record, which says this, prints its lines where its name reads, up to an option that is cut, and else nothing.
 pub data OptPrints (margin message : List ℕ) (r : RecordValue) : List ℕ → Option Unread → Type 0 where
@@ -51,4 +45,4 @@ pub data OptPrints (margin message : List ℕ) (r : RecordValue) : List ℕ → 
       → OptPrints margin message r (sender_listing margin edns ++ options_listing margin answers)
       (unread_option answers)
   says_for_no_name : (why : NameRefusal) → ((owner : List ℕ) → NameReads message r.name owner → ⊥)
-      → RefusesName r.name message why → OptPrints margin message r [] (Some (unread.Record (refusal.Owner why)))
+      → RefusesName r.name message why → OptPrints margin message r [] (Some (Unread.Record (TextRefusal.Owner why)))

@@ -1,10 +1,11 @@
 -- What the options of a hop-by-hop header print, each after the other.
-use Rattle.std.specs.Prelude.{ℕ, List, ◌++◌, flat_map, codes, decimal}
+use Rattle.std.specs.Prelude.{◌++◌, List, ℕ, codes, decimal, flat_map}
+use Rattle.listing.specs.Words.{octets_text}
 use Rattle.wirebase.specs.declared.config.TheConstants.{IPV6_HBH_MAX_OPTIONS}
 use Rattle.opt_wire.specs.Ipv6Hbh.{IsHeader}
 use Rattle.opt_wire.specs.Ipv6Option.{OptionValue, pad1, pad_n, router_alert, unknown}
 use Rattle.opt_wire.specs.Ipv6OptionTables.{type_number, alert_number}
-use Rattle.listing.specs.Layout.{line, field, octets_text, IsListingOrRefused}
+use Rattle.listing.specs.Layout.{line, field, IsListingOrRefused}
 
 abbrev pub option_listing : OptionValue → List ℕ
 option_listing pad1 = line (codes "Pad1")

@@ -1,13 +1,10 @@
 -- What an ICMPv4 message prints.
-use Rattle.std.specs.Prelude.{ℕ, List, ◌++◌, codes, decimal}
-use Rattle.wirebase.specs.Capabilities.{all_of}
-use Rattle.wirebase.specs.Ip.{protocol_number}
-use Rattle.wirebase.specs.Ipv4.{address_text}
-use Rattle.wirebase.specs.declared.capabilities.Checksum.TheVariants.{Both}
+use Rattle.std.specs.Prelude.{◌++◌, List, ℕ, codes, decimal}
+use Rattle.listing.specs.Words.{Checksum, address_text, all_of, octets_text, protocol_number}
 use Rattle.wirebase.specs.declared.ipv4.Ipv4Repr.{Ipv4Repr}
 use Rattle.icmp4_wire.specs.Icmpv4.{IsMessage, MessageValue, echo_request, echo_reply, unreachable, time_exceeded}
 use Rattle.icmp4_wire.specs.Icmpv4Tables.{unreachable_number, time_exceeded_number}
-use Rattle.listing.specs.Layout.{line, field, part_field, octets_text, IsListingOrRefused}
+use Rattle.listing.specs.Layout.{line, field, part_field, IsListingOrRefused}
 
 abbrev pub echo_listing : List ℕ → ℕ → ℕ → List ℕ → List ℕ
 echo_listing name ident seq_no d =
@@ -40,4 +37,4 @@ icmp4_listing (time_exceeded reason quoted d) =
     error_listing (codes "TimeExceeded") (time_exceeded_number reason) quoted d
 
 abbrev pub Icmp4Prints : List ℕ → List ℕ → Type 0
-Icmp4Prints octets = IsListingOrRefused (IsMessage (all_of Both) octets) icmp4_listing
+Icmp4Prints octets = IsListingOrRefused (IsMessage (all_of Checksum.Both) octets) icmp4_listing

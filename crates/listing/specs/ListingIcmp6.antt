@@ -1,14 +1,10 @@
 -- What an ICMPv6 message prints.
-use Rattle.std.specs.Prelude.{◌≡◌, ℕ, List, ◌++◌, codes, decimal}
-use Rattle.wirebase.specs.Capabilities.{all_of}
-use Rattle.wirebase.specs.Ipv6Address.{octets_of}
-use Rattle.wirebase.specs.declared.capabilities.Checksum.TheVariants.{Both}
-use Rattle.wirebase.specs.declared.ipv6.address.Ipv6Address.{Ipv6Address}
-use Rattle.wirebase.specs.declared.ipv6.Ipv6Repr.{Ipv6Repr}
+use Rattle.std.specs.Prelude.{◌≡◌, ◌++◌, List, ℕ, codes, decimal}
+use Rattle.listing.specs.Words.{Checksum, Ipv6Address, Ipv6Repr, all_of, octets_of, octets_text}
 use Rattle.icmp6_wire.specs.Icmpv6.{IsMessage, MessageValue, unreachable, too_big, time_exceeded, param_problem}
 use Rattle.icmp6_wire.specs.Icmpv6.{echo_request, echo_reply, mld, ndisc}
 use Rattle.icmp6_wire.specs.Icmpv6Tables.{unreachable_number, param_problem_number, time_exceeded_number}
-use Rattle.listing.specs.Layout.{line, field, octets_text, IsListingOrRefused}
+use Rattle.listing.specs.Layout.{line, field, IsListingOrRefused}
 use Rattle.listing.specs.ListingIcmp4.{echo_listing}
 use Rattle.listing.specs.ListingIpv6.{header_listing}
 use Rattle.listing.specs.ListingMld.{mld_listing}
@@ -48,4 +44,4 @@ icmp6_listing (mld message) = mld_listing message
 abbrev pub Icmp6Prints : List ℕ → List ℕ → List ℕ → List ℕ → Type 0
 Icmp6Prints source destination octets text =
     (from : Ipv6Address) × (to : Ipv6Address) × (octets_of from ≡ source) × (octets_of to ≡ destination)
-    × IsListingOrRefused (IsMessage (all_of Both) from to octets) icmp6_listing text
+    × IsListingOrRefused (IsMessage (all_of Checksum.Both) from to octets) icmp6_listing text

@@ -1,10 +1,7 @@
 -- How an IPv6 header is listed as the part of a value.
-use Rattle.std.specs.Prelude.{ℕ, List, ◌++◌, codes, decimal}
-use Rattle.wirebase.specs.Ip.{protocol_number}
-use Rattle.wirebase.specs.Ipv6Address.{octets_of}
-use Rattle.wirebase.specs.declared.ipv6.address.Ipv6Address.{Ipv6Address}
-use Rattle.wirebase.specs.declared.ipv6.Ipv6Repr.{Ipv6Repr}
-use Rattle.listing.specs.Layout.{part_field, octets_text}
+use Rattle.std.specs.Prelude.{◌++◌, List, ℕ, codes, decimal}
+use Rattle.listing.specs.Words.{Ipv6Address, Ipv6Repr, octets_of, octets_text, protocol_number}
+use Rattle.listing.specs.Layout.{part_field}
 
 -- an address: its octets
 abbrev pub address_text : Ipv6Address → List ℕ

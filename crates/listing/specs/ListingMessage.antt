@@ -1,20 +1,15 @@
 -- What a whole DNS message prints (RFC 1035 section 4.1): the fields of its header, and then each question and record
 -- in turn, up to the last, or to one that can't be read.
-use Rattle.std.specs.Prelude.{◌≡◌, ℕ, ◌/◌, ◌%◌, ◌^◌, ◌<◌, ◌==◌, Bool, true, false, if◌then◌else◌, List, [], ◌∷◌, ◌++◌}
-use Rattle.std.specs.Prelude.{length, flat_map, Option, None, Some, codes, decimal}
-use Rattle.wirebase.specs.Bytes.{Reaches, number_of}
+use Rattle.std.specs.Prelude.{◌≡◌, ◌/◌, ◌%◌, ◌^◌, ◌<◌, ◌==◌, [], ◌∷◌, ◌++◌, Bool, List, None, Option, Some, ℕ, codes}
+use Rattle.std.specs.Prelude.{decimal, false, flat_map, if◌then◌else◌, length, true}
+use Rattle.listing.specs.Words.{Left, RecordValue, Refusal, RefusesEntry, Section, Unread, number_of, section_at}
+use Rattle.wirebase.specs.Bytes.{Reaches}
 use Rattle.dns_wire.specs.DnsPacket.{id_field, flags_field, header, opcode_in, rcode_in}
-use Rattle.record_wire.specs.Entries.{EntryValue, question, record_in, Left, all_of, section_at, IsNext, IsBroken}
-use Rattle.record_wire.specs.Entries.{RefusesEntry}
+use Rattle.record_wire.specs.Entries.{EntryValue, question, record_in, all_of, IsNext, IsBroken}
 use Rattle.record_wire.specs.Multicast.{is_opt}
-use Rattle.record_wire.specs.Record.{RecordValue}
-use Rattle.record_wire.specs.declared.entries.Section.{Section}
-use Rattle.record_wire.specs.declared.refusal.Refusal.{Refusal}
 use Rattle.listing.specs.Layout.{part_field}
 use Rattle.listing.specs.ListingEdns.{OptPrints}
 use Rattle.listing.specs.ListingRecord.{QuestionPrints, RecordPrints}
-use Rattle.listing.specs.declared.message.unread.Unread.{Unread}
-use Rattle.listing.specs.declared.message.unread.Unread.TheVariants as unread
 
 -- ---- the header
 
@@ -67,7 +62,7 @@ pub data EntriesPrint (margin : List ℕ) (is_multicast : Bool) (message : List 
   none_left : (left : Left) → left.taken ≡ left.ends.all → EntriesPrint margin is_multicast message left [] None
   none_begins : (left after : Left) (why : Refusal) → IsBroken left after
       → RefusesEntry (section_at left.ends left.taken) left.bytes why
-      → EntriesPrint margin is_multicast message left [] (Some (unread.Entry (section_at left.ends left.taken) why))
+      → EntriesPrint margin is_multicast message left [] (Some (Unread.Entry (section_at left.ends left.taken) why))
   is_listed : (left after : Left) (entry : EntryValue) (first more : List ℕ) (unread : Option Unread)
       → IsNext left entry after → EntryPrints margin is_multicast message entry first None
       → EntriesPrint margin is_multicast message after more unread
@@ -84,4 +79,4 @@ pub data MessagePrints (margin : List ℕ) (is_multicast : Bool) (octets : List 
   has_header : (entries : List ℕ) (unread : Option Unread) → Reaches header octets
       → EntriesPrint margin is_multicast octets (all_of octets) entries unread
       → MessagePrints margin is_multicast octets (header_listing margin octets ++ entries) unread
-  has_no_header : length octets < 12 → MessagePrints margin is_multicast octets [] (Some unread.Header)
+  has_no_header : length octets < 12 → MessagePrints margin is_multicast octets [] (Some Unread.Header)

@@ -1,7 +1,8 @@
 -- What a message of multicast listener discovery prints.
-use Rattle.std.specs.Prelude.{ℕ, List, ◌++◌, codes, decimal}
+use Rattle.std.specs.Prelude.{◌++◌, List, ℕ, codes, decimal}
+use Rattle.listing.specs.Words.{octets_text, truth_text}
 use Rattle.icmp6_wire.specs.Mld.{IsMessage, MldValue, query, report, records}
-use Rattle.listing.specs.Layout.{line, field, octets_text, truth_text, IsListingOrRefused}
+use Rattle.listing.specs.Layout.{line, field, IsListingOrRefused}
 use Rattle.listing.specs.ListingIpv6.{address_text}
 
 -- no octets are read as a report by its records, so none are printed

@@ -1,13 +1,11 @@
 -- What a message of neighbor discovery prints.
-use Rattle.std.specs.Prelude.{ℕ, List, ◌++◌, Option, None, Some, codes, decimal}
-use Rattle.wirebase.specs.declared.duration.Duration.{Duration}
-use Rattle.wirebase.specs.declared.ipv6.Ipv6Repr.{Ipv6Repr}
-use Rattle.opt_wire.specs.declared.ndiscoption.repr.PrefixInformation.{PrefixInformation}
+use Rattle.std.specs.Prelude.{◌++◌, List, None, Option, Some, ℕ, codes, decimal}
+use Rattle.listing.specs.Words.{Duration, Ipv6Repr, PrefixInformation, octets_text}
 use Rattle.icmp6_wire.specs.Ndisc.{NdiscValue, router_solicit, router_advert, neighbor_solicit, neighbor_advert}
 use Rattle.icmp6_wire.specs.Ndisc.{redirect}
 use Rattle.icmp6_wire.specs.NdiscTables.{router_bits, neighbor_bits}
 use Rattle.icmp6_wire.specs.declared.ndisc.flags.RouterFlags.{RouterFlags}
-use Rattle.listing.specs.Layout.{line, field, millis_text, octets_text, text_or_none}
+use Rattle.listing.specs.Layout.{line, field, millis_text, text_or_none}
 use Rattle.listing.specs.ListingIpv6.{address_text}
 use Rattle.listing.specs.ListingNdopt.{prefix_listing, redirected_listing}
 
@@ -37,11 +35,11 @@ router_listing hops flags lifetime reachable retrans =
 
 abbrev pub ndisc_listing : NdiscValue → List ℕ
 ndisc_listing (router_solicit l) = line (codes "RouterSolicit") ++ lladdr_listing l
-ndisc_listing (router_advert hops flags lifetime reachable retrans l m p) =
-    router_listing hops flags lifetime reachable retrans
-    ++ lladdr_listing l
-    ++ field (codes "mtu") (text_or_none decimal m)
-    ++ prefix_info_listing p
+ndisc_listing (router_advert a) =
+    router_listing a.hop_limit a.flags a.router_lifetime a.reachable_time a.retrans_time
+    ++ lladdr_listing a.lladdr
+    ++ field (codes "mtu") (text_or_none decimal a.mtu)
+    ++ prefix_info_listing a.prefix_info
 ndisc_listing (neighbor_solicit t l) =
     line (codes "NeighborSolicit") ++ field (codes "target_addr") (address_text t) ++ lladdr_listing l
 ndisc_listing (neighbor_advert flags t l) =

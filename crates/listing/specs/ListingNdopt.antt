@@ -1,11 +1,10 @@
 -- What an option of neighbor discovery prints.
-use Rattle.std.specs.Prelude.{ℕ, List, [], ◌++◌, codes, decimal}
-use Rattle.wirebase.specs.declared.ipv6.Ipv6Repr.{Ipv6Repr}
+use Rattle.std.specs.Prelude.{[], ◌++◌, List, ℕ, codes, decimal}
+use Rattle.listing.specs.Words.{Ipv6Repr, PrefixInformation, octets_text}
 use Rattle.opt_wire.specs.NdiscOptionTables.{flag_bits}
 use Rattle.opt_wire.specs.NdiscOptionRepr.{OptionValue, source, target, prefix_information, redirected, mtu, unknown}
 use Rattle.opt_wire.specs.NdiscOptionRepr.{BeginsWith}
-use Rattle.opt_wire.specs.declared.ndiscoption.repr.PrefixInformation.{PrefixInformation}
-use Rattle.listing.specs.Layout.{line, field, part_field, octets_text, millis_text, IsListingOrRefused}
+use Rattle.listing.specs.Layout.{line, field, part_field, millis_text, IsListingOrRefused}
 use Rattle.listing.specs.ListingIpv6.{address_text, header_listing}
 
 -- a prefix, after the name of the part that it is

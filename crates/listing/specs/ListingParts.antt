@@ -1,25 +1,14 @@
 -- The parts of a message's listing, as they are written: the results of private functions.
-use Rattle.std.specs.Prelude.{◌≡◌, ℕ, Bool, not, ◌&&◌, ◌||◌, ◌==◌, nat_le, if◌then◌else◌, List, [], ◌∷◌}
-use Rattle.std.specs.Prelude.{◌++◌, length, take, drop, flat_map, Option, None, Some, codes, decimal}
+use Rattle.std.specs.Prelude.{◌≡◌, ◌&&◌, ◌||◌, ◌==◌, [], ◌∷◌, ◌++◌, Bool, List, None, Option, Some, ℕ, codes, decimal}
+use Rattle.std.specs.Prelude.{drop, flat_map, if◌then◌else◌, length, nat_le, not, take}
+use Rattle.listing.specs.Words.{DataRefusal, Left, NameRefusal, RDataValue, RecordValue, Refusal, RefusesEntry}
+use Rattle.listing.specs.Words.{RefusesLayout, RefusesNameIn, TextRefusal, Unread, class_text, data_layout, section_at}
+use Rattle.listing.specs.Words.{strings, type_number, type_text, whole_name, word}
 use Rattle.std.specs.Borrow.{Bor}
-use Rattle.dns_wire.specs.DnsTables.{type_number}
-use Rattle.record_wire.specs.Mnemonics.{type_text, class_text}
 use Rattle.record_wire.specs.Name.{labels_of}
-use Rattle.record_wire.specs.Entries.{Left, section_at, RefusesEntry}
-use Rattle.record_wire.specs.RData.{RDataValue, strings, AreStrings}
-use Rattle.record_wire.specs.RDataRefusal.{RefusesLayout}
-use Rattle.record_wire.specs.Record.{RecordValue}
-use Rattle.record_wire.specs.RecordText.{RefusesNameIn}
-use Rattle.record_wire.specs.Update.{data_layout}
-use Rattle.record_wire.specs.ZoneText.{word, whole_name}
+use Rattle.record_wire.specs.RData.{AreStrings}
 use Rattle.record_wire.specs.declared.name.Name.{Name}
-use Rattle.record_wire.specs.declared.name.refusal.NameRefusal.{NameRefusal}
-use Rattle.record_wire.specs.declared.rdata.refusal.DataRefusal.{DataRefusal}
-use Rattle.record_wire.specs.declared.refusal.Refusal.{Refusal}
-use Rattle.record_wire.specs.declared.text.refusal.TextRefusal.TheVariants as refusals
 use Rattle.listing.specs.ListingRecord.{line_front, DataReads}
-use Rattle.listing.specs.declared.message.unread.Unread.{Unread}
-use Rattle.listing.specs.declared.message.unread.Unread.TheVariants as unread
 use Rattle.listing.specs.declared.message.record.Line.{Line}
 use Rattle.listing.specs.declared.zone.name_text.NameText.{NameText}
 
@@ -53,7 +42,7 @@ LineShown front message value text (Some why) =
 -- the data of a record, taken as one of a class, is refused, for this reason
 abbrev pub RefusesData : ℕ → RecordValue → Unread → Type 0
 RefusesData class r why =
-    (refusal : DataRefusal) × (why ≡ unread.Record (refusals.Data refusal))
+    (refusal : DataRefusal) × (why ≡ Unread.Record (TextRefusal.Data refusal))
     × RefusesLayout (data_layout r.kind class r.«data») r.«data» refusal
 
 -- ---- entries
@@ -61,7 +50,7 @@ RefusesData class r why =
 -- the next entry is refused, for this reason, in its section
 abbrev pub RefusesNext : Left → Unread → Type 0
 RefusesNext left why =
-    (refusal : Refusal) × (why ≡ unread.Entry (section_at left.ends left.taken) refusal)
+    (refusal : Refusal) × (why ≡ Unread.Entry (section_at left.ends left.taken) refusal)
     × RefusesEntry (section_at left.ends left.taken) left.bytes refusal
 
 -- ---- strings

@@ -1,10 +1,8 @@
 -- What ICMP errors print of themselves, and of the datagram that they quote, each line after a margin.
-use Rattle.std.specs.Prelude.{ℕ, ◌==◌, if◌then◌else◌, List, ◌++◌, Option, None, Some, codes, decimal}
-use Rattle.wirebase.specs.Ip.{protocol_number}
+use Rattle.std.specs.Prelude.{◌==◌, ◌++◌, List, None, Option, Some, ℕ, codes, decimal, if◌then◌else◌}
+use Rattle.listing.specs.Words.{Ipv4Quote, Ipv6Quote, octets_text, protocol_number, truth_text}
 use Rattle.wirebase.specs.Ipv4 as ipv4
-use Rattle.quote_wire.specs.declared.quote.Ipv4Quote.{Ipv4Quote}
-use Rattle.quote_wire.specs.declared.quote.Ipv6Quote.{Ipv6Quote}
-use Rattle.listing.specs.Layout.{line, part_field, octets_text, truth_text}
+use Rattle.listing.specs.Layout.{line, part_field}
 use Rattle.listing.specs.ListingIpv6 as ipv6
 use Rattle.listing.specs.Ports.{ports_in}
 

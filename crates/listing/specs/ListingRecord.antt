@@ -1,30 +1,20 @@
 -- What a question and a record of a message print: a line of a zone file each (RFC 1035 section 5.1).
-use Rattle.std.specs.Prelude.{◌≡◌, ℕ, ◌&&◌, Bool, if◌then◌else◌, List, [], ◌++◌}
-use Rattle.std.specs.Prelude.{codes, decimal, flat_map, Option, None, Some}
+use Rattle.std.specs.Prelude.{◌≡◌, ◌&&◌, [], ◌++◌, Bool, List, None, Option, Some, ℕ, codes, decimal, flat_map}
+use Rattle.std.specs.Prelude.{if◌then◌else◌}
+use Rattle.listing.specs.Words.{DataRefusal, NameRefusal, RDataValue, RecordValue, RefusesLayout, RefusesName}
+use Rattle.listing.specs.Words.{RefusesNameIn, Section, TextRefusal, Unread, class_text, data_layout, strings}
+use Rattle.listing.specs.Words.{type_number, type_text, whole_name, word}
 use Rattle.wirebase.specs.Ipv4 as ipv4
 use Rattle.wirebase.specs.Ipv6Address as ipv6
 use Rattle.dns_wire.specs.DnsName.{written}
-use Rattle.dns_wire.specs.DnsTables.{type_number}
 use Rattle.record_wire.specs.FieldsText.{FieldsTextValue, IsFieldsText, fields_text}
 use Rattle.record_wire.specs.Names.{Names}
-use Rattle.record_wire.specs.Mnemonics.{type_text, class_text}
 use Rattle.record_wire.specs.Multicast.{class_of, has_top_bit, record_class_of, flushes}
-use Rattle.record_wire.specs.NameRefusal.{RefusesName}
-use Rattle.record_wire.specs.RData.{RDataValue, address4, address6, name, mail, service, authority, strings}
-use Rattle.record_wire.specs.RData.{fields, other, AuthorityValue}
-use Rattle.record_wire.specs.RDataRefusal.{RefusesLayout}
-use Rattle.record_wire.specs.Record.{QuestionValue, RecordValue}
-use Rattle.record_wire.specs.RecordText.{RefusesNameIn}
-use Rattle.record_wire.specs.Update.{data_layout, IsDataOf}
-use Rattle.record_wire.specs.ZoneText.{word, whole_name, string_words, generic_text}
+use Rattle.record_wire.specs.RData.{address4, address6, name, mail, service, authority, fields, other, AuthorityValue}
+use Rattle.record_wire.specs.Record.{QuestionValue}
+use Rattle.record_wire.specs.Update.{IsDataOf}
+use Rattle.record_wire.specs.ZoneText.{string_words, generic_text}
 use Rattle.dns_wire.specs.declared.dns.tables.Type.{«Type» as RecordType}
-use Rattle.record_wire.specs.declared.entries.Section.{Section}
-use Rattle.record_wire.specs.declared.entries.Section.TheVariants.{Question, Answer, Authority, Additional}
-use Rattle.record_wire.specs.declared.name.refusal.NameRefusal.{NameRefusal}
-use Rattle.record_wire.specs.declared.rdata.refusal.DataRefusal.{DataRefusal}
-use Rattle.record_wire.specs.declared.text.refusal.TextRefusal.TheVariants as refusal
-use Rattle.listing.specs.declared.message.unread.Unread.{Unread}
-use Rattle.listing.specs.declared.message.unread.Unread.TheVariants as unread
 
 -- ---- classes
 
@@ -78,10 +68,10 @@ DataReads message (other bytes) text = text ≡ word (generic_text bytes)
 -- ---- lines
 
 abbrev pub section_text : Section → List ℕ
-section_text Question = codes "question"
-section_text Answer = codes "answer"
-section_text Authority = codes "authority"
-section_text Additional = codes "additional"
+section_text Section.Question = codes "question"
+section_text Section.Answer = codes "answer"
+section_text Section.Authority = codes "authority"
+section_text Section.Additional = codes "additional"
 
 -- the start of a line, and its end
 unfoldable pub line_front : List ℕ → Section → List ℕ → List ℕ
@@ -92,7 +82,7 @@ line_end is_marked mark = if is_marked then codes " ; " ++ mark ++ codes "\n" el
 
 abbrev pub question_line : List ℕ → Bool → QuestionValue → List ℕ → List ℕ
 question_line margin is_multicast q owner =
-    line_front margin Question owner
+    line_front margin Section.Question owner
     ++ word (class_text (question_class is_multicast q.class))
     ++ word (type_text (type_number q.kind))
     ++ line_end (is_multicast && has_top_bit q.class) (codes "unicast-response")
@@ -119,7 +109,7 @@ pub data QuestionPrints (margin : List ℕ) (is_multicast : Bool) (message : Lis
   asks : (owner : List ℕ) → NameReads message q.name owner
       → QuestionPrints margin is_multicast message q (question_line margin is_multicast q owner) None
   asks_of_no_name : (why : NameRefusal) → ((owner : List ℕ) → NameReads message q.name owner → ⊥)
-      → RefusesName q.name message why → QuestionPrints margin is_multicast message q [] (Some (unread.Question why))
+      → RefusesName q.name message why → QuestionPrints margin is_multicast message q [] (Some (Unread.Question why))
 
 -- A record prints its line where all of it reads, and else nothing. First its name is read, then its data are, and
 -- then the names in these.
@@ -130,12 +120,12 @@ pub data RecordPrints (margin : List ℕ) (is_multicast : Bool) (message : List 
       → RecordPrints margin is_multicast message section r (record_line margin is_multicast section r owner shown) None
   has_no_name : (why : NameRefusal) → ((owner : List ℕ) → NameReads message r.name owner → ⊥)
       → RefusesName r.name message why
-      → RecordPrints margin is_multicast message section r [] (Some (unread.Record (refusal.Owner why)))
+      → RecordPrints margin is_multicast message section r [] (Some (Unread.Record (TextRefusal.Owner why)))
   has_no_data : (owner : List ℕ) (why : DataRefusal) → NameReads message r.name owner
       → ((value : RDataValue) → IsDataOf r.kind (record_class is_multicast r.kind r.class) r.«data» value → ⊥)
       → RefusesLayout (data_layout r.kind (record_class is_multicast r.kind r.class) r.«data») r.«data» why
-      → RecordPrints margin is_multicast message section r [] (Some (unread.Record (refusal.Data why)))
+      → RecordPrints margin is_multicast message section r [] (Some (Unread.Record (TextRefusal.Data why)))
   has_no_name_in_data : (owner : List ℕ) (value : RDataValue) (why : NameRefusal) → NameReads message r.name owner
       → IsDataOf r.kind (record_class is_multicast r.kind r.class) r.«data» value
       → ((shown : List ℕ) → DataReads message value shown → ⊥) → RefusesNameIn message value why
-      → RecordPrints margin is_multicast message section r [] (Some (unread.Record (refusal.DataName why)))
+      → RecordPrints margin is_multicast message section r [] (Some (Unread.Record (TextRefusal.DataName why)))

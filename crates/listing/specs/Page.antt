@@ -1,5 +1,5 @@
 -- The text in a page.
-use Rattle.std.specs.Prelude.{ℕ, List}
+use Rattle.std.specs.Prelude.{List, ℕ}
 use Rattle.listing.specs.declared.page.Page.{Page}
 
 abbrev pub text_of : Page → List ℕ

@@ -5,15 +5,15 @@
 -- +-------------------------------+-------------------------------+
 -- |          source port          |       destination port        |
 -- +-------------------------------+-------------------------------+
-use Rattle.std.specs.Prelude.{ℕ, ◌&&◌, nat_le, Bool, true, false, if◌then◌else◌, List, length, Option, Some, None}
-use Rattle.wirebase.specs.Bytes.{Field, field, number_of}
+use Rattle.std.specs.Prelude.{◌&&◌, Bool, List, None, Option, Some, ℕ, false, if◌then◌else◌, length, nat_le, true}
+use Rattle.listing.specs.Words.{number_of}
+use Rattle.wirebase.specs.Bytes.{Field, field}
 use Rattle.wirebase.specs.declared.ip.IpProtocol.{IpProtocol}
-use Rattle.wirebase.specs.declared.ip.IpProtocol.TheVariants as protocol
 
 -- the protocols whose headers begin with ports
 abbrev pub has_ports : IpProtocol → Bool
-has_ports protocol.Tcp = true
-has_ports protocol.Udp = true
+has_ports IpProtocol.Tcp = true
+has_ports IpProtocol.Udp = true
 has_ports _ = false
 
 abbrev pub source_port_field : Field

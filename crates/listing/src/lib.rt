@@ -4,9 +4,7 @@
 #![tactic(auto)]
 
 pub mod dhcp;
-pub mod endpoint;
 pub mod hbh;
-mod hex_digits;
 pub mod icmp4;
 pub mod icmp4_error;
 pub mod icmp6;
@@ -18,7 +16,7 @@ pub mod mld;
 pub mod name;
 pub mod ndisc;
 pub mod ndopt;
-pub mod number;
+pub mod output;
 pub mod page;
 pub mod ports;
 pub mod printer;

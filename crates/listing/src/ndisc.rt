@@ -88,8 +88,16 @@ fn show_router_advert<W: Write>(
     prefix_info: &Option<PrefixInformation>,
 ) -> io::Result<()>
     ensures { OnOk result (Gains (W.contents output.old) (W.contents output.new)
-        (ndisc_listing (router_advert hop_limit flags router_lifetime reachable_time retrans_time
-        (link_of lladdr) mtu prefix_info.now))) }
+        (ndisc_listing (router_advert (record {
+          hop_limit = hop_limit;
+          flags = flags;
+          router_lifetime = router_lifetime;
+          reachable_time = reachable_time;
+          retrans_time = retrans_time;
+          lladdr = link_of lladdr;
+          mtu = mtu;
+          prefix_info = prefix_info.now;
+        })))) }
 {
     show_router(
         output,

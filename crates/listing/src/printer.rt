@@ -1,19 +1,19 @@
 //! Printing of values: names and fields, one a line.
 
-#![tactic(auto, using(crate::proofs::Printing::gained, crate::proofs::Printing::gains_both))]
+#![tactic(auto, using(crate::proofs::Printing::gained, crate::proofs::Printing::gains_both, crate::proofs::Printing::put))]
 
-ghost use Rattle.std.specs.Prelude.{◌≤◌, ℕ, List, OnOk, decimal, length};
-ghost use Rattle.hex.specs.Hex.{encode_lower};
+ghost use Rattle.std.specs.Prelude.{ℕ, List, OnOk, decimal};
 ghost use Rattle.wirebase.specs.Ipv4.{address_text};
 ghost use Rattle.listing.specs.Layout.{line as line_text, field as field_text, part_field as part_field_text};
-ghost use Rattle.listing.specs.Layout.{octets_text, millis_text, truth_text, text_or_none};
+ghost use Rattle.wirebase.specs.Hexadecimal.{octets_text};
+ghost use Rattle.wirebase.specs.Display.{truth_text};
+ghost use Rattle.listing.specs.Layout.{millis_text, text_or_none};
 ghost use Rattle.listing.specs.Output.{Gains};
 
-use crate::endpoint::write_v4;
-use crate::hex_digits::encode;
-use crate::number::write_number;
+use crate::output::ToWriter;
 use std::io;
 use std::io::Write;
+use wirebase::text::{put_number, put_octets, put_v4};
 use wirebase::{Duration, Ipv4Address};
 
 /// The value after a field's name: a number, truth value, text or octets, or no value.
@@ -30,7 +30,7 @@ impl Value for u8 {
     ghost text = { decimal };
 
     fn write_to<W: Write>(self, output: &mut W) -> io::Result<()> {
-        write_number(output, u64::from(self))
+        put_number::<_, ToWriter>(output, u64::from(self))
     }
 }
 
@@ -38,7 +38,7 @@ impl Value for u16 {
     ghost text = { decimal };
 
     fn write_to<W: Write>(self, output: &mut W) -> io::Result<()> {
-        write_number(output, u64::from(self))
+        put_number::<_, ToWriter>(output, u64::from(self))
     }
 }
 
@@ -46,7 +46,7 @@ impl Value for u32 {
     ghost text = { decimal };
 
     fn write_to<W: Write>(self, output: &mut W) -> io::Result<()> {
-        write_number(output, u64::from(self))
+        put_number::<_, ToWriter>(output, u64::from(self))
     }
 }
 
@@ -54,7 +54,7 @@ impl Value for u64 {
     ghost text = { decimal };
 
     fn write_to<W: Write>(self, output: &mut W) -> io::Result<()> {
-        write_number(output, self)
+        put_number::<_, ToWriter>(output, self)
     }
 }
 
@@ -62,7 +62,7 @@ impl Value for usize {
     ghost text = { decimal };
 
     fn write_to<W: Write>(self, output: &mut W) -> io::Result<()> {
-        write_number(output, self as u64)
+        put_number::<_, ToWriter>(output, self as u64)
     }
 }
 
@@ -87,7 +87,7 @@ impl Value for Ipv4Address {
     ghost text = { address_text };
 
     fn write_to<W: Write>(self, output: &mut W) -> io::Result<()> {
-        write_v4(output, self, None)
+        put_v4::<_, ToWriter>(output, self, None)
     }
 }
 
@@ -111,36 +111,13 @@ impl<V: Value> Value for Option<V> {
     }
 }
 
-// The number of octets that are converted to digits at a time, and the digits of these.
-const OCTETS: usize = 64;
-
-const DIGITS: usize = 2 * OCTETS;
-
 // Octets in lower-case hexadecimal digits, or `-` for none.
 impl Value for &[u8] {
     ghost text = { λ octets. octets_text octets.now };
 
     fn write_to<W: Write>(self, output: &mut W) -> io::Result<()> {
-        if self.is_empty() {
-            return output.write_all(b"-");
-        }
-        for octets in self.chunks(OCTETS) {
-            write_digits(output, octets)?;
-        }
-        Ok(())
+        put_octets::<_, ToWriter>(output, self)
     }
-}
-
-// Writes the digits of at most this many octets.
-fn write_digits<W: Write>(output: &mut W, octets: &[u8]) -> io::Result<()>
-    requires { length octets.now ≤ OCTETS }
-    ensures { OnOk result (Gains (W.contents output.old) (W.contents output.new)
-        (encode_lower octets.now)) }
-{
-    let mut room = [0u8; DIGITS];
-    let digits = &mut room[..2 * octets.len()];
-    encode(octets, digits);
-    output.write_all(digits)
 }
 
 /// Prints a line of its own: a variant's name, a value without a name, or a result that is no value.

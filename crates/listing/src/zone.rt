@@ -12,7 +12,7 @@ ghost use Rattle.listing.specs.Output.{Gains};
 ghost use Rattle.record_wire.specs.ZoneText.{word as word_text, generic_text};
 ghost use Rattle.wirebase.specs.Ipv6Address.{address_text};
 
-use crate::endpoint::write_v6;
+use crate::output::ToWriter;
 use crate::printer::Value;
 pub use mnemonic::{class_word, type_word};
 pub use name_text::NameText;
@@ -20,6 +20,7 @@ use std::io;
 use std::io::Write;
 pub use string::strings;
 use wirebase::Ipv6Address;
+use wirebase::text::put_v6;
 
 /// Writes a value after a space.
 #[tactic(auto, using(crate::proofs::Printing::gained, crate::proofs::Printing::gains_both), unfolding(record_wire::specs::ZoneText::word))]
@@ -38,7 +39,7 @@ pub fn ipv6_word<W: Write>(output: &mut W, address: Ipv6Address) -> io::Result<(
         (word_text (address_text address))) }
 {
     output.write_all(b" ")?;
-    write_v6(output, address, None)
+    put_v6::<_, ToWriter>(output, address, None)
 }
 
 /// Writes a name after a space.

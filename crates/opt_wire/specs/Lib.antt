@@ -1,4 +1,3 @@
-pub mod Digits
 pub mod Ipv6ExtHeader
 pub mod Ipv6ExtHeaderRefusal
 pub mod Ipv6Hbh

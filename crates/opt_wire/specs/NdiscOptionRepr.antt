@@ -6,7 +6,7 @@ use Rattle.wirebase.specs.Bytes.{bytes_of, byte_of, number_of, over}
 use Rattle.wirebase.specs.ByteWriter.{be8, be16, be32, fields}
 use Rattle.wirebase.specs.Display.{pieces}
 use Rattle.wirebase.specs.Duration.{micros_of, seconds_of, whole_seconds, duration_text}
-use Rattle.wirebase.specs.Ethernet.{hex_colons}
+use Rattle.wirebase.specs.Hexadecimal.{hex_colons, octets_text}
 use Rattle.wirebase.specs.Format.{Format, RoundTrips}
 use Rattle.wirebase.specs.HardwareAddress.{raw_bytes}
 use Rattle.wirebase.specs.Ip.{protocol_number, protocol_rows}
@@ -16,7 +16,6 @@ use Rattle.wirebase.specs.Numbered.{IsProper}
 use Rattle.wirebase.specs.declared.duration.Duration.{Duration}
 use Rattle.wirebase.specs.declared.ip.IpProtocol.TheVariants as protocol
 use Rattle.wirebase.specs.declared.ipv6.Ipv6Repr.{Ipv6Repr}
-use Rattle.opt_wire.specs.Digits.{octets_text}
 use Rattle.opt_wire.specs.NdiscOption.{type_field, prefix_len_field, prefix_flags_field, valid_lifetime_field}
 use Rattle.opt_wire.specs.NdiscOption.{preferred_lifetime_field, prefix_field, mtu_field, units_in, data_field}
 use Rattle.opt_wire.specs.NdiscOption.{link_addr_field, redirected_field, BeginsWithBlock}

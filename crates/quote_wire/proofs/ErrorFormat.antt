@@ -4,10 +4,9 @@ use Rattle.std.proofs.Common.{refl, sym, ap, subst, ◌∙◌, arith}
 use Rattle.std.proofs.lemmas.List.{append-nil, length-take, take_min, take_all}
 use Rattle.byteorder.specs.Endian.{big_bytes}
 use Rattle.wirebase.specs.declared.capabilities.Checksum.{Checksum}
-use Rattle.wirebase.specs.declared.capabilities.Checksum.TheVariants.{Both, Rx, Tx, None}
 use Rattle.wirebase.specs.Bytes.{part, splice, over, byte_of, number_of}
 use Rattle.wirebase.specs.ByteWriter.{be8, be16, be32, fields}
-use Rattle.wirebase.specs.Capabilities.{is_computed, sealed_where}
+use Rattle.wirebase.specs.Capabilities.{is_verified, is_computed, sealed_where}
 use Rattle.wirebase.specs.Checksum.{sealed, IsGood}
 use Rattle.wirebase.specs.Format.{SameText}
 use Rattle.wirebase.specs.Icmp.{type_field, code_field, checksum_field, data_in}
@@ -20,8 +19,8 @@ use Rattle.quote_wire.specs.Error.{Protocol, ErrorValue, rest_field, error_field
 use Rattle.quote_wire.specs.Error.{emitted, IsError, IsCanonical, norm, Fills, format, Emits}
 
 -- what is quoted, counted
-pub take-counted : (most : ℕ) (d : List ℕ) (n : ℕ) → n ≡ min (length d) most → take n d ≡ take most d
-take-counted most d n e =
+pub take_counted : (most : ℕ) (d : List ℕ) (n : ℕ) → n ≡ min (length d) most → take n d ≡ take most d
+take_counted most d n e =
     let turned : n ≡ min most (length d) = omega (arith, e) in
     ap (λ (k : ℕ). take k d) turned ∙ take_min most d
 
@@ -39,10 +38,10 @@ record Begins (bytes : List ℕ) (t code : ℕ) (behind : List ℕ) : Type 0 whe
 begins-sealed : (extra : ℕ) (checksum : Checksum) (t code : ℕ) (behind bytes : List ℕ)
     → bytes ≡ t ∷ code ∷ 0 ∷ 0 ∷ behind → Begins (sealed_where checksum checksum_field bytes extra) t code behind
 unfolding sealed splice
-begins-sealed extra Both t code behind bytes e = rw e (record { first = _; second = _; whole = refl })
-begins-sealed extra Rx t code behind bytes e = record { first = 0; second = 0; whole = e }
-begins-sealed extra Tx t code behind bytes e = rw e (record { first = _; second = _; whole = refl })
-begins-sealed extra None t code behind bytes e = record { first = 0; second = 0; whole = e }
+begins-sealed extra Checksum.Both t code behind bytes e = rw e (record { first = _; second = _; whole = refl })
+begins-sealed extra Checksum.Rx t code behind bytes e = record { first = 0; second = 0; whole = e }
+begins-sealed extra Checksum.Tx t code behind bytes e = rw e (record { first = _; second = _; whole = refl })
+begins-sealed extra Checksum.None t code behind bytes e = record { first = 0; second = 0; whole = e }
 
 -- the fields that are read in them
 record Fields (bytes : List ℕ) (t code rest : ℕ) (quoted : List ℕ) : Type 0 where
@@ -63,10 +62,12 @@ fields_read bytes t code rest quoted small b = rw b.whole (record {
 
 good-computed : (extra : ℕ) (checksum : Checksum) (bytes : List ℕ) → 8 ≤ length bytes → is_computed checksum ≡ true
     → IsGood (sealed_where checksum checksum_field bytes extra) extra
-good-computed extra Both bytes room computed = IsGood-sealed checksum_field bytes extra refl (omega (arith, room)) refl
-good-computed extra Rx bytes room computed = cc
-good-computed extra Tx bytes room computed = IsGood-sealed checksum_field bytes extra refl (omega (arith, room)) refl
-good-computed extra None bytes room computed = cc
+good-computed extra Checksum.Both bytes room computed =
+    IsGood-sealed checksum_field bytes extra refl (omega (arith, room)) refl
+good-computed extra Checksum.Rx bytes room computed = cc
+good-computed extra Checksum.Tx bytes room computed =
+    IsGood-sealed checksum_field bytes extra refl (omega (arith, room)) refl
+good-computed extra Checksum.None bytes room computed = cc
 
 module _ {K : Type 0} (p : Protocol K) where
   -- the text field by field
@@ -113,12 +114,12 @@ module _ {K : Type 0} (p : Protocol K) where
       let extra : ℕ = p.extra (length (text p v)) in
       let read = fields_read (packet_text p v) (p.number v.kind) v.code v.rest (take p.most v.quoted) c.rest
       (begins-sealed extra p.checksum _ _ _ (text p v) (error_text v)) in
+      let good : is_verified p.checksum ≡ true → IsGood (packet_text p v) (p.extra (length (packet_text p v))) =
+      λ verified.
+      subst (λ (n : ℕ). IsGood (packet_text p v) (p.extra n)) (sym (length-seal (text p v) some))
+      (IsGood-sealed_where checksum_field (text p v) extra refl (omega (arith, some)) p.checksum refl fills verified) in
       record {
-        whole = omega (arith, length-packet_text v);
-        good =
-            λ verified. subst (λ (n : ℕ). IsGood (packet_text p v) (p.extra n)) (sym (length-seal (text p v) some))
-            (IsGood-sealed_where checksum_field (text p v) extra refl (omega (arith, some)) p.checksum refl fills
-            verified);
+        passes = (omega (arith, length-packet_text v), (good, ((v.kind, read.kind), tt)));
         kind = read.kind;
         code = read.code_is;
         rest = read.rest_is;

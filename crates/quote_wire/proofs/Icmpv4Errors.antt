@@ -3,16 +3,15 @@ use Rattle.std.proofs.Common.{◌≡◌, ℕ, List, [], ◌∷◌, take, refl, a
 use Rattle.std.proofs.lemmas.List.{length-take}
 use Rattle.wirebase.specs.declared.capabilities.ChecksumCapabilities.{ChecksumCapabilities}
 use Rattle.quote_wire.specs.declared.icmpv4_error.Kind.{Kind}
-use Rattle.quote_wire.specs.declared.icmpv4_error.Kind.TheVariants as kind
 use Rattle.quote_wire.specs.Icmpv4Error.{kind_number, IsDatagram, protocol}
 use Rattle.quote_wire.proofs.ErrorFormat.{IsProtocol}
 
 one_number : (a b : Kind) → kind_number a ≡ kind_number b → a ≡ b
-one_number kind.DstUnreachable kind.DstUnreachable e = refl
-one_number kind.SourceQuench kind.SourceQuench e = refl
-one_number kind.Redirect kind.Redirect e = refl
-one_number kind.TimeExceeded kind.TimeExceeded e = refl
-one_number kind.ParamProblem kind.ParamProblem e = refl
+one_number Kind.DstUnreachable Kind.DstUnreachable e = refl
+one_number Kind.SourceQuench Kind.SourceQuench e = refl
+one_number Kind.Redirect Kind.Redirect e = refl
+one_number Kind.TimeExceeded Kind.TimeExceeded e = refl
+one_number Kind.ParamProblem Kind.ParamProblem e = refl
 one_number _ _ e = absurd (omega arith)
 
 cut : (bytes : List ℕ) → IsDatagram bytes → IsDatagram (take 548 bytes)

@@ -4,15 +4,14 @@ use Rattle.std.proofs.lemmas.List.{length-take}
 use Rattle.wirebase.specs.declared.capabilities.ChecksumCapabilities.{ChecksumCapabilities}
 use Rattle.wirebase.specs.declared.ipv6.address.Ipv6Address.{Ipv6Address}
 use Rattle.quote_wire.specs.declared.icmpv6_error.Kind.{Kind}
-use Rattle.quote_wire.specs.declared.icmpv6_error.Kind.TheVariants as kind
 use Rattle.quote_wire.specs.Icmpv6Error.{kind_number, IsPacketFront, protocol}
 use Rattle.quote_wire.proofs.ErrorFormat.{IsProtocol}
 
 one_number : (a b : Kind) → kind_number a ≡ kind_number b → a ≡ b
-one_number kind.DstUnreachable kind.DstUnreachable e = refl
-one_number kind.PktTooBig kind.PktTooBig e = refl
-one_number kind.TimeExceeded kind.TimeExceeded e = refl
-one_number kind.ParamProblem kind.ParamProblem e = refl
+one_number Kind.DstUnreachable Kind.DstUnreachable e = refl
+one_number Kind.PktTooBig Kind.PktTooBig e = refl
+one_number Kind.TimeExceeded Kind.TimeExceeded e = refl
+one_number Kind.ParamProblem Kind.ParamProblem e = refl
 one_number _ _ e = absurd (omega arith)
 
 cut : (bytes : List ℕ) → IsPacketFront bytes → IsPacketFront (take 1232 bytes)

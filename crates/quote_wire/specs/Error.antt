@@ -10,23 +10,27 @@
 -- +---------------------------------------------------------------+
 -- | what is quoted
 -- +- - - -
-use Rattle.std.specs.Prelude.{◌≡◌, ◌≢◌, ℕ, ◌+◌, ◌<◌, ◌^◌, true, min, List, [], ◌∷◌, length, take}
+use Rattle.std.specs.Prelude.{◌≡◌, ◌≢◌, ◌⊎◌, ℕ, ◌+◌, ◌<◌, ◌^◌, true, min, List, [], ◌∷◌, length, take}
 use Rattle.std.specs.Prelude.{Option, None, Some, codes, decimal}
 use Rattle.wirebase.specs.declared.capabilities.Checksum.{Checksum}
-use Rattle.wirebase.specs.declared.capabilities.Checksum.TheVariants.{Rx}
 use Rattle.wirebase.specs.Bytes.{Field, field, Reaches, byte_of, number_of, over}
 use Rattle.wirebase.specs.ByteWriter.{be8, be16, be32, fields}
 use Rattle.wirebase.specs.Capabilities.{is_verified, is_computed, sealed_where}
+use Rattle.wirebase.specs.Checks.{Check, check, Passes, Fails}
 use Rattle.wirebase.specs.Checksum.{IsGood}
 use Rattle.wirebase.specs.Display.{pieces}
 use Rattle.wirebase.specs.Format.{Format, RoundTrips}
 use Rattle.wirebase.specs.Icmp.{type_field, code_field, checksum_field, header, data_in}
+use Rattle.quote_wire.specs.declared.error.Refusal.{Refusal}
+use Rattle.quote_wire.specs.declared.quote.refusal.Refusal.{Refusal as QuoteRefusal}
+use Rattle.quote_wire.specs.Quote.{refusal_display as quote_display}
 
--- the errors of one protocol: the numbers of their types, what they may quote and how many bytes of it, who takes care
--- of the checksum, and the sum of the pseudo header of an error of this many bytes
+-- the errors of one protocol: the numbers of their types, what they may quote, why other octets are no quote, how many
+-- bytes they quote, who takes care of the checksum, and the sum of the pseudo header of an error of this many bytes
 pub record Protocol (K : Type 0) : Type 1 where
   pub number : K → ℕ
   pub IsQuoted : List ℕ → Type 0
+  pub RefusesQuote : List ℕ → QuoteRefusal → Type 0
   pub most : ℕ
   pub checksum : Checksum
   pub extra : ℕ → ℕ
@@ -45,6 +49,11 @@ rest_field = field 4 8
 -- the fields of an error of this type, with the checksum zero
 abbrev pub error_fields : ℕ → ℕ → ℕ → List ℕ → List (List ℕ)
 error_fields t code rest quoted = be8 t ∷ be8 code ∷ be16 0 ∷ be32 rest ∷ quoted ∷ []
+
+-- the type is that of an error
+module _ {K : Type 0} (number : K → ℕ) where
+  abbrev pub HasErrorType : List ℕ → Type 0
+  HasErrorType bytes = (kind : K) × (byte_of type_field bytes ≡ number kind)
 
 module _ {K : Type 0} (p : Protocol K) where
   -- its text: it quotes as much as it may
@@ -66,11 +75,18 @@ module _ {K : Type 0} (p : Protocol K) where
   abbrev pub emitted : ErrorValue K → List ℕ → List ℕ
   emitted v old = seal (over old (text v))
 
-  -- The grammar: the header is there, its checksum is good where it is verified, the type is that of an error, and what
-  -- follows the header is quoted.
+  -- the checks of the header, in their order: it is there, its checksum is good where it is verified, and its type is
+  -- that of an error
+  abbrev pub header_checks : List ℕ → List (Check Refusal)
+  header_checks bytes =
+      check (Reaches header bytes) Refusal.Short
+      ∷ check (is_verified p.checksum ≡ true → IsGood bytes (p.extra (length bytes))) Refusal.Checksum
+      ∷ check (HasErrorType p.number bytes) (Refusal.UnknownType (byte_of type_field bytes))
+      ∷ []
+
+  -- The grammar: the header passes its checks, and what follows it is quoted.
   pub record IsError (bytes : List ℕ) (v : ErrorValue K) : Type 0 where
-    pub whole : Reaches header bytes
-    pub good : is_verified p.checksum ≡ true → IsGood bytes (p.extra (length bytes))
+    pub passes : Passes (header_checks bytes)
     pub kind : byte_of type_field bytes ≡ p.number v.kind
     pub code : byte_of code_field bytes ≡ v.code
     pub rest : number_of rest_field bytes ≡ v.rest
@@ -81,24 +97,12 @@ module _ {K : Type 0} (p : Protocol K) where
   abbrev pub IsRead : List ℕ → Type 0
   IsRead bytes = (v : ErrorValue K) × IsError bytes v
 
-  -- Why octets are no error, by the checks in this order: the header is there, its checksum is good where it is
-  -- verified, the type is that of an error, and what follows the header is quoted. Each says that those before it hold.
-  pub record HasHeader (bytes : List ℕ) : Type 0 where
-    pub whole : Reaches header bytes
-    pub good : is_verified p.checksum ≡ true → IsGood bytes (p.extra (length bytes))
-
-  abbrev pub IsErrorType : ℕ → Type 0
-  IsErrorType t = (kind : K) × (t ≡ p.number kind)
-
-  abbrev pub RefusesChecksum : List ℕ → Type 0
-  RefusesChecksum bytes =
-      Reaches header bytes × (is_verified p.checksum ≡ true) × (IsGood bytes (p.extra (length bytes)) → ⊥)
-
-  abbrev pub RefusesType : List ℕ → ℕ → Type 0
-  RefusesType bytes t = HasHeader bytes × (t ≡ byte_of type_field bytes) × (IsErrorType t → ⊥)
-
-  abbrev pub RefusesQuote : (List ℕ → Type 0) → List ℕ → Type 0
-  RefusesQuote Why bytes = HasHeader bytes × IsErrorType (byte_of type_field bytes) × Why (data_in bytes)
+  -- why octets are no error: a check of the header fails, or they all hold and what follows it is no quote
+  abbrev pub Refuses : List ℕ → Refusal → Type 0
+  Refuses bytes why =
+      Fails (header_checks bytes) why
+      ⊎ (Passes (header_checks bytes)
+      × (reason : QuoteRefusal) × p.RefusesQuote (data_in bytes) reason × (why ≡ Refusal.Quote reason))
 
   -- a value that its own text gives back, in normal form
   pub record IsCanonical (v : ErrorValue K) : Type 0 where
@@ -112,7 +116,7 @@ module _ {K : Type 0} (p : Protocol K) where
 
   -- the checksum is filled where it is verified
   abbrev pub Fills : Type 0
-  Fills = p.checksum ≢ Rx
+  Fills = p.checksum ≢ Checksum.Rx
 
   -- the format; no value is an exception, and one that quotes more than it may is cut
   abbrev pub format : Format (ErrorValue K)
@@ -144,3 +148,10 @@ mtu_display (Some mtu) = pieces (codes " mtu=" ∷ decimal mtu ∷ [])
 unfoldable pub pointer_display : Option ℕ → List ℕ
 pointer_display None = []
 pointer_display (Some place) = pieces (codes " pointer=" ∷ decimal place ∷ [])
+
+-- what a reason prints
+abbrev pub refusal_display : Refusal → List ℕ
+refusal_display Refusal.Short = codes "fewer than 8 bytes"
+refusal_display Refusal.Checksum = codes "the checksum does not hold"
+refusal_display (Refusal.UnknownType t) = pieces (codes "type " ∷ decimal t ∷ codes " is not that of an error" ∷ [])
+refusal_display (Refusal.Quote why) = quote_display why

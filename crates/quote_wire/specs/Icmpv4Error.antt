@@ -9,23 +9,18 @@ use Rattle.wirebase.specs.ByteWriter.{be32}
 use Rattle.wirebase.specs.Ipv4.{ihl_field, header_len_in}
 use Rattle.wirebase.specs.Display.{pieces}
 use Rattle.quote_wire.specs.declared.icmpv4_error.Kind.{Kind}
-use Rattle.quote_wire.specs.declared.icmpv4_error.Kind.TheVariants as kind
 use Rattle.quote_wire.specs.declared.icmpv4_error.Repr.{Repr}
-use Rattle.quote_wire.specs.declared.icmpv4_error.refusal.Refusal.{Refusal}
-use Rattle.quote_wire.specs.declared.icmpv4_error.refusal.Refusal.TheVariants as refusal
-use Rattle.quote_wire.specs.Error.{Protocol, ErrorValue, RefusesChecksum, RefusesType, RefusesQuote}
-use Rattle.quote_wire.specs.Error.{mtu_display, pointer_display}
+use Rattle.quote_wire.specs.Error.{Protocol, ErrorValue, mtu_display, pointer_display}
 use Rattle.quote_wire.specs.Icmpv4Reason.{reason_of}
 use Rattle.quote_wire.specs.Quote.{RefusesIpv4}
-use Rattle.quote_wire.specs.Quote.{refusal_display as quote_display}
 
 -- the types of error
 abbrev pub kind_number : Kind → ℕ
-kind_number kind.DstUnreachable = 3
-kind_number kind.SourceQuench = 4
-kind_number kind.Redirect = 5
-kind_number kind.TimeExceeded = 11
-kind_number kind.ParamProblem = 12
+kind_number Kind.DstUnreachable = 3
+kind_number Kind.SourceQuench = 4
+kind_number Kind.Redirect = 5
+kind_number Kind.TimeExceeded = 11
+kind_number Kind.ParamProblem = 12
 
 -- The start of an IPv4 datagram: its header, of version 4 and 20 bytes or more by its own length, and 8 bytes or more
 -- after it, whatever its total length says (RFC 792).
@@ -40,6 +35,7 @@ abbrev pub protocol : ChecksumCapabilities → Protocol Kind
 protocol capabilities = record {
   number = kind_number;
   IsQuoted = IsDatagram;
+  RefusesQuote = RefusesIpv4;
   most = 548;
   checksum = capabilities.icmpv4;
   extra = λ n. 0;
@@ -66,11 +62,11 @@ pointer_in v = if kind_number v.kind == 12 then Some (v.rest / 2 ^ 24) else None
 
 -- what a type prints, and what an error does
 abbrev pub kind_display : Kind → List ℕ
-kind_display kind.DstUnreachable = codes "destination unreachable"
-kind_display kind.SourceQuench = codes "source quench"
-kind_display kind.Redirect = codes "redirect"
-kind_display kind.TimeExceeded = codes "time exceeded"
-kind_display kind.ParamProblem = codes "parameter problem"
+kind_display Kind.DstUnreachable = codes "destination unreachable"
+kind_display Kind.SourceQuench = codes "source quench"
+kind_display Kind.Redirect = codes "redirect"
+kind_display Kind.TimeExceeded = codes "time exceeded"
+kind_display Kind.ParamProblem = codes "parameter problem"
 
 -- the gateway's address by its octets, in decimal with dots between them; nothing where the error tells none
 unfoldable pub gateway_display : Option (List ℕ) → List ℕ
@@ -91,17 +87,3 @@ shown v (Some reason) =
 
 abbrev pub repr_display : ErrorValue Kind → List ℕ
 repr_display v = shown v (reason_of v.kind v.code)
-
--- why octets are no error: the check that fails first
-abbrev pub Refuses : Protocol Kind → List ℕ → Refusal → Type 0
-Refuses p bytes refusal.Short = length bytes < 8
-Refuses p bytes refusal.Checksum = RefusesChecksum p bytes
-Refuses p bytes (refusal.UnknownType t) = RefusesType p bytes t
-Refuses p bytes (refusal.Quote why) = RefusesQuote p (λ quoted. RefusesIpv4 quoted why) bytes
-
--- what a reason prints
-abbrev pub refusal_display : Refusal → List ℕ
-refusal_display refusal.Short = codes "fewer than 8 bytes"
-refusal_display refusal.Checksum = codes "the checksum does not hold"
-refusal_display (refusal.UnknownType t) = pieces (codes "type " ∷ decimal t ∷ codes " is not that of an error" ∷ [])
-refusal_display (refusal.Quote why) = quote_display why

@@ -3,27 +3,22 @@
 use Rattle.std.specs.Prelude.{◌≡◌, ℕ, ◌/◌, ◌%◌, ◌^◌, ◌==◌, ◌<◌, ◌≤◌, List, [], ◌∷◌, length, slice_index, if◌then◌else◌}
 use Rattle.std.specs.Prelude.{Option, Some, None, codes, decimal}
 use Rattle.wirebase.specs.declared.capabilities.ChecksumCapabilities.{ChecksumCapabilities}
-use Rattle.wirebase.specs.declared.ip.IpProtocol.TheVariants.{Icmpv6}
+use Rattle.wirebase.specs.declared.ip.IpProtocol.{IpProtocol}
 use Rattle.wirebase.specs.declared.ipv6.address.Ipv6Address.{Ipv6Address}
 use Rattle.wirebase.specs.Ipv6.{pseudo_sum}
 use Rattle.wirebase.specs.Display.{pieces}
 use Rattle.quote_wire.specs.declared.icmpv6_error.Kind.{Kind}
-use Rattle.quote_wire.specs.declared.icmpv6_error.Kind.TheVariants as kind
 use Rattle.quote_wire.specs.declared.icmpv6_error.Repr.{Repr}
-use Rattle.quote_wire.specs.declared.icmpv6_error.refusal.Refusal.{Refusal}
-use Rattle.quote_wire.specs.declared.icmpv6_error.refusal.Refusal.TheVariants as refusal
-use Rattle.quote_wire.specs.Error.{Protocol, ErrorValue, RefusesChecksum, RefusesType, RefusesQuote}
-use Rattle.quote_wire.specs.Error.{mtu_display, pointer_display}
+use Rattle.quote_wire.specs.Error.{Protocol, ErrorValue, mtu_display, pointer_display}
 use Rattle.quote_wire.specs.Icmpv6Reason.{reason_of}
 use Rattle.quote_wire.specs.Quote.{RefusesIpv6}
-use Rattle.quote_wire.specs.Quote.{refusal_display as quote_display}
 
 -- the types of error
 abbrev pub kind_number : Kind → ℕ
-kind_number kind.DstUnreachable = 1
-kind_number kind.PktTooBig = 2
-kind_number kind.TimeExceeded = 3
-kind_number kind.ParamProblem = 4
+kind_number Kind.DstUnreachable = 1
+kind_number Kind.PktTooBig = 2
+kind_number Kind.TimeExceeded = 3
+kind_number Kind.ParamProblem = 4
 
 -- the start of an IPv6 packet: its header, of version 6, whatever its payload length says
 pub record IsPacketFront (bytes : List ℕ) : Type 0 where
@@ -32,7 +27,7 @@ pub record IsPacketFront (bytes : List ℕ) : Type 0 where
 
 -- the sum of the pseudo header of an error of this many bytes (RFC 4443 section 2.3, RFC 8200 section 8.1)
 abbrev pub extra_sum : Ipv6Address → Ipv6Address → ℕ → ℕ
-extra_sum source destination n = pseudo_sum source destination Icmpv6 (n % 2 ^ 32)
+extra_sum source destination n = pseudo_sum source destination IpProtocol.Icmpv6 (n % 2 ^ 32)
 
 -- An error has at most 1,280 bytes with the 40 of its own IPv6 header (RFC 4443 section 2.4(c)), and so it quotes at
 -- most 1,232. The pseudo header counts in its checksum.
@@ -40,6 +35,7 @@ abbrev pub protocol : Ipv6Address → Ipv6Address → ChecksumCapabilities → P
 protocol source destination capabilities = record {
   number = kind_number;
   IsQuoted = IsPacketFront;
+  RefusesQuote = RefusesIpv6;
   most = 1232;
   checksum = capabilities.icmpv6;
   extra = extra_sum source destination;
@@ -58,10 +54,10 @@ pointer_in v = if kind_number v.kind == 4 then Some v.rest else None
 
 -- what a type prints, and what an error does
 abbrev pub kind_display : Kind → List ℕ
-kind_display kind.DstUnreachable = codes "destination unreachable"
-kind_display kind.PktTooBig = codes "packet too big"
-kind_display kind.TimeExceeded = codes "time exceeded"
-kind_display kind.ParamProblem = codes "parameter problem"
+kind_display Kind.DstUnreachable = codes "destination unreachable"
+kind_display Kind.PktTooBig = codes "packet too big"
+kind_display Kind.TimeExceeded = codes "time exceeded"
+kind_display Kind.ParamProblem = codes "parameter problem"
 
 -- with what its code says, and what it tells after the checksum
 abbrev pub shown : ErrorValue Kind → Option (List ℕ) → List ℕ
@@ -77,17 +73,3 @@ shown v (Some reason) =
 
 abbrev pub repr_display : ErrorValue Kind → List ℕ
 repr_display v = shown v (reason_of v.kind v.code)
-
--- why octets are no error: the check that fails first
-abbrev pub Refuses : Protocol Kind → List ℕ → Refusal → Type 0
-Refuses p bytes refusal.Short = length bytes < 8
-Refuses p bytes refusal.Checksum = RefusesChecksum p bytes
-Refuses p bytes (refusal.UnknownType t) = RefusesType p bytes t
-Refuses p bytes (refusal.Quote why) = RefusesQuote p (λ quoted. RefusesIpv6 quoted why) bytes
-
--- what a reason prints
-abbrev pub refusal_display : Refusal → List ℕ
-refusal_display refusal.Short = codes "fewer than 8 bytes"
-refusal_display refusal.Checksum = codes "the checksum does not hold"
-refusal_display (refusal.UnknownType t) = pieces (codes "type " ∷ decimal t ∷ codes " is not that of an error" ∷ [])
-refusal_display (refusal.Quote why) = quote_display why

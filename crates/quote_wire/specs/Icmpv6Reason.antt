@@ -2,7 +2,6 @@
 use Rattle.std.specs.Prelude.{ℕ, List, [], ◌∷◌, Option, None, codes}
 use Rattle.quote_wire.specs.Reason.{reason_in}
 use Rattle.quote_wire.specs.declared.icmpv6_error.Kind.{Kind}
-use Rattle.quote_wire.specs.declared.icmpv6_error.Kind.TheVariants as kind
 
 abbrev pub unreachable_reason : ℕ → Option (List ℕ)
 unreachable_reason code =
@@ -26,7 +25,7 @@ param_problem_reason code =
 
 -- by the type
 abbrev pub reason_of : Kind → ℕ → Option (List ℕ)
-reason_of kind.DstUnreachable code = unreachable_reason code
-reason_of kind.PktTooBig code = None
-reason_of kind.TimeExceeded code = time_exceeded_reason code
-reason_of kind.ParamProblem code = param_problem_reason code
+reason_of Kind.DstUnreachable code = unreachable_reason code
+reason_of Kind.PktTooBig code = None
+reason_of Kind.TimeExceeded code = time_exceeded_reason code
+reason_of Kind.ParamProblem code = param_problem_reason code

@@ -2,9 +2,9 @@
 -- as much of its payload as is quoted, and extensions where there are any (RFC 4884 section 7). The headers are those
 -- of IPv4 (RFC 791 section 3.1) and of IPv6 (RFC 8200 section 3).
 use Rattle.std.specs.Prelude.{◌≡◌, ◌≢◌, ◌↔◌, ℕ, ◌+◌, ◌/◌, ◌%◌, ◌^◌, ◌<◌, ◌≤◌, ◌⊎◌, List, [], ◌∷◌, ◌++◌, length, drop}
-use Rattle.std.specs.Prelude.{IsTrue, Bool, if◌then◌else◌, slice_index, codes, decimal}
+use Rattle.std.specs.Prelude.{IsTrue, slice_index, codes, decimal}
 use Rattle.wirebase.specs.Bytes.{Field, field, bytes_of, byte_of, number_of}
-use Rattle.wirebase.specs.Display.{pieces}
+use Rattle.wirebase.specs.Display.{pieces, truth_text}
 use Rattle.wirebase.specs.Ip.{protocol_number, protocol_of}
 use Rattle.wirebase.specs.Ipv4 as ipv4
 use Rattle.wirebase.specs.Ipv6 as ipv6
@@ -12,7 +12,6 @@ use Rattle.wirebase.specs.Ipv6Address.{octets_of, address_text}
 use Rattle.quote_wire.specs.declared.quote.Ipv4Quote.{Ipv4Quote}
 use Rattle.quote_wire.specs.declared.quote.Ipv6Quote.{Ipv6Quote}
 use Rattle.quote_wire.specs.declared.quote.refusal.Refusal.{Refusal}
-use Rattle.quote_wire.specs.declared.quote.refusal.Refusal.TheVariants.{Short, Version, Length, Data}
 
 -- the type of service of an IPv4 header, and its options, which are between its fixed fields and its payload
 abbrev pub type_of_service_field : Field
@@ -50,9 +49,6 @@ pub record IsIpv6Quote (bytes : List ℕ) (q : Ipv6Quote) : Type 0 where
   pub payload : q.payload.now ≡ drop 40 bytes
 
 -- what they print: the fields in the order of the header, and of what is lent the bytes
-abbrev pub truth_text : Bool → List ℕ
-truth_text is = if is then codes "true" else codes "false"
-
 abbrev pub ipv4_front_display : Ipv4Quote → List ℕ
 ipv4_front_display q =
     pieces (codes "IPv4 quote type_of_service=" ∷ decimal q.type_of_service
@@ -94,22 +90,22 @@ pub record HasFixed4 (bytes : List ℕ) : Type 0 where
   pub least : 20 ≤ ipv4.header_len_in bytes
 
 abbrev pub RefusesIpv4 : List ℕ → Refusal → Type 0
-RefusesIpv4 bytes Short = (length bytes < 20) ⊎ (HasFixed4 bytes × (length bytes < ipv4.header_len_in bytes))
-RefusesIpv4 bytes (Version n) = (20 ≤ length bytes) × (n ≡ ipv4.version_in bytes) × (n ≢ 4)
-RefusesIpv4 bytes (Length n) =
+RefusesIpv4 bytes Refusal.Short = (length bytes < 20) ⊎ (HasFixed4 bytes × (length bytes < ipv4.header_len_in bytes))
+RefusesIpv4 bytes (Refusal.Version n) = (20 ≤ length bytes) × (n ≡ ipv4.version_in bytes) × (n ≢ 4)
+RefusesIpv4 bytes (Refusal.Length n) =
     (20 ≤ length bytes) × (ipv4.version_in bytes ≡ 4) × (n ≡ ipv4.header_len_in bytes) × (n < 20)
-RefusesIpv4 bytes Data =
+RefusesIpv4 bytes Refusal.Data =
     HasFixed4 bytes × (ipv4.header_len_in bytes ≤ length bytes) × (length bytes < ipv4.header_len_in bytes + 8)
 
 abbrev pub RefusesIpv6 : List ℕ → Refusal → Type 0
-RefusesIpv6 bytes Short = length bytes < 40
-RefusesIpv6 bytes (Version n) = (40 ≤ length bytes) × (n ≡ slice_index bytes 0 / 16) × (n ≢ 6)
+RefusesIpv6 bytes Refusal.Short = length bytes < 40
+RefusesIpv6 bytes (Refusal.Version n) = (40 ≤ length bytes) × (n ≡ slice_index bytes 0 / 16) × (n ≢ 6)
 RefusesIpv6 bytes _ = ⊥
 
 -- what a reason prints
 abbrev pub refusal_display : Refusal → List ℕ
-refusal_display Short = codes "the quoted header is cut"
-refusal_display (Version n) = pieces (codes "the quoted header is of version " ∷ decimal n ∷ [])
-refusal_display (Length n) =
+refusal_display Refusal.Short = codes "the quoted header is cut"
+refusal_display (Refusal.Version n) = pieces (codes "the quoted header is of version " ∷ decimal n ∷ [])
+refusal_display (Refusal.Length n) =
     pieces (codes "the quoted header has " ∷ decimal n ∷ codes " bytes by its own length" ∷ [])
-refusal_display Data = codes "fewer than 8 bytes stand behind the quoted header"
+refusal_display Refusal.Data = codes "fewer than 8 bytes stand behind the quoted header"

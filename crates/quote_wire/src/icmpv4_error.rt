@@ -1,14 +1,12 @@
 //! ICMPv4 errors with the bytes that they quote (RFC 792), and the error about a datagram.
 
-ghost use Rattle.std.specs.Prelude.{◌≡◌, ◌≤◌, ◌<◌, ◌↔◌, ◌/◌, ◌^◌, length, min, take, IfOk, IsOkAnd, IfSome, IsTrue};
-ghost use Rattle.std.specs.Prelude.{Some};
+ghost use Rattle.std.specs.Prelude.{◌≡◌, ◌≤◌, ◌↔◌, length, IfOk, IfErr, IsOkAnd, IfSome, IsNone, IsTrue, Some};
 ghost use Rattle.std.specs.Option.{option_map};
-ghost use Rattle.wirebase.specs.Bytes.{over, Reaches};
-ghost use Rattle.wirebase.specs.ByteWriter.{fields};
+ghost use Rattle.wirebase.specs.Bytes.{Reaches};
 ghost use Rattle.wirebase.specs.Format.{Rewrites, SameText};
 ghost use Rattle.wirebase.specs.Icmp.{checksum_field, header};
 ghost use Rattle.wirebase.specs.Ipv4.{octets_of};
-ghost use Rattle.quote_wire.specs.Error.{ErrorValue, IsError, error_fields, text_len, packet_text};
+ghost use Rattle.quote_wire.specs.Error.{ErrorValue, IsError, IsRead, Refuses, text_len, packet_text};
 ghost use Rattle.quote_wire.specs.Error.{seal as sealed_octets, format, Emits};
 ghost use Rattle.quote_wire.specs.Icmpv4Error.{kind_number, IsDatagram, protocol, value_of};
 ghost use Rattle.quote_wire.specs.Icmpv4Error.{next_hop_mtu_in, gateway_in, pointer_in};
@@ -17,11 +15,11 @@ ghost use Rattle.wirebase.specs.declared.capabilities.ChecksumCapabilities.{Chec
 
 mod display;
 mod reason;
-mod refusal;
 
-use super::field;
-use super::writing::write_error;
-pub use refusal::Refusal;
+pub use crate::error::Refusal;
+use crate::error::write_error;
+use crate::field;
+use crate::quote::why_no_datagram;
 use wirebase::{ChecksumCapabilities, Error, Ipv4Address, Octets, Result, are_bytes, checksum};
 
 /// The most bytes of a datagram that an error quotes: with the error's own headers they make 576, which every host
@@ -132,7 +130,8 @@ impl<'a> Repr<'a> {
         Repr::read(octets, checksum_caps)
     }
 
-    // The error in the octets.
+    // The error in the octets. Apart from `parse_or_refusal`: room for a reason in its result takes 81 bytes of code
+    // more at opt-level "z".
     fn read(octets: &'a [u8], checksum_caps: &ChecksumCapabilities) -> Result<Repr<'a>>
         ensures sound { IfOk result (λ repr. IsError (protocol checksum_caps.now) octets.now (value_of repr)) }
         ensures complete { (value : ErrorValue AnyKind) → IsError (protocol checksum_caps.now) octets.now value
@@ -157,6 +156,47 @@ impl<'a> Repr<'a> {
             }),
             None => Err(Error),
         }
+    }
+
+    /// The error in the octets, or why [`Repr::parse`] refuses them, by the check that fails first.
+    #[inline]
+    pub fn parse_or_refusal(
+        octets: &'a [u8],
+        checksum_caps: &ChecksumCapabilities,
+    ) -> std::result::Result<Repr<'a>, Refusal>
+        ensures sound { IfOk result (λ repr. IsError (protocol checksum_caps.now) octets.now (value_of repr)) }
+        ensures complete { (value : ErrorValue AnyKind) → IsError (protocol checksum_caps.now) octets.now value
+            → IsOkAnd result (λ repr. value_of repr ≡ value) }
+        ensures told { IfErr result (Refuses (protocol checksum_caps.now) octets.now) }
+    {
+        if octets.len() < field::HEADER_END {
+            return Err(Refusal::Short);
+        }
+        if checksum_caps.icmpv4.rx() && !checksum::is_good(octets, 0) {
+            return Err(Refusal::Checksum);
+        }
+        let number = octets.u8_at(field::TYPE);
+        let Some(kind) = Kind::from_number(number) else {
+            return Err(Refusal::UnknownType(number));
+        };
+        let quoted = &octets[field::HEADER_END..];
+        if !is_datagram(quoted) {
+            return Err(Refusal::Quote(why_no_datagram(quoted)));
+        }
+        Ok(Repr {
+            kind,
+            code: octets.u8_at(field::CODE),
+            rest: octets.u32_at(field::REST),
+            quoted,
+        })
+    }
+
+    /// Why [`Repr::parse`] refuses these octets, by the check that fails first; None exactly where it reads them.
+    pub fn refusal(octets: &[u8], checksum_caps: &ChecksumCapabilities) -> Option<Refusal>
+        ensures told { IfSome result (Refuses (protocol checksum_caps.now) octets.now) }
+        ensures exact { IsNone result ↔ IsRead (protocol checksum_caps.now) octets.now }
+    {
+        Repr::parse_or_refusal(octets, checksum_caps).err()
     }
 
     /// The MTU of the next link, in bytes, where fragmentation was needed but not allowed (type 3, code 4; RFC 1191
@@ -200,17 +240,24 @@ impl<'a> Repr<'a> {
             → result ≡ length (packet_text (protocol capabilities) (value_of self.now)) }
         ensures most { result ≤ 556 }
     {
-        field::HEADER_END + self.quotable().len()
+        field::HEADER_END + self.quoted.len().min(MAX_QUOTED)
     }
 
     /// Writes the error at the start of the octets, cut at their end, and then, where the capabilities ask for it, the
     /// checksum of all octets. The others keep their values. Requires at least 8 bytes. Give exactly `buffer_len()`: in
     /// a longer buffer the checksum covers what follows the error. At most 548 bytes of `quoted` are written.
+    #[tactic(auto, using(crate::proofs::ErrorFormat::take_counted))]
     pub fn emit_into(&self, octets: &mut [u8], checksum_caps: &ChecksumCapabilities)
         requires { Reaches header octets.old }
         ensures { Emits (protocol checksum_caps.now) (value_of self.now) octets.old octets.new }
     {
-        self.write(octets);
+        write_error(
+            octets,
+            self.kind.number(),
+            self.code,
+            self.rest,
+            &self.quoted[..self.quoted.len().min(MAX_QUOTED)],
+        );
         seal(octets, checksum_caps);
     }
 
@@ -218,29 +265,6 @@ impl<'a> Repr<'a> {
     pub fn same_text(a: &Self, b: &Self, checksum_caps: &ChecksumCapabilities)
         ensures { SameText (format (protocol checksum_caps.now)) (value_of a.now) (value_of b.now) }
     {}
-
-    // Writes the error with a checksum of zero.
-    fn write(&self, octets: &mut [u8])
-        requires { 8 ≤ length octets.old }
-        ensures { octets.new ≡ over octets.old (fields (error_fields
-            (kind_number self.now.kind) self.now.code self.now.rest (take 548 self.now.quoted.now))) }
-    {
-        write_error(
-            octets,
-            self.kind.number(),
-            self.code,
-            self.rest,
-            self.quotable(),
-        );
-    }
-
-    // The part of `quoted` that is written.
-    fn quotable(&self) -> &'a [u8]
-        ensures value { result.now ≡ take 548 self.now.quoted.now }
-        ensures len { length result.now ≡ min (length self.now.quoted.now) 548 }
-    {
-        &self.quoted[..self.quoted.len().min(MAX_QUOTED)]
-    }
 }
 
 // Whether the octets begin with an IPv4 header of version 4 that at least 8 bytes follow.

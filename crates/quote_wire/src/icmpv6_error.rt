@@ -1,14 +1,13 @@
 //! ICMPv6 errors with the bytes that they quote (RFC 4443 section 3), and the error about a packet.
 
-ghost use Rattle.std.specs.Prelude.{◌≡◌, ◌≤◌, ◌↔◌, length, min, take, IfOk, IsOkAnd, IfSome, IsTrue, Some};
-ghost use Rattle.wirebase.specs.Bytes.{over, Reaches};
-ghost use Rattle.wirebase.specs.ByteWriter.{fields};
+ghost use Rattle.std.specs.Prelude.{◌≡◌, ◌≤◌, ◌↔◌, length, IfOk, IfErr, IsOkAnd, IfSome, IsNone, IsTrue, Some};
+ghost use Rattle.wirebase.specs.Bytes.{Reaches};
 ghost use Rattle.wirebase.specs.Checksum.{fold, IsGood};
 ghost use Rattle.wirebase.specs.Format.{Rewrites, SameText};
 ghost use Rattle.wirebase.specs.Icmp.{checksum_field, header};
 ghost use Rattle.wirebase.specs.declared.capabilities.ChecksumCapabilities.{ChecksumCapabilities as AnyCapabilities};
 ghost use Rattle.wirebase.specs.declared.ipv6.address.Ipv6Address.{Ipv6Address as AnyAddress};
-ghost use Rattle.quote_wire.specs.Error.{ErrorValue, IsError, error_fields, text_len, packet_text};
+ghost use Rattle.quote_wire.specs.Error.{ErrorValue, IsError, IsRead, Refuses, text_len, packet_text};
 ghost use Rattle.quote_wire.specs.Error.{seal as sealed_octets, format, Emits};
 ghost use Rattle.quote_wire.specs.Icmpv6Error.{kind_number, IsPacketFront, protocol, extra_sum, value_of, mtu_in};
 ghost use Rattle.quote_wire.specs.Icmpv6Error.{pointer_in};
@@ -16,11 +15,11 @@ ghost use Rattle.quote_wire.specs.declared.icmpv6_error.Kind.{Kind as AnyKind};
 
 mod display;
 mod reason;
-mod refusal;
 
-use super::field;
-use super::writing::write_error;
-pub use refusal::Refusal;
+pub use crate::error::Refusal;
+use crate::error::write_error;
+use crate::field;
+use crate::quote::why_no_packet;
 use wirebase::{
     ChecksumCapabilities, Error, IPV6_HEADER_LEN, IpProtocol, Ipv6Address, Octets, Result,
     are_bytes, checksum,
@@ -132,7 +131,8 @@ impl<'a> Repr<'a> {
         Repr::read(src_addr, dst_addr, octets, checksum_caps)
     }
 
-    // The error in the octets.
+    // The error in the octets. Apart from `parse_or_refusal`: room for a reason in its result takes 33 bytes of code
+    // more at opt-level "z".
     fn read(
         src_addr: &Ipv6Address,
         dst_addr: &Ipv6Address,
@@ -166,6 +166,60 @@ impl<'a> Repr<'a> {
         }
     }
 
+    /// The error in the octets of a message from `src_addr` to `dst_addr`, or why [`Repr::parse`] refuses them, by the
+    /// check that fails first.
+    #[inline]
+    pub fn parse_or_refusal(
+        src_addr: &Ipv6Address,
+        dst_addr: &Ipv6Address,
+        octets: &'a [u8],
+        checksum_caps: &ChecksumCapabilities,
+    ) -> std::result::Result<Repr<'a>, Refusal>
+        ensures sound { IfOk result (λ repr.
+            IsError (protocol src_addr.now dst_addr.now checksum_caps.now) octets.now (value_of repr)) }
+        ensures complete { (value : ErrorValue AnyKind)
+            → IsError (protocol src_addr.now dst_addr.now checksum_caps.now) octets.now value
+            → IsOkAnd result (λ repr. value_of repr ≡ value) }
+        ensures told { IfErr result
+            (Refuses (protocol src_addr.now dst_addr.now checksum_caps.now) octets.now) }
+    {
+        if octets.len() < field::HEADER_END {
+            return Err(Refusal::Short);
+        }
+        if checksum_caps.icmpv6.rx() && !is_good(octets, src_addr, dst_addr) {
+            return Err(Refusal::Checksum);
+        }
+        let number = octets.u8_at(field::TYPE);
+        let Some(kind) = Kind::from_number(number) else {
+            return Err(Refusal::UnknownType(number));
+        };
+        let quoted = &octets[field::HEADER_END..];
+        if !is_packet_front(quoted) {
+            return Err(Refusal::Quote(why_no_packet(quoted)));
+        }
+        Ok(Repr {
+            kind,
+            code: octets.u8_at(field::CODE),
+            rest: octets.u32_at(field::REST),
+            quoted,
+        })
+    }
+
+    /// Why [`Repr::parse`] refuses these octets, by the check that fails first; None exactly where it reads them.
+    pub fn refusal(
+        src_addr: &Ipv6Address,
+        dst_addr: &Ipv6Address,
+        octets: &[u8],
+        checksum_caps: &ChecksumCapabilities,
+    ) -> Option<Refusal>
+        ensures told { IfSome result
+            (Refuses (protocol src_addr.now dst_addr.now checksum_caps.now) octets.now) }
+        ensures exact { IsNone result
+            ↔ IsRead (protocol src_addr.now dst_addr.now checksum_caps.now) octets.now }
+    {
+        Repr::parse_or_refusal(src_addr, dst_addr, octets, checksum_caps).err()
+    }
+
     /// The MTU of the next link, in bytes, in packet too big (RFC 4443 section 3.2). None for every other error.
     pub fn mtu(&self) -> Option<u32>
         ensures { result ≡ mtu_in (value_of self.now) }
@@ -195,13 +249,14 @@ impl<'a> Repr<'a> {
             → result ≡ length (packet_text (protocol source destination capabilities) (value_of self.now)) }
         ensures most { result ≤ 1240 }
     {
-        field::HEADER_END + self.quotable().len()
+        field::HEADER_END + self.quoted.len().min(MAX_QUOTED)
     }
 
     /// Writes the error at the start of the octets, cut at their end, and then, where the capabilities ask for it, the
     /// checksum of all octets as a message from `src_addr` to `dst_addr`. The others keep their values. Requires at
     /// least 8 bytes. Give exactly `buffer_len()`: in a longer buffer the checksum covers what follows the error. At
     /// most 1,232 bytes of `quoted` are written.
+    #[tactic(auto, using(crate::proofs::ErrorFormat::take_counted))]
     pub fn emit_into(
         &self,
         src_addr: &Ipv6Address,
@@ -213,7 +268,13 @@ impl<'a> Repr<'a> {
         ensures { Emits (protocol src_addr.now dst_addr.now checksum_caps.now) (value_of self.now)
             octets.old octets.new }
     {
-        self.write(octets);
+        write_error(
+            octets,
+            self.kind.number(),
+            self.code,
+            self.rest,
+            &self.quoted[..self.quoted.len().min(MAX_QUOTED)],
+        );
         seal(octets, src_addr, dst_addr, checksum_caps);
     }
 
@@ -228,29 +289,6 @@ impl<'a> Repr<'a> {
         ensures { SameText (format (protocol src_addr.now dst_addr.now checksum_caps.now))
             (value_of a.now) (value_of b.now) }
     {}
-
-    // Writes the error with a checksum of zero.
-    fn write(&self, octets: &mut [u8])
-        requires { 8 ≤ length octets.old }
-        ensures { octets.new ≡ over octets.old (fields (error_fields
-            (kind_number self.now.kind) self.now.code self.now.rest (take 1232 self.now.quoted.now))) }
-    {
-        write_error(
-            octets,
-            self.kind.number(),
-            self.code,
-            self.rest,
-            self.quotable(),
-        );
-    }
-
-    // The part of `quoted` that is written.
-    fn quotable(&self) -> &'a [u8]
-        ensures value { result.now ≡ take 1232 self.now.quoted.now }
-        ensures len { length result.now ≡ min (length self.now.quoted.now) 1232 }
-    {
-        &self.quoted[..self.quoted.len().min(MAX_QUOTED)]
-    }
 }
 
 // Whether the octets begin with a header of version 6.

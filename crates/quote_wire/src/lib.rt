@@ -24,11 +24,11 @@
 //! ```
 #![tactic(auto)]
 
+mod error;
 pub mod icmpv4_error;
 pub mod icmpv6_error;
 pub mod message;
 pub mod quote;
-mod writing;
 
 // The fields of an error; their picture is in specs/Error.antt.
 mod field {

@@ -1,7 +1,6 @@
 -- Items at the start of octets, one after another: as many steps as there are octets are enough.
-use Rattle.std.proofs.Common.{◌≡◌, ℕ, zero, suc, ◌<◌, ◌≤◌, List, [], ◌∷◌, length, Option}
-use Rattle.std.proofs.Common.{None, Some, refl, sym, ap, ◌∙◌}
-use Rattle.std.proofs.Common.{arith}
+use Rattle.record_wire.proofs.Words.{◌≡◌, ◌<◌, ◌≤◌, [], ◌∷◌, ◌∙◌, List, None, Option, Some, ℕ, ap, arith, length, refl}
+use Rattle.record_wire.proofs.Words.{suc, sym, zero}
 use Rattle.std.specs.Iterator.{MakesProgress, at_most}
 use Rattle.std.specs.Borrow.{Bor}
 use Rattle.record_wire.specs.Ahead.{then_more, ahead_up_to, ahead}

@@ -1,12 +1,11 @@
 -- The character at the start of a text.
-use Rattle.std.proofs.Common.{◌≡◌, ℕ, ◌+◌, ◌-◌, ◌*◌, ◌<◌, ◌≤◌, ◌⊎◌, Bool, true, false, cond, ltb, leb, eqb, ◌&&◌, not}
-use Rattle.std.proofs.Common.{List, [], ◌∷◌, ◌++◌, length, Option, None, Some, refl, sym, ap, ◌∙◌, inl, inr, arith}
-use Rattle.std.proofs.Common.{length-append}
-use Rattle.std.proofs.lemmas.Bool.{ltb-true, lt-ltb, leb-true, le-leb, eqb-true}
-use Rattle.std.proofs.lemmas.Bool.Decides.{eqb_tells}
-use Rattle.std.specs.Char.{is_ascii_graphic, is_ascii_digit}
-use Rattle.record_wire.specs.NameText.{IsCharacter, itself, quoted, numbered, is_special}
-use Rattle.record_wire.specs.NameReading.{first_byte, quoted_in, numbered_at, three_digits}
+use Rattle.record_wire.proofs.Words.{◌≡◌, ◌+◌, ◌-◌, ◌*◌, ◌<◌, ◌≤◌, ◌⊎◌, ◌&&◌, [], ◌∷◌, ◌++◌, ◌∙◌, Bool, IsCharacter}
+use Rattle.record_wire.proofs.Words.{List, None, Option, Some, ℕ, ap, arith, cond, eqb, eqb-true, eqb_tells, false}
+use Rattle.record_wire.proofs.Words.{first_byte, inl, inr, is_ascii_digit, is_ascii_graphic, is_special, itself, le-leb}
+use Rattle.record_wire.proofs.Words.{leb, leb-true, length, length-append, ltb, ltb-true, not, numbered, quoted, refl}
+use Rattle.record_wire.proofs.Words.{sym, true}
+use Rattle.std.proofs.lemmas.Bool.{lt-ltb}
+use Rattle.record_wire.specs.NameReading.{quoted_in, numbered_at, three_digits}
 
 -- which case a test took
 pub chosen : {A : Type 0} (b : Bool) (x y z : A) → cond b x y ≡ z → ((b ≡ true) × (x ≡ z)) ⊎ ((b ≡ false) × (y ≡ z))

@@ -1,13 +1,11 @@
 -- The options in octets.
-use Rattle.std.proofs.Common.{◌≡◌, ℕ, zero, suc, ◌<◌, ◌≤◌, Bool, true, false, cond, leb, ◌&&◌, List, [], ◌∷◌}
-use Rattle.std.proofs.Common.{length, take, drop, Option, None, Some, Ok, Err, inl, inr, refl, sym, ap, ◌∙◌}
-use Rattle.std.proofs.Common.{subst, arith, length-drop}
-use Rattle.std.proofs.lemmas.Bool.{leb-true, le-leb, lt-leb, cases_lt}
-use Rattle.wirebase.specs.Bytes.{number_of}
+use Rattle.record_wire.proofs.Words.{◌≡◌, ◌<◌, ◌≤◌, ◌&&◌, [], ◌∷◌, ◌∙◌, Answer, Bool, Err, List, None, Ok, Option, Some}
+use Rattle.record_wire.proofs.Words.{ℕ, answers_in, ap, arith, cases_lt, cond, drop, false, inl, inr, le-leb, leb}
+use Rattle.record_wire.proofs.Words.{leb-true, length, length-drop, number_of, refl, subst, suc, sym, take, true, zero}
+use Rattle.std.proofs.lemmas.Bool.{lt-leb}
 use Rattle.record_wire.specs.declared.edns.OptionRefusal.{OptionRefusal}
-use Rattle.record_wire.specs.declared.edns.OptionRefusal.TheVariants as refusal
-use Rattle.record_wire.specs.Edns.{OptionValue, IsOption, HasOption, option_len, code_field, Answer, Tile}
-use Rattle.record_wire.specs.Edns.{RefusesOption, option_at, why_none, answer_by, answer_at, answers_in}
+use Rattle.record_wire.specs.Edns.{OptionValue, IsOption, HasOption, option_len, code_field, Tile, RefusesOption}
+use Rattle.record_wire.specs.Edns.{option_at, why_none, answer_by, answer_at}
 use Rattle.record_wire.proofs.Characters.{both}
 use Rattle.record_wire.proofs.Ahead.{Shrinks, none, one, front, ahead_none, ahead_some}
 
@@ -72,18 +70,18 @@ option_shrinks bytes rest option is =
 
 -- ---- why none is at the start
 
-why_at : (enough : Bool) → enough ≡ true → cond enough refusal.Data refusal.Fields ≡ refusal.Data
+why_at : (enough : Bool) → enough ≡ true → cond enough OptionRefusal.Data OptionRefusal.Fields ≡ OptionRefusal.Data
 why_at enough e = rw e refl
 
-why_short : (enough : Bool) → enough ≡ false → cond enough refusal.Data refusal.Fields ≡ refusal.Fields
+why_short : (enough : Bool) → enough ≡ false → cond enough OptionRefusal.Data OptionRefusal.Fields ≡ OptionRefusal.Fields
 why_short enough e = rw e refl
 
 -- octets have one reason
 why_one : (bytes : List ℕ) (why : OptionRefusal) → RefusesOption bytes why → why_none bytes ≡ why
-why_one bytes refusal.Fields short = why_short (leb 4 (length bytes)) (lt-leb 4 (length bytes) short)
-why_one bytes refusal.Data (reaches, cut) = why_at (leb 4 (length bytes)) (le-leb 4 (length bytes) reaches)
+why_one bytes OptionRefusal.Fields short = why_short (leb 4 (length bytes)) (lt-leb 4 (length bytes) short)
+why_one bytes OptionRefusal.Data (reaches, cut) = why_at (leb 4 (length bytes)) (le-leb 4 (length bytes) reaches)
 
-pub data_cut : (bytes : List ℕ) → 4 ≤ length bytes → (HasOption bytes → ⊥) → RefusesOption bytes refusal.Data
+pub data_cut : (bytes : List ℕ) → 4 ≤ length bytes → (HasOption bytes → ⊥) → RefusesOption bytes OptionRefusal.Data
 data_cut bytes reaches nothing = elim (cases_lt (length (drop 4 bytes)) (option_len bytes)) [
   | inl cut ↦ (reaches, cut)
   | inr fits ↦ absurd (nothing (option_here bytes reaches fits))
@@ -91,10 +89,10 @@ data_cut bytes reaches nothing = elim (cases_lt (length (drop 4 bytes)) (option_
 
 why_told : (bytes : List ℕ) → (HasOption bytes → ⊥) → RefusesOption bytes (why_none bytes)
 why_told bytes nothing = elim (cases_lt (length bytes) 4) [
-  | inl short ↦ subst (RefusesOption bytes) (sym (why_one bytes refusal.Fields short)) short
+  | inl short ↦ subst (RefusesOption bytes) (sym (why_one bytes OptionRefusal.Fields short)) short
   | inr reaches ↦
       let told = data_cut bytes reaches nothing in
-      subst (RefusesOption bytes) (sym (why_one bytes refusal.Data told)) told
+      subst (RefusesOption bytes) (sym (why_one bytes OptionRefusal.Data told)) told
 ]
 
 -- ---- answers

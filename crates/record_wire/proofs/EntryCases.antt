@@ -1,18 +1,17 @@
 -- The entries of a section are questions, or else records.
-use Rattle.std.proofs.Common.{◌≡◌, ◌≢◌, ℕ, List, Option, None, Some, IfSome, refl, sym, subst}
-use Rattle.record_wire.specs.declared.entries.Section.{Section}
-use Rattle.record_wire.specs.declared.entries.Section.TheVariants.{Question, Answer, Authority, Additional}
+use Rattle.record_wire.proofs.Words.{◌≡◌, ◌≢◌, HasQuestion, HasRecord, IfSome, IsQuestion, IsRecord, List, None, Option}
+use Rattle.record_wire.proofs.Words.{QuestionValue, RecordValue, Section, Some, ℕ, question, record_in, refl, subst}
+use Rattle.record_wire.proofs.Words.{sym}
 use Rattle.record_wire.specs.declared.refusal.Refusal.{Refusal}
-use Rattle.record_wire.specs.Record.{QuestionValue, IsQuestion, RecordValue, IsRecord}
-use Rattle.record_wire.specs.RecordRefusal.{RefusesQuestion, RefusesRecord, HasQuestion, HasRecord}
-use Rattle.record_wire.specs.Entries.{EntryValue, question, record_in, IsEntry, HasEntry, RefusesEntry}
+use Rattle.record_wire.specs.RecordRefusal.{RefusesQuestion, RefusesRecord}
+use Rattle.record_wire.specs.Entries.{EntryValue, IsEntry, HasEntry, RefusesEntry}
 
-pub as_question : {A : Type 0} (section : Section) (bytes rest : List ℕ) (value : EntryValue) → section ≡ Question
+pub as_question : {A : Type 0} (section : Section) (bytes rest : List ℕ) (value : EntryValue) → section ≡ Section.Question
     → ((q : QuestionValue) → value ≡ question q → IsQuestion bytes q rest → A) → IsEntry section bytes value rest → A
 as_question section bytes rest (question q) e f is = f q refl is.1
 as_question section bytes rest (record_in s r) e f is = absurd (is.0 e)
 
-pub as_record : {A : Type 0} (section : Section) (bytes rest : List ℕ) (value : EntryValue) → section ≢ Question
+pub as_record : {A : Type 0} (section : Section) (bytes rest : List ℕ) (value : EntryValue) → section ≢ Section.Question
     → ((s : Section) (r : RecordValue) → value ≡ record_in s r → s ≡ section → IsRecord bytes r rest → A)
     → IsEntry section bytes value rest → A
 as_record section bytes rest (question q) other f is = absurd (other is.0)
@@ -20,31 +19,31 @@ as_record section bytes rest (record_in s r) other f is = f s r refl is.1 is.2
 
 -- ---- why none begins
 
-pub has_question : (section : Section) (bytes : List ℕ) → section ≡ Question → HasEntry section bytes
+pub has_question : (section : Section) (bytes : List ℕ) → section ≡ Section.Question → HasEntry section bytes
     → HasQuestion bytes
 has_question section bytes e (value, rest, is) =
     as_question section bytes rest value e (λ q same asks. (q, rest, asks)) is
 
-pub question_has : (section : Section) (bytes : List ℕ) → section ≡ Question → HasQuestion bytes
+pub question_has : (section : Section) (bytes : List ℕ) → section ≡ Section.Question → HasQuestion bytes
     → HasEntry section bytes
 question_has section bytes e (q, rest, asks) = (question q, rest, (e, asks))
 
-pub has_record : (section : Section) (bytes : List ℕ) → section ≢ Question → HasEntry section bytes → HasRecord bytes
+pub has_record : (section : Section) (bytes : List ℕ) → section ≢ Section.Question → HasEntry section bytes → HasRecord bytes
 has_record section bytes other (value, rest, is) =
     as_record section bytes rest value other (λ s r same section_is reads. (r, rest, reads)) is
 
-pub record_has : (section : Section) (bytes : List ℕ) → section ≢ Question → HasRecord bytes → HasEntry section bytes
+pub record_has : (section : Section) (bytes : List ℕ) → section ≢ Section.Question → HasRecord bytes → HasEntry section bytes
 record_has section bytes other (r, rest, reads) = (record_in section r, rest, (other, refl, reads))
 
-pub refuses_question : (section : Section) (bytes : List ℕ) (r : Option Refusal) → section ≡ Question
+pub refuses_question : (section : Section) (bytes : List ℕ) (r : Option Refusal) → section ≡ Section.Question
     → IfSome r (λ why. RefusesQuestion bytes why) → IfSome r (λ why. RefusesEntry section bytes why)
 refuses_question section bytes None e is = tt
 refuses_question section bytes (Some why) e is = subst (λ (s : Section). RefusesEntry s bytes why) (sym e) is
 
-pub refuses_record : (section : Section) (bytes : List ℕ) (r : Option Refusal) → section ≢ Question
+pub refuses_record : (section : Section) (bytes : List ℕ) (r : Option Refusal) → section ≢ Section.Question
     → IfSome r (λ why. RefusesRecord bytes why) → IfSome r (λ why. RefusesEntry section bytes why)
 refuses_record section bytes None other is = tt
-refuses_record Question bytes (Some why) other is = absurd (other refl)
-refuses_record Answer bytes (Some why) other is = is
-refuses_record Authority bytes (Some why) other is = is
-refuses_record Additional bytes (Some why) other is = is
+refuses_record Section.Question bytes (Some why) other is = absurd (other refl)
+refuses_record Section.Answer bytes (Some why) other is = is
+refuses_record Section.Authority bytes (Some why) other is = is
+refuses_record Section.Additional bytes (Some why) other is = is

@@ -1,25 +1,16 @@
 -- The fields before names and after them.
-use Rattle.std.proofs.Common.{◌≡◌, ℕ, ◌-◌, ◌<◌, ◌≤◌, ◌⊎◌, inl, inr, Bool, true, false, cond, leb, ◌&&◌}
-use Rattle.std.proofs.Common.{List, [], ◌∷◌, ◌++◌, length, take, drop, flat_map, Option, None, Some}
-use Rattle.std.proofs.Common.{refl, sym, ap, ◌∙◌, subst, arith, length-append, append_assoc}
-use Rattle.std.proofs.lemmas.Bool.{leb-true, le-leb, cases_lt}
-use Rattle.std.proofs.lemmas.List.{take-append-drop, length-take-le, nil_from_length}
-use Rattle.std.proofs.Math.Seq.{take-append_seam}
-use Rattle.std.specs.List.{AllByRecursion}
-use Rattle.dns_wire.specs.DnsName.{written}
-use Rattle.dns_wire.specs.DnsPart.{IsSplit}
-use Rattle.wirebase.specs.Bytes.{number_of}
+use Rattle.record_wire.proofs.Words.{◌≡◌, ◌-◌, ◌<◌, ◌≤◌, ◌⊎◌, ◌&&◌, [], ◌∷◌, ◌++◌, ◌∙◌, AllByRecursion, AreMaps}
+use Rattle.record_wire.proofs.Words.{AreThree, Bool, DataRefusal, IsRest, IsSplit, List, MapValue, None, Option}
+use Rattle.record_wire.proofs.Words.{RestValue, Some, ℕ, ap, append_assoc, arith, cases_lt, cond, drop, false}
+use Rattle.record_wire.proofs.Words.{first_map, flat_map, inl, inr, le-leb, leb, leb-true, length, length-append}
+use Rattle.record_wire.proofs.Words.{length-take-le, nil_from_length, number_of, refl, string_rest, subst, sym, take}
+use Rattle.record_wire.proofs.Words.{take-append-drop, take-append_seam, true, written}
 use Rattle.record_wire.specs.Fields.{FrontValue, no_front, numbered, rule, signs, number_field, order_field}
-use Rattle.record_wire.specs.Fields.{preference_field, signature_in, IsFront, AreThree, IsSecond}
-use Rattle.record_wire.specs.Fields.{RestValue, no_rest, signature, one_map, all_maps, IsRest}
-use Rattle.record_wire.specs.Fields.{MapValue, IsTypesMap, map_bytes, AreMaps, first_map}
-use Rattle.record_wire.specs.RData.{string_rest}
+use Rattle.record_wire.specs.Fields.{preference_field, signature_in, IsFront, IsSecond, no_rest, signature, one_map}
+use Rattle.record_wire.specs.Fields.{all_maps, IsTypesMap, map_bytes}
 use Rattle.record_wire.specs.RDataRefusal.{RefusesFront, RefusesRest}
 use Rattle.record_wire.specs.declared.rdata.fields.FrontForm.{FrontForm}
-use Rattle.record_wire.specs.declared.rdata.fields.FrontForm.TheVariants as front_form
 use Rattle.record_wire.specs.declared.rdata.fields.RestForm.{RestForm}
-use Rattle.record_wire.specs.declared.rdata.fields.RestForm.TheVariants as rest_form
-use Rattle.record_wire.specs.declared.rdata.refusal.DataRefusal.TheVariants as refusal
 use Rattle.record_wire.proofs.Ahead.{Shrinks}
 use Rattle.record_wire.proofs.LabelLists.{drop_seam}
 
@@ -72,47 +63,47 @@ three_strings bytes second third rest e f g =
 
 -- ---- what is refused before a name
 
-pub refused_rule : (form : FrontForm) (bytes : List ℕ) → form ≡ front_form.Rule → 4 ≤ length bytes
+pub refused_rule : (form : FrontForm) (bytes : List ℕ) → form ≡ FrontForm.Rule → 4 ≤ length bytes
     → ((value : FrontValue) (rest : List ℕ) → IsFront form bytes value rest → ⊥)
-    → RefusesFront form bytes refusal.String
-refused_rule front_form.Nothing bytes e fits none = cc e
-refused_rule front_form.Number bytes e fits none = cc e
-refused_rule front_form.Signed bytes e fits none = cc e
-refused_rule front_form.Rule bytes e fits none = (
+    → RefusesFront form bytes DataRefusal.String
+refused_rule FrontForm.Nothing bytes e fits none = cc e
+refused_rule FrontForm.Number bytes e fits none = cc e
+refused_rule FrontForm.Signed bytes e fits none = cc e
+refused_rule FrontForm.Rule bytes e fits none = (
   fits,
   λ strings rest three.
       none (rule (number_of order_field bytes) (number_of preference_field bytes) strings) rest
       (record { strings = strings; reaches = fits; three = three; is = refl }),
 )
 
-pub refused_cut : (form : FrontForm) (bytes : List ℕ) → form ≡ front_form.Rule → length bytes < 4
-    → RefusesFront form bytes refusal.Numbers
-refused_cut front_form.Nothing bytes e cut = cc e
-refused_cut front_form.Number bytes e cut = cc e
-refused_cut front_form.Signed bytes e cut = cc e
-refused_cut front_form.Rule bytes e cut = cut
+pub refused_cut : (form : FrontForm) (bytes : List ℕ) → form ≡ FrontForm.Rule → length bytes < 4
+    → RefusesFront form bytes DataRefusal.Numbers
+refused_cut FrontForm.Nothing bytes e cut = cc e
+refused_cut FrontForm.Number bytes e cut = cc e
+refused_cut FrontForm.Signed bytes e cut = cc e
+refused_cut FrontForm.Rule bytes e cut = cut
 
 -- a form other than a rule
 abbrev IsOther : FrontForm → Type 0
-IsOther form = (form ≡ front_form.Nothing) ⊎ ((form ≡ front_form.Number) ⊎ (form ≡ front_form.Signed))
+IsOther form = (form ≡ FrontForm.Nothing) ⊎ ((form ≡ FrontForm.Number) ⊎ (form ≡ FrontForm.Signed))
 
-no_rule : IsOther front_form.Rule → ⊥
+no_rule : IsOther FrontForm.Rule → ⊥
 no_rule (inl e) = cc e
 no_rule (inr (inl e)) = cc e
 no_rule (inr (inr e)) = cc e
 
 pub refused_numbers : (form : FrontForm) (bytes : List ℕ) → IsOther form
     → ((value : FrontValue) (rest : List ℕ) → IsFront form bytes value rest → ⊥)
-    → RefusesFront form bytes refusal.Numbers
-refused_numbers front_form.Nothing bytes other none = absurd (none no_front bytes (refl, refl))
-refused_numbers front_form.Number bytes other none = elim (cases_lt (length bytes) 2) [
+    → RefusesFront form bytes DataRefusal.Numbers
+refused_numbers FrontForm.Nothing bytes other none = absurd (none no_front bytes (refl, refl))
+refused_numbers FrontForm.Number bytes other none = elim (cases_lt (length bytes) 2) [
   | inl less ↦ less
   | inr fits ↦
       absurd (none (numbered (number_of number_field bytes)) (drop 2 bytes)
       (record { reaches = fits; is = refl; rest_is = refl }))
 ]
-refused_numbers front_form.Rule bytes other none = absurd (no_rule other)
-refused_numbers front_form.Signed bytes other none = elim (cases_lt (length bytes) 18) [
+refused_numbers FrontForm.Rule bytes other none = absurd (no_rule other)
+refused_numbers FrontForm.Signed bytes other none = elim (cases_lt (length bytes) 18) [
   | inl less ↦ less
   | inr fits ↦
       absurd (none (signs (signature_in bytes)) (drop 18 bytes)
@@ -127,27 +118,27 @@ pub no_second : (two : Bool) (bytes : List ℕ)
 no_second false bytes none = absurd (none None bytes (refl, refl))
 no_second true bytes none = (refl, λ name rest split. none (Some name) rest (name, refl, split))
 
-pub refused_types : (form : RestForm) (bytes : List ℕ) → (form ≡ rest_form.Bits) ⊎ (form ≡ rest_form.Types)
-    → ((value : RestValue) → IsRest form bytes value → ⊥) → RefusesRest form bytes refusal.Types
-refused_types rest_form.Nothing bytes (inl e) none = cc e
-refused_types rest_form.Nothing bytes (inr e) none = cc e
-refused_types rest_form.Signature bytes (inl e) none = cc e
-refused_types rest_form.Signature bytes (inr e) none = cc e
-refused_types rest_form.Bits bytes e none = λ map. none (one_map bytes) (map, refl)
-refused_types rest_form.Types bytes e none = λ maps. none (all_maps bytes) (maps, refl)
+pub refused_types : (form : RestForm) (bytes : List ℕ) → (form ≡ RestForm.Bits) ⊎ (form ≡ RestForm.Types)
+    → ((value : RestValue) → IsRest form bytes value → ⊥) → RefusesRest form bytes DataRefusal.Types
+refused_types RestForm.Nothing bytes (inl e) none = cc e
+refused_types RestForm.Nothing bytes (inr e) none = cc e
+refused_types RestForm.Signature bytes (inl e) none = cc e
+refused_types RestForm.Signature bytes (inr e) none = cc e
+refused_types RestForm.Bits bytes e none = λ map. none (one_map bytes) (map, refl)
+refused_types RestForm.Types bytes e none = λ maps. none (all_maps bytes) (maps, refl)
 
 some_bytes : (bytes : List ℕ) → (bytes ≡ [] → ⊥) → 1 ≤ length bytes
 some_bytes [] none = absurd (none refl)
 some_bytes (byte ∷ rest) none = omega arith
 
-pub refused_bytes : (form : RestForm) (bytes : List ℕ) → (form ≡ rest_form.Nothing) ⊎ (form ≡ rest_form.Signature)
-    → ((value : RestValue) → IsRest form bytes value → ⊥) → RefusesRest form bytes refusal.BehindName
-refused_bytes rest_form.Nothing bytes e none = some_bytes bytes (λ is. none no_rest (is, refl))
-refused_bytes rest_form.Signature bytes e none = absurd (none (signature bytes) refl)
-refused_bytes rest_form.Bits bytes (inl e) none = cc e
-refused_bytes rest_form.Bits bytes (inr e) none = cc e
-refused_bytes rest_form.Types bytes (inl e) none = cc e
-refused_bytes rest_form.Types bytes (inr e) none = cc e
+pub refused_bytes : (form : RestForm) (bytes : List ℕ) → (form ≡ RestForm.Nothing) ⊎ (form ≡ RestForm.Signature)
+    → ((value : RestValue) → IsRest form bytes value → ⊥) → RefusesRest form bytes DataRefusal.BehindName
+refused_bytes RestForm.Nothing bytes e none = some_bytes bytes (λ is. none no_rest (is, refl))
+refused_bytes RestForm.Signature bytes e none = absurd (none (signature bytes) refl)
+refused_bytes RestForm.Bits bytes (inl e) none = cc e
+refused_bytes RestForm.Bits bytes (inr e) none = cc e
+refused_bytes RestForm.Types bytes (inl e) none = cc e
+refused_bytes RestForm.Types bytes (inr e) none = cc e
 
 -- ---- maps of bits
 

@@ -1,13 +1,10 @@
 -- The texts of fields: types of maps of bits, and base64.
-use Rattle.std.proofs.Common.{◌≡◌, ℕ, ◌+◌, ◌-◌, ◌*◌, ◌/◌, ◌%◌, ◌<◌, Bool, true, false, cond, leb, List, [], ◌∷◌}
-use Rattle.std.proofs.Common.{◌++◌, length, map, flat_map, None, Some, refl, sym, ap, ◌∙◌, arith}
-use Rattle.std.proofs.lemmas.Bool.{leb-true}
-use Rattle.std.proofs.lemmas.Str.Ascii.{IsAscii-cons, IsAscii-nil}
-use Rattle.std.specs.Str.{IsAscii}
-use Rattle.record_wire.specs.Fields.{MapValue, first_map}
-use Rattle.record_wire.specs.FieldsText.{byte_text, map_text, number_at, types_text, maps_text}
+use Rattle.record_wire.proofs.Words.{◌≡◌, ◌+◌, ◌-◌, ◌*◌, ◌/◌, ◌%◌, ◌<◌, [], ◌∷◌, ◌++◌, ◌∙◌, Bool, IsAscii, IsAscii-cons}
+use Rattle.record_wire.proofs.Words.{IsAscii-nil, List, MapValue, None, Some, ℕ, ap, arith, base64, byte_text, cond}
+use Rattle.record_wire.proofs.Words.{false, first_map, flat_map, leb, leb-true, length, map, map_text, maps_text}
+use Rattle.record_wire.proofs.Words.{number_at, refl, sym, true, types_text}
 use Rattle.record_wire.specs.NameReading.{first_octet, first_group}
-use Rattle.record_wire.specs.ZoneText.{base64, base64_digit}
+use Rattle.record_wire.specs.ZoneText.{base64_digit}
 use Rattle.record_wire.proofs.Ahead.{ahead_none, ahead_some}
 use Rattle.record_wire.proofs.FieldParts.{maps_shrink}
 

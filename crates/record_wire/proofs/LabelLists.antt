@@ -1,14 +1,10 @@
 -- The labels in octets.
-use Rattle.std.proofs.Common.{◌≡◌, ℕ, zero, suc, ◌+◌, ◌<◌, ◌≤◌, Bool, true, false, cond, leb, ◌&&◌, List, [], ◌∷◌, ◌++◌}
-use Rattle.std.proofs.Common.{length, take, drop, Option, None, Some, refl, sym, ap, ◌∙◌, arith}
-use Rattle.std.proofs.Common.{length-append, append_assoc}
-use Rattle.std.proofs.lemmas.List.{take-append-drop, length-take-le, append-nil}
-use Rattle.std.proofs.lemmas.Bool.{leb-true, le-leb}
-use Rattle.std.proofs.lemmas.Grind.{flat_map-append}
-use Rattle.std.proofs.Math.Seq.{take-append_seam}
-use Rattle.std.specs.List.{AllByRecursion}
-use Rattle.dns_wire.specs.DnsName.{IsLabel, written}
-use Rattle.record_wire.specs.Labels.{first_label, by_first, labels_up_to, labels_in, written_all, wire, AreOfName}
+use Rattle.record_wire.proofs.Words.{◌≡◌, ◌+◌, ◌<◌, ◌≤◌, ◌&&◌, [], ◌∷◌, ◌++◌, ◌∙◌, AllByRecursion, AreOfName, Bool}
+use Rattle.record_wire.proofs.Words.{IsLabel, List, None, Option, Some, ℕ, ap, append-nil, append_assoc, arith, cond}
+use Rattle.record_wire.proofs.Words.{drop, false, first_label, flat_map-append, labels_in, le-leb, leb, leb-true}
+use Rattle.record_wire.proofs.Words.{length, length-append, length-take-le, refl, suc, sym, take, take-append-drop}
+use Rattle.record_wire.proofs.Words.{take-append_seam, true, wire, written, written_all, zero}
+use Rattle.record_wire.specs.Labels.{by_first, labels_up_to}
 use Rattle.record_wire.proofs.Characters.{both}
 
 -- the label at the start

@@ -1,5 +1,5 @@
 -- The texts of types and classes, with a mnemonic and without.
-use Rattle.std.proofs.Common.{◌≡◌, ℕ, List, ◌++◌, Option, None, Some, sym, ap, codes, decimal}
+use Rattle.record_wire.proofs.Words.{◌≡◌, ◌++◌, List, None, Option, Some, ℕ, ap, codes, decimal, sym}
 use Rattle.dns_wire.specs.DnsDisplay.{type_names, name_in, name_or}
 use Rattle.record_wire.specs.Mnemonics.{class_names, type_text, class_text}
 

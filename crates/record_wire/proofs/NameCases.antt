@@ -1,12 +1,8 @@
 -- The octets of a name and its labels, in lower case.
-use Rattle.std.proofs.Common.{◌≡◌, ℕ, ◌<◌, List, [], ◌∷◌, ◌++◌, length}
-use Rattle.std.proofs.Common.{map, refl, sym, ap, ◌∙◌}
-use Rattle.std.proofs.Common.{arith}
+use Rattle.record_wire.proofs.Words.{◌≡◌, ◌<◌, [], ◌∷◌, ◌++◌, ◌∙◌, AllByRecursion, IsLabel, List, ℕ, ap, arith}
+use Rattle.record_wire.proofs.Words.{labels_in, length, map, refl, sym, wire, written, written_all}
 use Rattle.std.proofs.lemmas.List.{map-append, length-map}
-use Rattle.std.specs.List.{AllByRecursion}
 use Rattle.std.specs.Char.{to_ascii_lowercase}
-use Rattle.dns_wire.specs.DnsName.{IsLabel, written}
-use Rattle.record_wire.specs.Labels.{written_all, wire, labels_in}
 use Rattle.record_wire.specs.NameCase.{lower_label, lower_labels}
 use Rattle.record_wire.proofs.LabelLists.{labels-wire, each_in}
 

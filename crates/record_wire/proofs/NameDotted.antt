@@ -1,13 +1,12 @@
 -- The text of a name without escapes.
-use Rattle.std.proofs.Common.{◌≡◌, ℕ, ◌≤◌, Bool, true, false, ◌&&◌, not, List, [], ◌∷◌, ◌++◌, length, take}
-use Rattle.std.proofs.Common.{◌+◌, cond, codes, refl, sym, ap, ◌∙◌, inl, inr, rules, arith, append_assoc, length-append}
-use Rattle.std.proofs.lemmas.List.{length-take-le}
+use Rattle.record_wire.proofs.Words.{◌≡◌, ◌≤◌, ◌&&◌, [], ◌∷◌, ◌++◌, ◌+◌, ◌∙◌, Bool, List, ℕ, ap, append_assoc}
+use Rattle.record_wire.proofs.Words.{are_usual, arith, behind_dots, character, codes, cond, count_by, dotted, eqb_tells}
+use Rattle.record_wire.proofs.Words.{false, inl, inr, is_ascii_graphic, is_in, is_usual, label_text, length}
+use Rattle.record_wire.proofs.Words.{length-append, length-take-le, name_text, not, refl, rules, specials, sym, take}
+use Rattle.record_wire.proofs.Words.{true}
 use Rattle.std.proofs.lemmas.List.Sums.{count_by-le-length, sum_by-append}
-use Rattle.std.proofs.lemmas.Bool.Decides.{eqb_tells}
-use Rattle.std.specs.List.{list_all, count_by}
-use Rattle.std.specs.Char.{is_ascii_graphic}
-use Rattle.record_wire.specs.NameText.{specials, is_in, character, label_text, behind_dots, name_text}
-use Rattle.record_wire.specs.NameDotted.{is_usual, is_usual_label, are_usual, dotted}
+use Rattle.std.specs.List.{list_all}
+use Rattle.record_wire.specs.NameDotted.{is_usual_label}
 use Rattle.record_wire.proofs.NamePieces.{plain_text}
 
 -- ---- bytes that are written as themselves

@@ -1,18 +1,14 @@
 -- The text of a name that is put label by label.
-use Rattle.std.proofs.Common.{◌≡◌, ◌↔◌, ℕ, ◌+◌, ◌-◌, ◌<◌, ◌≤◌, List, [], ◌∷◌, ◌++◌, length, take, drop, codes}
-use Rattle.std.proofs.Common.{None, IsSome, refl, sym, ap, ◌∙◌, arith, append_assoc, length-append}
-use Rattle.std.proofs.lemmas.List.{append-nil, length-take-le, take-take}
-use Rattle.std.proofs.lemmas.Grind.{flat_map-append}
+use Rattle.record_wire.proofs.Words.{◌≡◌, ◌↔◌, ◌+◌, ◌-◌, ◌<◌, ◌≤◌, [], ◌∷◌, ◌++◌, ◌∙◌, AllByRecursion, IsLabel, IsSome}
+use Rattle.record_wire.proofs.Words.{List, Names, None, Whole-front, ℕ, ap, append-nil, append_assoc, are_usual, arith}
+use Rattle.record_wire.proofs.Words.{codes, count_by, dotted, drop, flat_map-append, front_of, is_usual, labels_in}
+use Rattle.record_wire.proofs.Words.{length, length-append, length-take-le, most_pointers, pointer, refl, stop, sym}
+use Rattle.record_wire.proofs.Words.{take, take-append_seam, torn, whole, written, written_all}
+use Rattle.std.proofs.lemmas.List.{take-take}
 use Rattle.std.proofs.lemmas.Slice.{take-put_mid}
-use Rattle.std.proofs.Math.Seq.{take-append-add, take-append_seam}
-use Rattle.std.specs.List.{AllByRecursion, count_by}
+use Rattle.std.proofs.Math.Seq.{take-append-add}
 use borrow.Rule.Slice.PartMut.{put_mid}
-use Rattle.dns_wire.specs.DnsName.{IsLabel, written}
-use Rattle.dns_wire.specs.DnsNameAhead.{whole, pointer, stop, torn, front_of}
-use Rattle.dns_wire.proofs.DnsNameTurns.{Whole-front}
-use Rattle.record_wire.specs.Labels.{labels_in, written_all}
-use Rattle.record_wire.specs.NameDotted.{is_usual, are_usual, dotted, dotted_text, AreUsual}
-use Rattle.record_wire.specs.Names.{Names, most_pointers}
+use Rattle.record_wire.specs.NameDotted.{dotted_text, AreUsual}
 use Rattle.record_wire.specs.NameParts.{StandInFront}
 use Rattle.record_wire.proofs.LabelLists.{in_written, in_nothing, written_more, each_more}
 use Rattle.record_wire.proofs.NameDotted.{front_usual}

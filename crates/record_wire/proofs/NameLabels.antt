@@ -1,12 +1,9 @@
 -- The labels of a name's text, one after another.
-use Rattle.std.proofs.Common.{◌≡◌, ℕ, ◌+◌, ◌≤◌, List, [], ◌∷◌, ◌++◌, length, None, refl, sym, ap, ◌∙◌, subst, inl, inr}
-use Rattle.std.proofs.Common.{arith, codes, eqb, length-append}
-use Rattle.std.proofs.lemmas.Bool.{eqb-true}
-use Rattle.std.specs.List.{AllByRecursion}
-use Rattle.dns_wire.specs.DnsName.{IsLabel, written}
-use Rattle.record_wire.specs.Labels.{written_all, wire}
-use Rattle.record_wire.specs.NameText.{Spells, GoesOn, IsTextOf, IsNameText}
-use Rattle.record_wire.specs.NameReading.{first_byte, HasLabelsOfText, behind_in, at_end, at_label, at_other}
+use Rattle.record_wire.proofs.Words.{◌≡◌, ◌+◌, ◌≤◌, [], ◌∷◌, ◌++◌, ◌∙◌, AllByRecursion, GoesOn, IsLabel, IsNameText}
+use Rattle.record_wire.proofs.Words.{IsTextOf, List, None, Spells, ℕ, ap, arith, at_other, behind_in, codes, eqb}
+use Rattle.record_wire.proofs.Words.{eqb-true, first_byte, inl, inr, length, length-append, refl, subst, sym, wire}
+use Rattle.record_wire.proofs.Words.{written, written_all}
+use Rattle.record_wire.specs.NameReading.{HasLabelsOfText, at_end, at_label}
 use Rattle.record_wire.specs.TextRefusal.{Leads}
 use Rattle.record_wire.proofs.LabelLists.{written_more, each_more, room_before}
 use Rattle.record_wire.proofs.Characters.{chosen, character_some, character_first}

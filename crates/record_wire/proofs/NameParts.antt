@@ -1,20 +1,16 @@
 -- The labels of a name that were read, part by part, and those that are still to come.
-use Rattle.std.proofs.Common.{◌≡◌, ℕ, zero, suc, ◌+◌, ◌-◌, ◌<◌, ◌≤◌, List, [], ◌∷◌, ◌++◌, length, take, drop}
-use Rattle.std.proofs.Common.{Bool, true, false, cond, ltb}
-use Rattle.std.proofs.Common.{refl, sym, ap, ◌∙◌, subst, arith, append_assoc, length-append}
-use Rattle.std.proofs.lemmas.List.{append-nil, take_all, length-drop, length-take-le, drop-drop, drop_at}
-use Rattle.std.proofs.lemmas.Grind.{flat_map-append}
-use Rattle.std.proofs.Math.Seq.{take-append_seam}
-use Rattle.std.specs.List.{AllByRecursion}
-use Rattle.dns_wire.specs.DnsName.{IsLabel, IsName, written, joined}
-use Rattle.dns_wire.specs.DnsNameAhead.{NamePart, whole, pointer, stop, torn, front_of, ahead_of, answers, by_front}
+use Rattle.record_wire.proofs.Words.{◌≡◌, ◌+◌, ◌-◌, ◌<◌, ◌≤◌, [], ◌∷◌, ◌++◌, ◌∙◌, AllByRecursion, AreOfName, Bool}
+use Rattle.record_wire.proofs.Words.{IsLabel, LabelsAtFront, List, Names, Whole-front, ℕ, ap, append-nil, append_assoc}
+use Rattle.record_wire.proofs.Words.{arith, cond, drop, drop_at, false, flat_map-append, front_of, length}
+use Rattle.record_wire.proofs.Words.{length-append, length-take-le, ltb, most_pointers, pointer, refl, stop, subst, suc}
+use Rattle.record_wire.proofs.Words.{sym, take, take-append_seam, torn, true, whole, wire, written, written_all, zero}
+use Rattle.std.proofs.lemmas.List.{take_all, length-drop, drop-drop}
+use Rattle.dns_wire.specs.DnsName.{IsName, joined}
+use Rattle.dns_wire.specs.DnsNameAhead.{NamePart, ahead_of, answers, by_front}
 use Rattle.dns_wire.specs.DnsNameWalk.{Coming, label, Gives, in_window, in_windows, at_end, at_fault}
-use Rattle.dns_wire.proofs.DnsNameTurns.{Whole-front, ahead_pointer, ahead_far, ahead_stop, ahead_torn}
+use Rattle.dns_wire.proofs.DnsNameTurns.{ahead_pointer, ahead_far, ahead_stop, ahead_torn}
 use Rattle.dns_wire.proofs.DnsNameRoutes.{labels_ahead}
 use Rattle.dns_wire.proofs.DnsNameTheorem.{walks_over}
-use Rattle.record_wire.specs.Labels.{written_all, wire, AreOfName}
-use Rattle.record_wire.specs.NameParts.{LabelsAtFront}
-use Rattle.record_wire.specs.Names.{Names, most_pointers}
 use Rattle.record_wire.proofs.LabelLists.{drop_seam, written_more, each_more, name_of}
 
 -- what follows this many bytes, as a range up to the end

@@ -1,20 +1,16 @@
 -- Text that is written by the piece.
-use Rattle.std.proofs.Common.{rules, ◌≡◌, ℕ, ◌+◌, ◌/◌, ◌%◌, ◌<◌, ◌≤◌, Bool, true, false, cond, ◌&&◌, not, List}
-use Rattle.std.proofs.Common.{[], ◌∷◌, ◌++◌, Result, Ok, Err, Bor, refl, sym, ◌∙◌, subst, arith}
-use Rattle.std.proofs.Common.{append_assoc, codes, decimal, length, take, slice_set}
+use Rattle.record_wire.proofs.Words.{◌≡◌, ◌+◌, ◌/◌, ◌%◌, ◌<◌, ◌≤◌, ◌&&◌, [], ◌∷◌, ◌++◌, ◌∙◌, Bool, Err, HasWritten}
+use Rattle.record_wire.proofs.Words.{IsAscii, IsAscii-cons, IsAscii-nil, List, Ok, Result, Takes, ℕ, append_assoc}
+use Rattle.record_wire.proofs.Words.{arith, character, codes, cond, decimal, decimal_digit, false, is_ascii_graphic}
+use Rattle.record_wire.proofs.Words.{is_special, length, not, put_two, refl, rules, slice_set, subst, sym, take, true}
+use Rattle.std.proofs.Common.{Bor}
 use Rattle.std.proofs.Math.Seq.{lt-length-set}
 use Rattle.std.proofs.lemmas.Grind.{take-set_at}
-use Rattle.std.proofs.lemmas.Fmt.{decimal_digit, IsAscii-decimal}
-use Rattle.std.proofs.lemmas.Grind.{put_two}
+use Rattle.std.proofs.lemmas.Fmt.{IsAscii-decimal}
 use Rattle.std.proofs.lemmas.Str.{IsUtf8-from_ascii, IsAscii-append}
-use Rattle.std.proofs.lemmas.Str.Ascii.{IsAscii-cons, IsAscii-nil}
-use Rattle.std.specs.Char.{is_ascii_graphic}
-use Rattle.std.specs.Fmt.{HasWritten}
 use Rattle.std.specs.Result.{MatchResult, result_unwrap_or}
-use Rattle.std.specs.Str.{IsAscii, IsUtf8}
+use Rattle.std.specs.Str.{IsUtf8}
 use Rattle.std.specs.declared.fmt.Formatter.{Formatter}
-use Rattle.record_wire.specs.NamePieces.{Takes}
-use Rattle.record_wire.specs.NameText.{character, is_special}
 
 -- ---- what a byte is written as
 

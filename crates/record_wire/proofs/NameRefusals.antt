@@ -1,23 +1,15 @@
 -- Where the reading of a name fails.
-use Rattle.std.proofs.Common.{◌≡◌, ℕ, ◌+◌, ◌<◌, ◌≤◌, inl, inr, List, [], ◌∷◌, ◌++◌}
-use Rattle.std.proofs.Common.{length, take, drop, refl, sym, ap, ◌∙◌}
-use Rattle.std.proofs.Common.{subst, arith}
-use Rattle.std.proofs.Common.{append_assoc, length-append}
-use Rattle.std.proofs.lemmas.Bool.{cases_lt}
-use Rattle.std.specs.List.{AllByRecursion}
-use Rattle.dns_wire.specs.DnsName.{IsLabel, written}
-use Rattle.dns_wire.specs.DnsNameAhead.{whole, pointer, stop, torn, front_of}
-use Rattle.dns_wire.proofs.DnsNameTurns.{Whole-front, Points-front, front-whole}
-use Rattle.record_wire.specs.Labels.{written_all}
-use Rattle.record_wire.specs.NameParts.{LabelsAtFront, HasLabelsOfName}
-use Rattle.record_wire.specs.NameRefusal.{PointsTo, ComesTo, begins, passes, follows, IsLeft, RefusesName}
-use Rattle.record_wire.specs.Names.{most_pointers}
-use Rattle.record_wire.specs.RecordRefusal.{IsNoPart}
-use Rattle.record_wire.specs.declared.refusal.PartRefusal.{PartRefusal}
-use Rattle.record_wire.specs.declared.refusal.PartRefusal.TheVariants.{Cut, LabelType}
-use Rattle.record_wire.specs.declared.name.refusal.NameRefusal.TheVariants.{Part, Pointer, TooLong, TooManyPointers}
-use Rattle.record_wire.proofs.NameParts.{IsReadTo, nothing_read, pointer_read, labels_read, all_read}
-use Rattle.record_wire.proofs.NameParts.{in_front, behind_front}
+use Rattle.record_wire.proofs.Words.{◌≡◌, ◌+◌, ◌<◌, ◌≤◌, [], ◌∷◌, ◌++◌, ◌∙◌, AllByRecursion, IsLabel, IsNoPart}
+use Rattle.record_wire.proofs.Words.{LabelsAtFront, List, PartRefusal, Points-front, RefusesName, Whole-front, ℕ, ap}
+use Rattle.record_wire.proofs.Words.{append_assoc, arith, cases_lt, drop, front_of, inl, inr, length, length-append}
+use Rattle.record_wire.proofs.Words.{most_pointers, pointer, refl, stop, subst, sym, take, torn, whole, written}
+use Rattle.record_wire.proofs.Words.{written_all}
+use Rattle.dns_wire.proofs.DnsNameTurns.{front-whole}
+use Rattle.record_wire.specs.NameParts.{HasLabelsOfName}
+use Rattle.record_wire.specs.NameRefusal.{PointsTo, ComesTo, begins, passes, follows, IsLeft}
+use Rattle.record_wire.proofs.NameParts.{IsReadTo, nothing_read, pointer_read, labels_read, all_read, in_front}
+use Rattle.record_wire.proofs.NameParts.{behind_front}
+use Rattle.record_wire.specs.declared.name.refusal.NameRefusal.{NameRefusal}
 
 -- ---- labels that are passed over
 
@@ -25,7 +17,7 @@ use Rattle.record_wire.proofs.NameParts.{in_front, behind_front}
 long_by : (text message left opened behind : List ℕ) (octets pointers : ℕ) (labels : List (List ℕ))
     → AllByRecursion IsLabel labels → left ≡ written_all labels ++ behind
     → ComesTo text message octets pointers left opened → octets < 255
-    → 255 ≤ octets + length (written_all labels) → RefusesName text message TooLong
+    → 255 ≤ octets + length (written_all labels) → RefusesName text message NameRefusal.TooLong
 long_by text message left opened behind octets pointers [] each is comes room long =
     absurd (omega (arith, room, long))
 long_by text message left opened behind octets pointers (bytes ∷ labels) each is comes room long =
@@ -103,7 +95,7 @@ module _ (text message octets left opened : List ℕ) (pointers len : ℕ)
       }
 
   -- labels that do not fit
-  pub labels_long : 255 ≤ length octets + length (take len left) → RefusesName text message TooLong
+  pub labels_long : 255 ≤ length octets + length (take len left) → RefusesName text message NameRefusal.TooLong
   labels_long long =
       long_by text message left opened front.rest (length octets) pointers front.labels front.each front.is so.comes
       so.room (omega (arith, long, front_length left len front))
@@ -144,7 +136,7 @@ place_left text message octets left opened pointers so =
 -- a label after which the name has too many octets
 pub label_long : (text message octets left opened bytes rest : List ℕ) (pointers : ℕ)
     → IsAt text message octets left opened pointers → whole bytes rest ≡ front_of left
-    → 255 ≤ length octets + (1 + length bytes) → RefusesName text message TooLong
+    → 255 ≤ length octets + (1 + length bytes) → RefusesName text message NameRefusal.TooLong
 unfolding place_left
 label_long text message octets left opened bytes rest pointers so e far =
     let w = Whole-front left bytes rest (sym e) in (
@@ -159,7 +151,7 @@ label_long text message octets left opened bytes rest pointers so e far =
 
 pub far_pointer : (text message octets left opened : List ℕ) (pointers place : ℕ)
     → IsAt text message octets left opened pointers
-    → pointer place ≡ front_of left → length opened ≤ place → RefusesName text message (Pointer place)
+    → pointer place ≡ front_of left → length opened ≤ place → RefusesName text message (NameRefusal.Pointer place)
 unfolding place_left
 far_pointer text message octets left opened pointers place so e far =
     (left, place_left text message octets left opened pointers so, points left place e, far)
@@ -167,7 +159,7 @@ far_pointer text message octets left opened pointers place so e far =
 pub one_pointer_more : (text message octets left opened : List ℕ) (pointers place : ℕ)
     → IsAt text message octets left opened pointers
     → pointer place ≡ front_of left → place < length opened → pointers ≡ most_pointers
-    → RefusesName text message TooManyPointers
+    → RefusesName text message NameRefusal.TooManyPointers
 unfolding place_left
 one_pointer_more text message octets left opened pointers place so e inside most =
     (left, place, place_left text message octets left opened pointers so, points left place e, inside, most)
@@ -183,14 +175,14 @@ torn_front left behind (bytes ∷ labels) each is e =
 
 pub part_refused : (text message octets left opened : List ℕ) (pointers : ℕ) (refusal : PartRefusal)
     → IsAt text message octets left opened pointers → torn ≡ front_of left
-    → IsNoPart left refusal → RefusesName text message (Part refusal)
-part_refused text message octets left opened pointers Cut so e (behind, there, cut) = (
+    → IsNoPart left refusal → RefusesName text message (NameRefusal.Part refusal)
+part_refused text message octets left opened pointers PartRefusal.Cut so e (behind, there, cut) = (
   behind,
   subst (λ (l : List ℕ). IsLeft text message l) (torn_front left behind there.labels there.each there.is e)
       (place_left text message octets left opened pointers so),
   cut,
 )
-part_refused text message octets left opened pointers (LabelType n) so e (rest, there, low, high) = (
+part_refused text message octets left opened pointers (PartRefusal.LabelType n) so e (rest, there, low, high) = (
   rest,
   subst (λ (l : List ℕ). IsLeft text message l) (torn_front left (n ∷ rest) there.labels there.each there.is e)
       (place_left text message octets left opened pointers so),

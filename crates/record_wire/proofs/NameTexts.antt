@@ -1,18 +1,13 @@
 -- The text that a name is written as is a text of that name.
-use Rattle.std.proofs.Common.{◌≡◌, ℕ, ◌+◌, ◌*◌, ◌/◌, ◌%◌, ◌<◌, Bool, true, false, cond, eqb, ◌&&◌, ◌||◌, not}
-use Rattle.std.proofs.Common.{List, [], ◌∷◌, ◌++◌, length, refl, ap, ◌∙◌, inl, inr, arith, append_assoc, codes}
-use Rattle.std.proofs.lemmas.Bool.Decides.{eqb_tells}
-use Rattle.std.proofs.lemmas.Fmt.{decimal_digit}
+use Rattle.record_wire.proofs.Words.{◌≡◌, ◌+◌, ◌*◌, ◌/◌, ◌%◌, ◌<◌, ◌&&◌, ◌||◌, [], ◌∷◌, ◌++◌, ◌∙◌, AllByRecursion}
+use Rattle.record_wire.proofs.Words.{AreOfName, Bool, GoesOn, IsCharacter, IsNameText, IsTextOf, List, Spells, ℕ, ap}
+use Rattle.record_wire.proofs.Words.{append_assoc, arith, behind_dots, character, codes, cond, decimal_digit, eqb}
+use Rattle.record_wire.proofs.Words.{eqb_tells, false, inl, inr, is_ascii_digit, is_ascii_graphic, is_in, is_special}
+use Rattle.record_wire.proofs.Words.{itself, label_text, length, name_text, not, numbered, quoted, refl, specials, true}
+use Rattle.record_wire.proofs.Words.{wire, written, written_all}
 use Rattle.std.specs.Prelude.{decimal}
-use Rattle.std.specs.Char.{is_ascii_graphic, is_ascii_digit}
-use Rattle.std.specs.List.{AllByRecursion}
 use Rattle.wirebase.specs.Bytes.{IsBytes}
 use Rattle.wirebase.proofs.ByteParts.{IsBytes-front, IsBytes-rest}
-use Rattle.dns_wire.specs.DnsName.{written}
-use Rattle.record_wire.specs.Labels.{written_all, wire, AreOfName}
-use Rattle.record_wire.specs.NameText.{IsCharacter, itself, quoted, numbered, specials, is_in, is_special}
-use Rattle.record_wire.specs.NameText.{Spells, GoesOn, IsTextOf, IsNameText, character, label_text, behind_dots}
-use Rattle.record_wire.specs.NameText.{name_text}
 use Rattle.record_wire.proofs.Characters.{both}
 
 -- ---- characters

@@ -1,7 +1,5 @@
 -- The names of a text that is not the root's.
-use Rattle.std.proofs.Common.{◌≡◌, List, ℕ, [], ◌∷◌, codes}
-use Rattle.record_wire.specs.Labels.{written_all}
-use Rattle.record_wire.specs.NameText.{IsNameText}
+use Rattle.record_wire.proofs.Words.{◌≡◌, [], ◌∷◌, IsNameText, List, ℕ, codes, written_all}
 
 -- a text that is not the root's has no labels where it has none with a first one
 pub no_labels : {A : Type 0} (text : List ℕ) (labels : List (List ℕ)) → (text ≡ codes "." → ⊥)

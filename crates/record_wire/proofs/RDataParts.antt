@@ -1,12 +1,10 @@
 -- The parts of data: names and strings.
-use Rattle.std.proofs.Common.{◌≡◌, ℕ, ◌≤◌, List, [], ◌∷◌, ◌++◌, length, take, drop, refl, sym, ap, ◌∙◌, subst}
-use Rattle.std.proofs.Common.{arith, flat_map, length-append, length-drop, ◌<◌, Bool, true, false, cond, leb}
-use Rattle.std.proofs.Common.{None, Some}
-use Rattle.std.proofs.lemmas.Bool.{leb-true, leb-false}
-use Rattle.std.proofs.lemmas.List.{append-nil, nil_from_length, take-append-drop, length-take-le, drop_at}
-use Rattle.dns_wire.specs.DnsName.{IsOnePart, written}
-use Rattle.dns_wire.specs.DnsPart.{IsSplit}
-use Rattle.record_wire.specs.RData.{AreStrings, string_rest}
+use Rattle.record_wire.proofs.Words.{◌≡◌, ◌≤◌, [], ◌∷◌, ◌++◌, ◌∙◌, ◌<◌, AreStrings, Bool, IsSplit, List, None, Some, ℕ}
+use Rattle.record_wire.proofs.Words.{ap, append-nil, arith, cond, drop, drop_at, false, flat_map, leb, leb-true, length}
+use Rattle.record_wire.proofs.Words.{length-append, length-drop, length-take-le, nil_from_length, refl, string_rest}
+use Rattle.record_wire.proofs.Words.{subst, sym, take, take-append-drop, true, written}
+use Rattle.std.proofs.lemmas.Bool.{leb-false}
+use Rattle.dns_wire.specs.DnsName.{IsOnePart}
 
 -- ---- a name and nothing more
 

@@ -1,20 +1,13 @@
 -- Why octets are not laid out as data.
-use Rattle.std.proofs.Common.{◌≡◌, ℕ, zero, suc, ◌<◌, ◌≤◌, List, [], ◌∷◌, ◌++◌, length, take, drop, flat_map}
-use Rattle.std.proofs.Common.{refl, sym, ap, ◌∙◌, subst, inl, inr, arith, append_assoc, length-drop}
-use Rattle.std.proofs.lemmas.Bool.{cases_lt}
-use Rattle.std.proofs.lemmas.List.{take-append-drop, length-take-le}
-use Rattle.dns_wire.specs.DnsName.{written}
+use Rattle.record_wire.proofs.Words.{◌≡◌, ◌<◌, ◌≤◌, [], ◌∷◌, ◌++◌, ◌∙◌, AreStrings, DataRefusal, IsSplit, Layout, List}
+use Rattle.record_wire.proofs.Words.{ℕ, address6, ap, append_assoc, arith, cases_lt, drop, flat_map, inl, inr, length}
+use Rattle.record_wire.proofs.Words.{length-drop, length-take-le, number_of, refl, subst, suc, sym, take}
+use Rattle.record_wire.proofs.Words.{take-append-drop, written, zero}
 use Rattle.wirebase.specs.declared.ipv4.Ipv4Address.{Ipv4Address}
 use Rattle.wirebase.specs.declared.ipv6.address.Ipv6Address.{Ipv6Address}
-use Rattle.dns_wire.specs.DnsPart.{IsSplit}
-use Rattle.wirebase.specs.Bytes.{number_of}
-use Rattle.record_wire.specs.RData.{RDataValue, address4, address6, authority, AreStrings, IsLaidOut, IsAuthority}
-use Rattle.record_wire.specs.RData.{IsAddress4, IsAddress6, serial_field, refresh_field, retry_field, expire_field}
-use Rattle.record_wire.specs.RData.{minimum_field}
+use Rattle.record_wire.specs.RData.{RDataValue, address4, authority, IsLaidOut, IsAuthority, IsAddress4, IsAddress6}
+use Rattle.record_wire.specs.RData.{serial_field, refresh_field, retry_field, expire_field, minimum_field}
 use Rattle.record_wire.specs.RDataRefusal.{RefusesName, RefusesBehind, RefusesLayout}
-use Rattle.record_wire.specs.declared.rdata.Layout.{Layout}
-use Rattle.record_wire.specs.declared.rdata.refusal.DataRefusal.{DataRefusal}
-use Rattle.record_wire.specs.declared.rdata.refusal.DataRefusal.TheVariants as refusal
 use Rattle.record_wire.proofs.RDataParts.{no_strings, string_before}
 
 -- after whole strings, one whose bytes are cut
@@ -71,15 +64,15 @@ some_address6 bytes e =
 
 pub behind_refused : (len : ℕ) (bytes : List ℕ) (why : DataRefusal) → len ≤ length bytes
     → RefusesName (drop len bytes) why → RefusesBehind len bytes why
-behind_refused len bytes (refusal.Address n) fits is = absurd is
-behind_refused len bytes refusal.Numbers fits is = absurd is
-behind_refused len bytes (refusal.Name why) fits is = (fits, is)
-behind_refused len bytes refusal.BehindName fits is = (fits, is)
-behind_refused len bytes (refusal.SecondName why) fits is = absurd is
-behind_refused len bytes refusal.Times fits is = absurd is
-behind_refused len bytes refusal.NoString fits is = absurd is
-behind_refused len bytes refusal.String fits is = absurd is
-behind_refused len bytes refusal.Types fits is = absurd is
+behind_refused len bytes (DataRefusal.Address n) fits is = absurd is
+behind_refused len bytes DataRefusal.Numbers fits is = absurd is
+behind_refused len bytes (DataRefusal.Name why) fits is = (fits, is)
+behind_refused len bytes DataRefusal.BehindName fits is = (fits, is)
+behind_refused len bytes (DataRefusal.SecondName why) fits is = absurd is
+behind_refused len bytes DataRefusal.Times fits is = absurd is
+behind_refused len bytes DataRefusal.NoString fits is = absurd is
+behind_refused len bytes DataRefusal.String fits is = absurd is
+behind_refused len bytes DataRefusal.Types fits is = absurd is
 
 -- two names and twenty bytes are data of a zone
 pub some_authority : (bytes primary behind mailbox after : List ℕ) → IsSplit bytes primary behind

@@ -1,13 +1,11 @@
 -- A name is followed by one question and one record, and as many bytes are left.
-use Rattle.std.proofs.Common.{◌≡◌, ℕ, ◌≤◌, List, length, take, drop, refl, sym, ap, ◌∙◌}
+use Rattle.record_wire.proofs.Words.{◌≡◌, ◌≤◌, ◌∙◌, HasQuestion, HasRecord, IsBehindName, IsQuestion, IsRecord, IsSplit}
+use Rattle.record_wire.proofs.Words.{List, QuestionValue, RecordValue, ℕ, ap, drop, length, number_of, refl, sym, take}
+use Rattle.record_wire.proofs.Words.{type_of}
 use Rattle.dns_wire.specs.declared.dns.tables.Type.{«Type» as RecordType}
-use Rattle.wirebase.specs.Bytes.{number_of}
-use Rattle.dns_wire.specs.DnsTables.{type_of}
 use Rattle.dns_wire.specs.DnsQuestion.{type_field, class_field}
 use Rattle.dns_wire.specs.DnsRecord.{ttl_field}
-use Rattle.dns_wire.specs.DnsPart.{IsSplit}
-use Rattle.record_wire.specs.Record.{QuestionValue, IsQuestion, RecordValue, IsBehindName, IsRecord, data_len}
-use Rattle.record_wire.specs.RecordRefusal.{HasQuestion, HasRecord}
+use Rattle.record_wire.specs.Record.{data_len}
 
 -- ---- questions
 

@@ -1,15 +1,11 @@
 -- The words of a line of a zone file.
-use Rattle.std.proofs.Common.{◌≡◌, ℕ, ◌+◌, ◌/◌, ◌%◌, ◌<◌, ◌≤◌, ◌==◌, Bool, true, false, leb, ◌&&◌, ◌||◌, not}
-use Rattle.std.proofs.Common.{List, [], ◌∷◌, ◌++◌, length, take, get_or, codes, decimal, flat_map, refl, sym, ap, ◌∙◌}
-use Rattle.std.proofs.Common.{arith, append_assoc, length-append}
-use Rattle.std.proofs.lemmas.Bool.{leb-true, eqb-true, and_parts}
+use Rattle.record_wire.proofs.Words.{◌≡◌, ◌+◌, ◌/◌, ◌%◌, ◌<◌, ◌≤◌, ◌==◌, ◌&&◌, ◌||◌, [], ◌∷◌, ◌++◌, ◌∙◌, Bool, IsAscii}
+use Rattle.record_wire.proofs.Words.{IsAscii-cons, List, ℕ, ap, append_assoc, arith, codes, decimal, eqb-true, false}
+use Rattle.record_wire.proofs.Words.{flat_map, get_or, leb, leb-true, length, length-append, name_text, not, refl}
+use Rattle.record_wire.proofs.Words.{string_character, sym, take, true, wire, written}
+use Rattle.std.proofs.lemmas.Bool.{and_parts}
 use Rattle.std.proofs.lemmas.Grind.{common_steps}
-use Rattle.std.proofs.lemmas.Str.Ascii.{IsAscii-cons}
-use Rattle.std.specs.Str.{IsAscii}
-use Rattle.dns_wire.specs.DnsName.{written}
-use Rattle.record_wire.specs.Labels.{wire}
-use Rattle.record_wire.specs.NameText.{name_text}
-use Rattle.record_wire.specs.ZoneText.{whole_name, has_meaning, is_itself, string_character}
+use Rattle.record_wire.specs.ZoneText.{whole_name, has_meaning, is_itself}
 use Rattle.record_wire.proofs.NamePieces.{small_ascii}
 
 -- ---- names

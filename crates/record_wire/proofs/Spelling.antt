@@ -1,8 +1,6 @@
 -- The text of a label: its characters one after another, as many as there are.
-use Rattle.std.proofs.Common.{◌≡◌, ℕ, ◌+◌, ◌≤◌, List, [], ◌∷◌, ◌++◌, length, None, Some, refl, sym, ap, ◌∙◌, subst}
-use Rattle.std.proofs.Common.{inl, inr, arith}
-use Rattle.record_wire.specs.NameText.{IsCharacter, Spells, GoesOn}
-use Rattle.record_wire.specs.NameReading.{first_byte}
+use Rattle.record_wire.proofs.Words.{◌≡◌, ◌+◌, ◌≤◌, [], ◌∷◌, ◌++◌, ◌∙◌, GoesOn, IsCharacter, List, None, Some, Spells}
+use Rattle.record_wire.proofs.Words.{ℕ, ap, arith, first_byte, inl, inr, length, refl, subst, sym}
 use Rattle.record_wire.proofs.Characters.{first_character, character_first, same_byte}
 
 -- one character more

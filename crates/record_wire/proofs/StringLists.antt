@@ -1,12 +1,9 @@
 -- The strings at the start of octets.
-use Rattle.std.proofs.Common.{◌≡◌, ℕ, zero, suc, ◌≤◌, Bool, true, false, cond, leb, List, [], ◌∷◌, ◌++◌}
-use Rattle.std.proofs.Common.{length, take, drop, flat_map, Option, None, Some, refl, sym, ap, ◌∙◌, subst, arith}
-use Rattle.std.proofs.Common.{length-append, append_assoc}
-use Rattle.std.proofs.lemmas.List.{take-append-drop, length-take-le}
-use Rattle.std.proofs.lemmas.Bool.{leb-true, le-leb}
-use Rattle.std.proofs.Math.Seq.{take-append_seam}
-use Rattle.dns_wire.specs.DnsName.{written}
-use Rattle.record_wire.specs.Strings.{HasNoString, AreStringsAhead, first_string, strings_in}
+use Rattle.record_wire.proofs.Words.{◌≡◌, ◌≤◌, [], ◌∷◌, ◌++◌, ◌∙◌, Bool, List, None, Option, Some, ℕ, ap, append_assoc}
+use Rattle.record_wire.proofs.Words.{arith, cond, drop, false, flat_map, le-leb, leb, leb-true, length, length-append}
+use Rattle.record_wire.proofs.Words.{length-take-le, refl, strings_in, subst, suc, sym, take, take-append-drop}
+use Rattle.record_wire.proofs.Words.{take-append_seam, true, written, zero}
+use Rattle.record_wire.specs.Strings.{HasNoString, AreStringsAhead, first_string}
 use Rattle.record_wire.proofs.LabelLists.{drop_seam}
 use Rattle.record_wire.proofs.Ahead.{Shrinks, none, one, front, ahead_none, ahead_some}
 

@@ -1,14 +1,11 @@
 -- Why a text is no name.
-use Rattle.std.proofs.Common.{◌≡◌, ◌≢◌, ℕ, zero, suc, ◌+◌, ◌<◌, ◌≤◌, List, [], ◌∷◌, ◌++◌, length, Option, None, Some}
-use Rattle.std.proofs.Common.{refl, sym, ap, ◌∙◌, inl, inr, arith, codes, length-append}
-use Rattle.std.proofs.lemmas.Bool.{cases_lt}
-use Rattle.dns_wire.specs.DnsName.{IsLabel, written}
-use Rattle.record_wire.specs.Labels.{written_all, wire}
-use Rattle.record_wire.specs.NameText.{Spells, GoesOn, IsNameText}
-use Rattle.record_wire.specs.NameReading.{first_byte, behind_in, at_other, IsSpelling}
+use Rattle.record_wire.proofs.Words.{◌≡◌, ◌≢◌, ◌+◌, ◌<◌, ◌≤◌, [], ◌∷◌, ◌++◌, ◌∙◌, GoesOn, IsLabel, IsNameText, List}
+use Rattle.record_wire.proofs.Words.{None, Option, Some, Spells, ℕ, ap, arith, at_other, behind_in, cases_lt, codes}
+use Rattle.record_wire.proofs.Words.{first_byte, inl, inr, length, length-append, refl, suc, sym, wire, written}
+use Rattle.record_wire.proofs.Words.{written_all, zero}
+use Rattle.record_wire.specs.NameReading.{IsSpelling}
 use Rattle.record_wire.specs.TextRefusal.{IsReadTo, BeginsWithNone, IsLabelEnd, RefusesRest, RefusesLabel, RefusesText}
 use Rattle.record_wire.specs.declared.name.text_refusal.NameTextRefusal.{NameTextRefusal}
-use Rattle.record_wire.specs.declared.name.text_refusal.NameTextRefusal.TheVariants as refusal
 use Rattle.record_wire.proofs.Characters.{first_character, character_first, first_shorter}
 use Rattle.record_wire.proofs.LabelLists.{written_more, each_more}
 use Rattle.record_wire.proofs.NameLabels.{SoFar, leads_text}
@@ -47,7 +44,7 @@ spelling_within (suc most) text h =
 
 long_by : (text : List ℕ) (byte : ℕ) (behind : List ℕ) → first_byte text ≡ Some (byte, behind)
     → ((label rest : List ℕ) → IsSpelling text label rest → 1 ≤ length label → length label ≤ 63 → ⊥)
-    → Spelling text → RefusesLabel text refusal.LongLabel
+    → Spelling text → RefusesLabel text NameTextRefusal.LongLabel
 long_by text byte behind e none ([], rest, is) =
     let none_there = ap first_byte is.spells ∙ is.no_more in
     cc (none_there, e)
@@ -58,16 +55,16 @@ long_by text byte behind e none (b ∷ label, rest, is) = elim (cases_lt 63 (len
 
 pub long_label : (text : List ℕ) (byte : ℕ) (behind : List ℕ) → first_byte text ≡ Some (byte, behind)
     → ((label rest : List ℕ) → IsSpelling text label rest → 1 ≤ length label → length label ≤ 63 → ⊥)
-    → RefusesLabel text refusal.LongLabel
+    → RefusesLabel text NameTextRefusal.LongLabel
 long_label text byte behind e none =
     long_by text byte behind e none (spelling_within (length text) text (omega arith))
 
 pub rest_of_label : (text : List ℕ) (why : NameTextRefusal) → RefusesRest text why → RefusesLabel text why
-rest_of_label text refusal.EmptyLabel is = is
-rest_of_label text refusal.LongLabel is = absurd is
-rest_of_label text refusal.TooLong is = absurd is
-rest_of_label text refusal.Escape is = is
-rest_of_label text (refusal.Byte byte) is = is
+rest_of_label text NameTextRefusal.EmptyLabel is = is
+rest_of_label text NameTextRefusal.LongLabel is = absurd is
+rest_of_label text NameTextRefusal.TooLong is = absurd is
+rest_of_label text NameTextRefusal.Escape is = is
+rest_of_label text (NameTextRefusal.Byte byte) is = is
 
 -- ---- after the labels that were read
 
@@ -84,13 +81,13 @@ read_to text octets left label rest so spells = record {
 
 pub label_refused : (text octets left : List ℕ) (why : NameTextRefusal) → SoFar text octets left → text ≢ codes "."
     → RefusesLabel left why → RefusesText text why
-label_refused text octets left refusal.EmptyLabel so root is =
+label_refused text octets left NameTextRefusal.EmptyLabel so root is =
     (left, read_to text octets left [] left so refl, refl, is, root)
-label_refused text octets left refusal.LongLabel so root (label, rest, spells, long) =
+label_refused text octets left NameTextRefusal.LongLabel so root (label, rest, spells, long) =
     (rest, read_to text octets left label rest so spells, long)
-label_refused text octets left refusal.TooLong so root is = absurd is
-label_refused text octets left refusal.Escape so root is = (left, read_to text octets left [] left so refl, is)
-label_refused text octets left (refusal.Byte byte) so root is = (left, read_to text octets left [] left so refl, is)
+label_refused text octets left NameTextRefusal.TooLong so root is = absurd is
+label_refused text octets left NameTextRefusal.Escape so root is = (left, read_to text octets left [] left so refl, is)
+label_refused text octets left (NameTextRefusal.Byte byte) so root is = (left, read_to text octets left [] left so refl, is)
 
 no_end : (rest : List ℕ) → IsLabelEnd rest → behind_in rest ≡ at_other → ⊥
 no_end [] is e = cc e
@@ -99,18 +96,18 @@ no_end (byte ∷ next ∷ rest) is e = let f = ap (λ (b : ℕ). behind_in (b �
 
 pub rest_refused : (text octets left label rest : List ℕ) (why : NameTextRefusal) → SoFar text octets left
     → Spells left label rest → behind_in rest ≡ at_other → RefusesRest rest why → RefusesText text why
-rest_refused text octets left label rest refusal.EmptyLabel so spells other is = absurd (no_end rest is other)
-rest_refused text octets left label rest refusal.LongLabel so spells other is = absurd is
-rest_refused text octets left label rest refusal.TooLong so spells other is = absurd is
-rest_refused text octets left label rest refusal.Escape so spells other is =
+rest_refused text octets left label rest NameTextRefusal.EmptyLabel so spells other is = absurd (no_end rest is other)
+rest_refused text octets left label rest NameTextRefusal.LongLabel so spells other is = absurd is
+rest_refused text octets left label rest NameTextRefusal.TooLong so spells other is = absurd is
+rest_refused text octets left label rest NameTextRefusal.Escape so spells other is =
     (rest, read_to text octets left label rest so spells, is)
-rest_refused text octets left label rest (refusal.Byte byte) so spells other is =
+rest_refused text octets left label rest (NameTextRefusal.Byte byte) so spells other is =
     (rest, read_to text octets left label rest so spells, is)
 
 -- ---- names that are too long
 
 pub no_room : (text octets left label rest : List ℕ) → SoFar text octets left → Spells left label rest
-    → 255 < length octets + length (written label) → RefusesText text refusal.TooLong
+    → 255 < length octets + length (written label) → RefusesText text NameTextRefusal.TooLong
 no_room text octets left label rest so spells long = (
   rest,
   read_to text octets left label rest so spells,
@@ -126,7 +123,7 @@ no_room text octets left label rest so spells long = (
 
 pub no_name : (text octets left label rest : List ℕ) → SoFar text octets left → IsLabel label
     → Spells left label rest → GoesOn rest [] → ((labels : List (List ℕ)) → IsNameText text labels → ⊥)
-    → RefusesText text refusal.TooLong
+    → RefusesText text NameTextRefusal.TooLong
 no_name text octets left label rest so one spells ends none =
     elim (cases_lt 255 (length (wire (so.done ++ label ∷ [])))) [
       | inl long ↦ (rest, read_to text octets left label rest so spells, long)

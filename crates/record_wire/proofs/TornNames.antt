@@ -1,19 +1,14 @@
 -- Where a name of one part is torn.
-use Rattle.std.proofs.Common.{◌≡◌, ℕ, ◌<◌, ◌≤◌, ◌⊎◌, inl, inr}
-use Rattle.std.proofs.Common.{ltb, eqb, List, [], ◌∷◌, ◌++◌}
-use Rattle.std.proofs.Common.{slice_index_or, length, refl, sym, ap, ◌∙◌}
-use Rattle.std.proofs.Common.{subst, arith, append_assoc, length-append}
-use Rattle.std.proofs.lemmas.Bool.{ltb-true, ltb-false, eqb-false}
-use Rattle.std.proofs.lemmas.Grind.{flat_map-append}
-use Rattle.std.specs.List.{AllByRecursion}
-use Rattle.dns_wire.specs.DnsName.{IsLabel, written, Stop, ends, goes_on, IsMark}
-use Rattle.dns_wire.specs.DnsNameAhead.{whole, pointer, stop, torn, front_of, pointer_at}
-use Rattle.dns_wire.specs.DnsPart.{IsSplit}
-use Rattle.dns_wire.proofs.DnsNameTurns.{chosen, Whole-front, Points-front, stop-front}
-use Rattle.record_wire.specs.Labels.{written_all}
-use Rattle.record_wire.specs.RecordRefusal.{Behind, IsCut, IsNoPart}
-use Rattle.record_wire.specs.declared.refusal.PartRefusal.{PartRefusal}
-use Rattle.record_wire.specs.declared.refusal.PartRefusal.TheVariants.{Cut, LabelType}
+use Rattle.record_wire.proofs.Words.{◌≡◌, ◌<◌, ◌≤◌, ◌⊎◌, [], ◌∷◌, ◌++◌, ◌∙◌, AllByRecursion, Behind, IsLabel, IsNoPart}
+use Rattle.record_wire.proofs.Words.{IsSplit, List, PartRefusal, Points-front, Whole-front, ℕ, ap, append_assoc, arith}
+use Rattle.record_wire.proofs.Words.{eqb, eqb-false, flat_map-append, front_of, inl, inr, length, length-append, ltb}
+use Rattle.record_wire.proofs.Words.{ltb-true, pointer, refl, slice_index_or, stop, subst, sym, torn, whole, written}
+use Rattle.record_wire.proofs.Words.{written_all}
+use Rattle.std.proofs.lemmas.Bool.{ltb-false}
+use Rattle.dns_wire.specs.DnsName.{Stop, ends, goes_on, IsMark}
+use Rattle.dns_wire.specs.DnsNameAhead.{pointer_at}
+use Rattle.dns_wire.proofs.DnsNameTurns.{chosen, stop-front}
+use Rattle.record_wire.specs.RecordRefusal.{IsCut}
 use Rattle.record_wire.proofs.LabelLists.{written_more, each_more}
 
 -- ---- label by label
@@ -114,11 +109,11 @@ behind_both text left behind a b = record {
 
 pub no_part_behind : (text left : List ℕ) (refusal : PartRefusal) → Behind text left → IsNoPart left refusal
     → IsNoPart text refusal
-no_part_behind text left Cut so (behind, there, cut) = (behind, behind_both text left behind so there, cut)
-no_part_behind text left (LabelType n) so (rest, there, low, high) =
+no_part_behind text left PartRefusal.Cut so (behind, there, cut) = (behind, behind_both text left behind so there, cut)
+no_part_behind text left (PartRefusal.LabelType n) so (rest, there, low, high) =
     (rest, behind_both text left (n ∷ rest) so there, low, high)
 
-pub no_part_cut : (left : List ℕ) → IsCut left → IsNoPart left Cut
+pub no_part_cut : (left : List ℕ) → IsCut left → IsNoPart left PartRefusal.Cut
 no_part_cut left cut = (left, behind_nothing left, cut)
 
 first_some : (left : List ℕ) → 1 ≤ length left → (rest : List ℕ) × (left ≡ slice_index_or left 0 0 ∷ rest)
@@ -126,7 +121,7 @@ first_some [] some = absurd (omega (arith, some))
 first_some (x ∷ xs) some = (xs, refl)
 
 pub no_part_type : (left : List ℕ) → 1 ≤ length left → 64 ≤ slice_index_or left 0 0 → slice_index_or left 0 0 < 192
-    → IsNoPart left (LabelType (slice_index_or left 0 0))
+    → IsNoPart left (PartRefusal.LabelType (slice_index_or left 0 0))
 no_part_type left some low high =
     let first = first_some left some in
     (first.0, subst (λ (l : List ℕ). Behind left l) first.1 (behind_nothing left), low, high)

@@ -1,5 +1,5 @@
 -- Items at the start of octets, one after another, as they are computed: the models of iterators.
-use Rattle.std.specs.Prelude.{◌≡◌, ℕ, zero, suc, List, [], ◌∷◌, length, Option, None, Some}
+use Rattle.std.specs.Prelude.{◌≡◌, [], ◌∷◌, List, None, Option, Some, ℕ, length, suc, zero}
 use Rattle.std.specs.Borrow.{Bor}
 
 abbrev pub then_more : {V : Type 0} → Option (V × List ℕ) → (List ℕ → List V) → List V

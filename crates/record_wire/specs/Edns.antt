@@ -12,16 +12,13 @@
 -- +-------------------------------+-------------------------------+
 -- |        code of option         |        length of data         | data
 -- +-------------------------------+-------------------------------+- - - -
-use Rattle.std.specs.Prelude.{◌≡◌, ℕ, ◌+◌, ◌*◌, ◌/◌, ◌%◌, ◌<◌, ◌≤◌, Bool, ◌&&◌, nat_le, if◌then◌else◌}
-use Rattle.std.specs.Prelude.{List, [], ◌∷◌, length, take, drop}
-use Rattle.std.specs.Prelude.{Option, None, Some, Result, Ok, Err}
-use Rattle.wirebase.specs.Bytes.{Field, field, Reaches, number_of}
+use Rattle.std.specs.Prelude.{◌≡◌, ◌+◌, ◌*◌, ◌/◌, ◌%◌, ◌<◌, ◌≤◌, ◌&&◌, [], ◌∷◌, Bool, Err, List, None, Ok, Option}
+use Rattle.std.specs.Prelude.{Result, Some, ℕ, drop, if◌then◌else◌, length, nat_le, take}
+use Rattle.record_wire.specs.Words.{Field, OptionRefusal, Reaches, field, number_of}
 use Rattle.record_wire.specs.Ahead.{ahead}
 use Rattle.record_wire.specs.Record.{RecordValue}
 use Rattle.record_wire.specs.declared.edns.Edns.{Edns}
 use Rattle.record_wire.specs.declared.edns.EdnsOption.{EdnsOption}
-use Rattle.record_wire.specs.declared.edns.OptionRefusal.{OptionRefusal}
-use Rattle.record_wire.specs.declared.edns.OptionRefusal.TheVariants as refusal
 
 -- ---- the fields of the record
 
@@ -90,8 +87,8 @@ HasOption bytes = (option : OptionValue) × (rest : List ℕ) × IsOption bytes 
 
 -- they are too short for a code and a length, or what is after these is shorter than the length
 abbrev pub RefusesOption : List ℕ → OptionRefusal → Type 0
-RefusesOption bytes refusal.Fields = length bytes < 4
-RefusesOption bytes refusal.Data = Reaches option_length_field bytes × (length (drop 4 bytes) < option_len bytes)
+RefusesOption bytes OptionRefusal.Fields = length bytes < 4
+RefusesOption bytes OptionRefusal.Data = Reaches option_length_field bytes × (length (drop 4 bytes) < option_len bytes)
 
 -- what a call returns: an option, or why there is none
 abbrev pub Answer : Type 0
@@ -117,7 +114,7 @@ option_at bytes =
 
 -- why none begins in bytes in which none begins
 abbrev pub why_none : List ℕ → OptionRefusal
-why_none bytes = if nat_le 4 (length bytes) then refusal.Data else refusal.Fields
+why_none bytes = if nat_le 4 (length bytes) then OptionRefusal.Data else OptionRefusal.Fields
 
 abbrev pub answer_by : List ℕ → Option (OptionValue × List ℕ) → Option (Answer × List ℕ)
 answer_by bytes None = Some (Err (why_none bytes), [])

@@ -1,19 +1,14 @@
 -- What follows the header of a message, in order (RFC 1035 section 4.1): the questions, and then the records that
 -- answer, those that name an authority, and those that add to them, as many of each as the header counts.
-use Rattle.std.specs.Prelude.{◌≡◌, ◌≢◌, ℕ, ◌+◌, ◌-◌, ◌<◌, ◌≤◌, nat_lt, Bool, true, false, not, ◌&&◌}
-use Rattle.std.specs.Prelude.{if◌then◌else◌, ◌⊎◌, List}
-use Rattle.std.specs.Prelude.{Option, None, Some, Result, Ok, Err}
-use Rattle.wirebase.specs.Bytes.{number_of}
+use Rattle.std.specs.Prelude.{◌≡◌, ◌≢◌, ◌+◌, ◌-◌, ◌<◌, ◌≤◌, ◌&&◌, ◌⊎◌, Bool, Err, List, None, Ok, Option, Result, Some}
+use Rattle.std.specs.Prelude.{ℕ, false, if◌then◌else◌, nat_lt, not, true}
+use Rattle.record_wire.specs.Words.{Refusal, Section, number_of}
 use Rattle.wirebase.specs.declared.error.Error.{Error}
 use Rattle.dns_wire.specs.DnsPacket.{question_count_field, answer_count_field, authority_count_field}
 use Rattle.dns_wire.specs.DnsPacket.{additional_count_field, payload_in}
 use Rattle.record_wire.specs.Record.{QuestionValue, question_of, IsQuestion, RecordValue, record_of, IsRecord}
 use Rattle.record_wire.specs.RecordRefusal.{RefusesQuestion, RefusesRecord}
-use Rattle.record_wire.specs.declared.refusal.Refusal.{Refusal}
-use Rattle.record_wire.specs.declared.entries.Section.{Section}
-use Rattle.record_wire.specs.declared.entries.Section.TheVariants.{Question, Answer, Authority, Additional}
 use Rattle.record_wire.specs.declared.entries.Entry.{Entry}
-use Rattle.record_wire.specs.declared.entries.Entry.TheVariants as entry
 
 -- how many entries there are up to the end of each section
 pub record Ends : Type 0 where
@@ -37,10 +32,10 @@ ends_in message =
 -- the section of the entry after n others
 abbrev pub section_at : Ends → ℕ → Section
 section_at ends n =
-    if nat_lt n ends.questions then Question
-    else if nat_lt n ends.answers then Answer
-    else if nat_lt n ends.authorities then Authority
-    else Additional
+    if nat_lt n ends.questions then Section.Question
+    else if nat_lt n ends.answers then Section.Answer
+    else if nat_lt n ends.authorities then Section.Authority
+    else Section.Additional
 
 -- an entry by its content
 pub data EntryValue : Type 0 where
@@ -48,13 +43,13 @@ pub data EntryValue : Type 0 where
   record_in : Section → RecordValue → EntryValue
 
 abbrev pub entry_of : Entry → EntryValue
-entry_of (entry.Question q) = question (question_of q)
-entry_of (entry.Record section r) = record_in section (record_of r)
+entry_of (Entry.Question q) = question (question_of q)
+entry_of (Entry.Record section r) = record_in section (record_of r)
 
 -- these bytes are an entry of a section, followed by a rest
 abbrev pub IsEntry : Section → List ℕ → EntryValue → List ℕ → Type 0
-IsEntry section bytes (question q) rest = (section ≡ Question) × IsQuestion bytes q rest
-IsEntry section bytes (record_in s r) rest = (section ≢ Question) × (s ≡ section) × IsRecord bytes r rest
+IsEntry section bytes (question q) rest = (section ≡ Section.Question) × IsQuestion bytes q rest
+IsEntry section bytes (record_in s r) rest = (section ≢ Section.Question) × (s ≡ section) × IsRecord bytes r rest
 
 -- the octets begin with an entry of a section
 abbrev pub HasEntry : Section → List ℕ → Type 0
@@ -62,7 +57,7 @@ HasEntry section bytes = (value : EntryValue) × (rest : List ℕ) × IsEntry se
 
 -- why they do not
 abbrev pub RefusesEntry : Section → List ℕ → Refusal → Type 0
-RefusesEntry Question bytes why = RefusesQuestion bytes why
+RefusesEntry Section.Question bytes why = RefusesQuestion bytes why
 RefusesEntry _ bytes why = RefusesRecord bytes why
 
 -- the number of entries that were returned, whether the next one was refused, and the bytes after them

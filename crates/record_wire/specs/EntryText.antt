@@ -1,7 +1,8 @@
 -- An entry of a message with its names read, and its line: the section, what a zone file has of the entry, and in
 -- multicast DNS a mark where the top bit of its class is set (RFC 6762 sections 5.4 and 10.2).
-use Rattle.std.specs.Prelude.{◌≡◌, ℕ, ◌&&◌, Bool, if◌then◌else◌, List, [], ◌∷◌, codes}
-use Rattle.wirebase.specs.Display.{pieces}
+use Rattle.std.specs.Prelude.{◌≡◌, ◌&&◌, [], ◌∷◌, Bool, List, ℕ, codes, if◌then◌else◌}
+use Rattle.record_wire.specs.Words.{Section, TextRefusal, pieces}
+use Rattle.record_wire.specs.declared.text.question.QuestionText.{QuestionText}
 use Rattle.dns_wire.specs.declared.dns.tables.Type.{«Type» as RecordType}
 use Rattle.record_wire.specs.Entries as entries
 use Rattle.record_wire.specs.Multicast.{class_of, has_top_bit, record_class_of, flushes}
@@ -10,14 +11,9 @@ use Rattle.record_wire.specs.NameRefusal.{RefusesName}
 use Rattle.record_wire.specs.Record.{QuestionValue}
 use Rattle.record_wire.specs.RecordDisplay.{section_display}
 use Rattle.record_wire.specs.Names.{Names}
-use Rattle.record_wire.specs.RecordText.{RecordTextValue, record_text_of, IsRecordText, RefusesText}
-use Rattle.record_wire.specs.RecordText.{question_text, record_text}
-use Rattle.record_wire.specs.declared.entries.Section.{Section}
+use Rattle.record_wire.specs.RecordText.{RecordTextValue, record_text_of, IsRecordText, RefusesText, question_text}
+use Rattle.record_wire.specs.RecordText.{record_text}
 use Rattle.record_wire.specs.declared.text.entry.EntryText.{EntryText}
-use Rattle.record_wire.specs.declared.text.entry.EntryText.TheVariants as text
-use Rattle.record_wire.specs.declared.text.question.QuestionText.{QuestionText}
-use Rattle.record_wire.specs.declared.text.refusal.TextRefusal.{TextRefusal}
-use Rattle.record_wire.specs.declared.text.refusal.TextRefusal.TheVariants as refusal
 
 -- ---- entries by content: of each name its labels
 
@@ -35,8 +31,8 @@ abbrev pub question_text_of : QuestionText → QuestionTextValue
 question_text_of q = record { name = labels_of q.name; class = q.class; kind = q.type_ }
 
 abbrev pub entry_text_of : EntryText → EntryTextValue
-entry_text_of (text.Question read wants_unicast) = question (question_text_of read) wants_unicast
-entry_text_of (text.Record section read flushes_cache) = record_in section (record_text_of read) flushes_cache
+entry_text_of (EntryText.Question read wants_unicast) = question (question_text_of read) wants_unicast
+entry_text_of (EntryText.Record section read flushes_cache) = record_in section (record_text_of read) flushes_cache
 
 -- ---- what is read, in a message
 
@@ -66,7 +62,7 @@ IsEntryText is_multicast message (entries.record_in section r) value =
 
 -- the name of a question is malformed; a record has no text
 abbrev pub RefusesEntryText : Bool → List ℕ → entries.EntryValue → TextRefusal → Type 0
-RefusesEntryText is_multicast message (entries.question q) (refusal.Owner why) = RefusesName q.name message why
+RefusesEntryText is_multicast message (entries.question q) (TextRefusal.Owner why) = RefusesName q.name message why
 RefusesEntryText is_multicast message (entries.question q) _ = ⊥
 RefusesEntryText is_multicast message (entries.record_in section r) why =
     RefusesText message (record_class is_multicast r.kind r.class) r why

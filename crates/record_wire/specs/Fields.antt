@@ -1,24 +1,15 @@
 -- Data with fields before one or two names and after them: of MINFO (RFC 1035 section 3.3.7), RP, AFSDB and RT (RFC
 -- 1183), PX (RFC 2163), KX (RFC 2230), SIG and NXT (RFC 2535), NAPTR (RFC 3403) and NSEC (RFC 4034 section 4).
-use Rattle.std.specs.Prelude.{◌≡◌, ℕ, ◌≤◌, ◌<◌, ◌&&◌, nat_le, if◌then◌else◌, Bool, true, false, List, [], ◌∷◌, ◌++◌}
-use Rattle.std.specs.Prelude.{length, take, drop, slice_index, flat_map, Option, None, Some}
+use Rattle.std.specs.Prelude.{◌≡◌, ◌≤◌, ◌<◌, ◌&&◌, [], ◌∷◌, ◌++◌, Bool, List, None, Option, Some, ℕ, drop, false}
+use Rattle.std.specs.Prelude.{flat_map, if◌then◌else◌, length, nat_le, slice_index, take, true}
 use Rattle.std.specs.Borrow.{Bor}
 use Rattle.std.specs.List.{AllByRecursion}
-use Rattle.wirebase.specs.Bytes.{Field, field, number_of, byte_of}
-use Rattle.dns_wire.specs.DnsName.{written}
-use Rattle.dns_wire.specs.DnsPart.{IsSplit}
-use Rattle.dns_wire.specs.DnsTables.{type_of}
+use Rattle.record_wire.specs.Words.{Field, Form, FrontForm, IsSplit, RestForm, Signed, field, number_of, type_of}
+use Rattle.record_wire.specs.Words.{written}
+use Rattle.wirebase.specs.Bytes.{byte_of}
 use Rattle.record_wire.specs.declared.rdata.fields.Fields.{Fields}
-use Rattle.record_wire.specs.declared.rdata.fields.Form.{Form}
 use Rattle.record_wire.specs.declared.rdata.fields.Front.{Front}
-use Rattle.record_wire.specs.declared.rdata.fields.Front.TheVariants as front
-use Rattle.record_wire.specs.declared.rdata.fields.FrontForm.{FrontForm}
-use Rattle.record_wire.specs.declared.rdata.fields.FrontForm.TheVariants as front_form
 use Rattle.record_wire.specs.declared.rdata.fields.Rest.{Rest}
-use Rattle.record_wire.specs.declared.rdata.fields.Rest.TheVariants as rest
-use Rattle.record_wire.specs.declared.rdata.fields.RestForm.{RestForm}
-use Rattle.record_wire.specs.declared.rdata.fields.RestForm.TheVariants as rest_form
-use Rattle.record_wire.specs.declared.rdata.fields.Signed.{Signed}
 
 -- ---- the fields by content
 
@@ -41,16 +32,16 @@ pub record FieldsValue : Type 0 where
   pub «rest» : RestValue
 
 abbrev pub front_of : Front → FrontValue
-front_of front.Nothing = no_front
-front_of (front.Number n) = numbered n
-front_of (front.Rule order preference strings) = rule order preference strings.now
-front_of (front.Signed s) = signs s
+front_of Front.Nothing = no_front
+front_of (Front.Number n) = numbered n
+front_of (Front.Rule order preference strings) = rule order preference strings.now
+front_of (Front.Signed s) = signs s
 
 abbrev pub rest_of : Rest → RestValue
-rest_of rest.Nothing = no_rest
-rest_of (rest.Signature bytes) = signature bytes.now
-rest_of (rest.Bits bytes) = one_map bytes.now
-rest_of (rest.Types bytes) = all_maps bytes.now
+rest_of Rest.Nothing = no_rest
+rest_of (Rest.Signature bytes) = signature bytes.now
+rest_of (Rest.Bits bytes) = one_map bytes.now
+rest_of (Rest.Types bytes) = all_maps bytes.now
 
 abbrev pub name_of : Option (Bor (List ℕ)) → Option (List ℕ)
 name_of None = None
@@ -137,10 +128,10 @@ pub record IsSignature (bytes : List ℕ) (value : FrontValue) (rest : List ℕ)
 
 -- these fields are at the start of the bytes, followed by a rest
 abbrev pub IsFront : FrontForm → List ℕ → FrontValue → List ℕ → Type 0
-IsFront front_form.Nothing bytes value rest = (value ≡ no_front) × (rest ≡ bytes)
-IsFront front_form.Number bytes value rest = IsNumber bytes value rest
-IsFront front_form.Rule bytes value rest = IsRule bytes value rest
-IsFront front_form.Signed bytes value rest = IsSignature bytes value rest
+IsFront FrontForm.Nothing bytes value rest = (value ≡ no_front) × (rest ≡ bytes)
+IsFront FrontForm.Number bytes value rest = IsNumber bytes value rest
+IsFront FrontForm.Rule bytes value rest = IsRule bytes value rest
+IsFront FrontForm.Signed bytes value rest = IsSignature bytes value rest
 
 -- ---- names
 
@@ -176,10 +167,10 @@ pub record AreMaps (bytes : List ℕ) : Type 0 where
 
 -- the fields after the names are all of the bytes
 abbrev pub IsRest : RestForm → List ℕ → RestValue → Type 0
-IsRest rest_form.Nothing bytes value = (bytes ≡ []) × (value ≡ no_rest)
-IsRest rest_form.Signature bytes value = value ≡ signature bytes
-IsRest rest_form.Bits bytes value = IsMap bytes × (value ≡ one_map bytes)
-IsRest rest_form.Types bytes value = AreMaps bytes × (value ≡ all_maps bytes)
+IsRest RestForm.Nothing bytes value = (bytes ≡ []) × (value ≡ no_rest)
+IsRest RestForm.Signature bytes value = value ≡ signature bytes
+IsRest RestForm.Bits bytes value = IsMap bytes × (value ≡ one_map bytes)
+IsRest RestForm.Types bytes value = AreMaps bytes × (value ≡ all_maps bytes)
 
 -- ---- data
 

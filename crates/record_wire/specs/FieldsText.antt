@@ -1,9 +1,8 @@
 -- Data with fields before one name or two and after them, whose names are read, and its text in a zone file.
-use Rattle.std.specs.Prelude.{◌≡◌, ℕ, ◌+◌, ◌*◌, ◌/◌, ◌%◌, ◌==◌, if◌then◌else◌, ◌⊎◌, List, [], ◌∷◌, ◌++◌}
-use Rattle.std.specs.Prelude.{length, flat_map, codes, decimal, Option, None, Some}
-use Rattle.wirebase.specs.Display.{pieces}
-use Rattle.dns_wire.specs.DnsDisplay.{type_display}
-use Rattle.dns_wire.specs.DnsTables.{type_of}
+use Rattle.std.specs.Prelude.{◌≡◌, ◌+◌, ◌*◌, ◌/◌, ◌%◌, ◌==◌, ◌⊎◌, [], ◌∷◌, ◌++◌, List, None, Option, Some, ℕ, codes}
+use Rattle.std.specs.Prelude.{decimal, flat_map, if◌then◌else◌, length}
+use Rattle.record_wire.specs.Words.{NameRefusal, Signed, pieces, type_display, type_of}
+use Rattle.record_wire.specs.declared.name.Name.{Name}
 use Rattle.record_wire.specs.Ahead.{ahead}
 use Rattle.record_wire.specs.Fields.{FieldsValue, FrontValue, no_front, numbered, rule, signs, front_of, rest_of}
 use Rattle.record_wire.specs.Fields.{RestValue, no_rest, signature, one_map, all_maps, MapValue, first_map}
@@ -12,9 +11,6 @@ use Rattle.record_wire.specs.NameRefusal.{RefusesName, HasName}
 use Rattle.record_wire.specs.Names.{Names}
 use Rattle.record_wire.specs.Strings.{strings_in}
 use Rattle.record_wire.specs.ZoneText.{word, whole_name, strings_text, base64}
-use Rattle.record_wire.specs.declared.name.Name.{Name}
-use Rattle.record_wire.specs.declared.name.refusal.NameRefusal.{NameRefusal}
-use Rattle.record_wire.specs.declared.rdata.fields.Signed.{Signed}
 use Rattle.record_wire.specs.declared.text.fields.FieldsText.{FieldsText}
 
 -- ---- the fields by content: of each name its labels

@@ -1,8 +1,8 @@
 -- The octets of a whole name (RFC 1035 section 3.1): each label after its length, and then byte 0.
-use Rattle.std.specs.Prelude.{ℕ, ◌≤◌, ◌&&◌, nat_le, if◌then◌else◌, List, [], ◌∷◌, ◌++◌, length, take, drop}
-use Rattle.std.specs.Prelude.{Option, None, Some, suc, zero}
+use Rattle.std.specs.Prelude.{◌≤◌, ◌&&◌, [], ◌∷◌, ◌++◌, List, None, Option, Some, ℕ, drop, if◌then◌else◌, length}
+use Rattle.std.specs.Prelude.{nat_le, suc, take, zero}
 use Rattle.std.specs.List.{AllByRecursion, flat_map}
-use Rattle.dns_wire.specs.DnsName.{IsLabel, written}
+use Rattle.record_wire.specs.Words.{IsLabel, written}
 
 -- each label after its length
 abbrev pub written_all : List (List ℕ) → List ℕ

@@ -1,7 +1,8 @@
 -- The mnemonics of types and classes, of IANA's registry of DNS parameters, and what is written where there is none
 -- (RFC 3597 section 5).
-use Rattle.std.specs.Prelude.{ℕ, List, [], ◌∷◌, codes}
-use Rattle.dns_wire.specs.DnsDisplay.{type_names, name_in, name_or}
+use Rattle.std.specs.Prelude.{[], ◌∷◌, List, ℕ, codes}
+use Rattle.record_wire.specs.Words.{name_in, name_or}
+use Rattle.dns_wire.specs.DnsDisplay.{type_names}
 
 abbrev pub class_names : List (List ℕ × ℕ)
 class_names = (codes "IN", 1) ∷ (codes "CH", 3) ∷ (codes "HS", 4) ∷ (codes "NONE", 254) ∷ (codes "ANY", 255) ∷ []

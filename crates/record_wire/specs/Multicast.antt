@@ -2,9 +2,8 @@
 -- asks for an answer to the asker alone (RFC 6762 section 5.4); in a record it says that older records of the name,
 -- type and class are to be dropped (RFC 6762 section 10.2). OPT has a payload size in the place of a class,
 -- and no flag.
-use Rattle.std.specs.Prelude.{ℕ, ◌%◌, ◌==◌, ◌&&◌, not, nat_le, Bool, false, if◌then◌else◌}
+use Rattle.std.specs.Prelude.{◌%◌, ◌==◌, ◌&&◌, Bool, ℕ, false, if◌then◌else◌, nat_le, not}
 use Rattle.dns_wire.specs.declared.dns.tables.Type.{«Type» as RecordType}
-use Rattle.dns_wire.specs.declared.dns.tables.Type.TheVariants as kind
 
 abbrev pub class_of : ℕ → ℕ
 class_of class = class % 0x8000
@@ -14,7 +13,7 @@ has_top_bit class = nat_le 0x8000 class
 
 -- the type of the record whose class is a payload size (RFC 6891 section 6.1.1)
 abbrev pub is_opt : RecordType → Bool
-is_opt (kind.Unknown n) = n == 41
+is_opt (RecordType.Unknown n) = n == 41
 is_opt _ = false
 
 -- the class of a record of this type, and whether the record flushes caches

@@ -1,5 +1,5 @@
 -- Names without regard to the case of their letters (RFC 1035 section 2.3.3, RFC 4343 section 3): those of ASCII alone.
-use Rattle.std.specs.Prelude.{ℕ, List, map}
+use Rattle.std.specs.Prelude.{List, ℕ, map}
 use Rattle.std.specs.Char.{to_ascii_lowercase}
 
 abbrev pub lower_label : List ℕ → List ℕ

@@ -1,9 +1,8 @@
 -- The parts of a name in a message, as they are read: the results of private functions.
-use Rattle.std.specs.Prelude.{◌≡◌, ℕ, ◌+◌, ◌≤◌, List, ◌++◌, length}
+use Rattle.std.specs.Prelude.{◌≡◌, ◌+◌, ◌≤◌, ◌++◌, List, ℕ, length}
 use Rattle.std.specs.List.{AllByRecursion}
-use Rattle.dns_wire.specs.DnsName.{IsLabel}
+use Rattle.record_wire.specs.Words.{IsLabel}
 use Rattle.dns_wire.specs.declared.dns.part.NamePart.{NamePart}
-use Rattle.dns_wire.specs.declared.dns.part.NamePart.TheVariants.{Label, Pointer, End, Torn}
 use Rattle.record_wire.specs.Labels.{wire, written_all}
 use Rattle.record_wire.specs.Names.{Names}
 
@@ -17,10 +16,10 @@ pub record LabelsAtFront (text : List ℕ) (len : ℕ) : Type 0 where
 
 -- a label after this many bytes would leave no room in a name for byte 0
 abbrev pub EndsTooFar : ℕ → NamePart → Type 0
-EndsTooFar len (Label bytes rest) = 255 ≤ len + (1 + length bytes.now)
-EndsTooFar len (Pointer target) = Unit {0}
-EndsTooFar len End = Unit {0}
-EndsTooFar len Torn = Unit {0}
+EndsTooFar len (NamePart.Label bytes rest) = 255 ≤ len + (1 + length bytes.now)
+EndsTooFar len (NamePart.Pointer target) = Unit {0}
+EndsTooFar len NamePart.End = Unit {0}
+EndsTooFar len NamePart.Torn = Unit {0}
 
 -- the octets of the name that begins in a text and may go on in a message
 pub record HasLabelsOfName (text message octets : List ℕ) : Type 0 where

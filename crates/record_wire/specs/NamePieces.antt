@@ -1,5 +1,5 @@
 -- Text that is written by the piece: what a formatter has written, and the bytes that wait in a piece.
-use Rattle.std.specs.Prelude.{◌≡◌, ℕ, List, ◌++◌, IfOk, Result, take}
+use Rattle.std.specs.Prelude.{◌≡◌, ◌++◌, IfOk, List, Result, ℕ, take}
 use Rattle.std.specs.Fmt.{HasWritten, IsPlainFormatter}
 use Rattle.std.specs.Str.{IsAscii}
 use Rattle.std.specs.declared.fmt.Error.{Error}

@@ -1,12 +1,11 @@
 -- The characters at the start of a text, as computed: the results of private functions.
-use Rattle.std.specs.Prelude.{◌≡◌, ℕ, ◌+◌, ◌-◌, ◌*◌, ◌==◌, ◌&&◌, not, nat_lt, if◌then◌else◌, List, [], ◌∷◌}
-use Rattle.std.specs.Prelude.{Option, None, Some}
-use Rattle.std.specs.Char.{is_ascii_graphic, is_ascii_digit}
+use Rattle.std.specs.Prelude.{◌≡◌, ◌+◌, ◌-◌, ◌*◌, ◌==◌, ◌&&◌, [], ◌∷◌, List, None, Option, Some, ℕ, if◌then◌else◌}
+use Rattle.std.specs.Prelude.{nat_lt, not}
 use Rattle.std.specs.Borrow.{Bor}
-use Rattle.record_wire.specs.declared.name.text.Behind.{Behind}
-use Rattle.record_wire.specs.declared.name.text.Behind.TheVariants.{End, Label, Other}
+use Rattle.std.specs.Char.{is_ascii_digit, is_ascii_graphic}
 use Rattle.std.specs.List.{AllByRecursion}
-use Rattle.dns_wire.specs.DnsName.{IsLabel}
+use Rattle.record_wire.specs.Words.{IsLabel}
+use Rattle.record_wire.specs.declared.name.text.Behind.{Behind}
 use Rattle.record_wire.specs.Labels.{written_all}
 use Rattle.record_wire.specs.NameText.{is_special, Spells, IsTextOf}
 
@@ -49,9 +48,9 @@ behind_in (x ∷ []) = if x == 46 then at_end else at_other
 behind_in (x ∷ y ∷ rest) = if x == 46 then at_label (y ∷ rest) else at_other
 
 abbrev pub seen_behind : Behind → BehindLabel
-seen_behind End = at_end
-seen_behind (Label text) = at_label text.now
-seen_behind Other = at_other
+seen_behind Behind.End = at_end
+seen_behind (Behind.Label text) = at_label text.now
+seen_behind Behind.Other = at_other
 
 -- the first byte, and those after it; the first three, and those after them
 abbrev pub first_octet : List ℕ → Option (ℕ × List ℕ)

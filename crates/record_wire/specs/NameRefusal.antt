@@ -1,12 +1,8 @@
 -- Why the name that begins in a text and may go on in a message is refused: the check that fails first.
-use Rattle.std.specs.Prelude.{◌≡◌, ℕ, ◌+◌, ◌*◌, ◌%◌, ◌<◌, ◌≤◌, List, [], ◌∷◌, ◌++◌, length, take, drop, codes, decimal}
-use Rattle.wirebase.specs.Display.{pieces}
-use Rattle.dns_wire.specs.DnsName.{IsLabel, written}
+use Rattle.std.specs.Prelude.{◌≡◌, ◌+◌, ◌*◌, ◌%◌, ◌<◌, ◌≤◌, [], ◌∷◌, ◌++◌, List, ℕ, codes, decimal, drop, length, take}
+use Rattle.record_wire.specs.Words.{IsLabel, NameRefusal, PartRefusal, pieces, written}
 use Rattle.record_wire.specs.Names.{Names, most_pointers}
 use Rattle.record_wire.specs.RecordRefusal.{IsCut, part_display}
-use Rattle.record_wire.specs.declared.refusal.PartRefusal.TheVariants as part
-use Rattle.record_wire.specs.declared.name.refusal.NameRefusal.{NameRefusal}
-use Rattle.record_wire.specs.declared.name.refusal.NameRefusal.TheVariants as refusal
 
 -- a text begins with a pointer to this place
 abbrev pub PointsTo : List ℕ → ℕ → Type 0
@@ -36,15 +32,15 @@ pub record IsLeft (text message left : List ℕ) : Type 0 where
 -- Reading comes to octets that are cut, to a label of another kind, to a pointer to a byte that is not open, to one
 -- pointer too many, or to a label with which the name has more than 255 octets.
 abbrev pub RefusesName : List ℕ → List ℕ → NameRefusal → Type 0
-RefusesName text message (refusal.Part part.Cut) = (left : List ℕ) × IsLeft text message left × IsCut left
-RefusesName text message (refusal.Part (part.LabelType n)) =
+RefusesName text message (NameRefusal.Part PartRefusal.Cut) = (left : List ℕ) × IsLeft text message left × IsCut left
+RefusesName text message (NameRefusal.Part (PartRefusal.LabelType n)) =
     (rest : List ℕ) × IsLeft text message (n ∷ rest) × (64 ≤ n) × (n < 192)
-RefusesName text message (refusal.Pointer place) =
+RefusesName text message (NameRefusal.Pointer place) =
     (left : List ℕ) × (at : IsLeft text message left) × PointsTo left place × (length at.opened ≤ place)
-RefusesName text message refusal.TooManyPointers =
+RefusesName text message NameRefusal.TooManyPointers =
     (left : List ℕ) × (place : ℕ) × (at : IsLeft text message left) × PointsTo left place
     × (place < length at.opened) × (at.pointers ≡ most_pointers)
-RefusesName text message refusal.TooLong =
+RefusesName text message NameRefusal.TooLong =
     (left : List ℕ) × (bytes : List ℕ) × (rest : List ℕ) × (at : IsLeft text message left) × IsLabel bytes
     × (left ≡ written bytes ++ rest) × (255 ≤ at.octets + length (written bytes))
 
@@ -53,8 +49,8 @@ abbrev pub HasName : List ℕ → List ℕ → Type 0
 HasName text message = (labels : List (List ℕ)) × Names message text labels
 
 abbrev pub name_refusal_display : NameRefusal → List ℕ
-name_refusal_display (refusal.Part why) = part_display why
-name_refusal_display (refusal.Pointer place) =
+name_refusal_display (NameRefusal.Part why) = part_display why
+name_refusal_display (NameRefusal.Pointer place) =
     pieces (codes "a pointer to place " ∷ decimal place ∷ codes " leads nowhere or round" ∷ [])
-name_refusal_display refusal.TooManyPointers = codes "the name follows more than 127 pointers"
-name_refusal_display refusal.TooLong = codes "the name has more than 255 octets"
+name_refusal_display NameRefusal.TooManyPointers = codes "the name follows more than 127 pointers"
+name_refusal_display NameRefusal.TooLong = codes "the name has more than 255 octets"

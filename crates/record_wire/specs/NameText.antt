@@ -1,7 +1,7 @@
 -- The text of a name (RFC 1035 section 5.1): its labels with dots between them, and a dot alone for the root.
-use Rattle.std.specs.Prelude.{◌≡◌, ℕ, ◌+◌, ◌*◌, ◌/◌, ◌%◌, ◌<◌, ◌==◌, ◌⊎◌, Bool, false, ◌||◌, if◌then◌else◌}
-use Rattle.std.specs.Prelude.{List, [], ◌∷◌, ◌++◌, IsTrue, IsFalse, codes, decimal, flat_map}
-use Rattle.std.specs.Char.{is_ascii_graphic, is_ascii_digit}
+use Rattle.std.specs.Prelude.{◌≡◌, ◌+◌, ◌*◌, ◌/◌, ◌%◌, ◌<◌, ◌==◌, ◌⊎◌, ◌||◌, [], ◌∷◌, ◌++◌, Bool, IsFalse, IsTrue, List}
+use Rattle.std.specs.Prelude.{ℕ, codes, decimal, false, flat_map, if◌then◌else◌}
+use Rattle.std.specs.Char.{is_ascii_digit, is_ascii_graphic}
 use Rattle.record_wire.specs.Labels.{AreOfName}
 
 -- ---- characters

@@ -1,5 +1,5 @@
 -- The names that are read of messages (RFC 1035 sections 2.3.4 and 4.1.4).
-use Rattle.std.specs.Prelude.{ℕ, ◌≤◌, List, length}
+use Rattle.std.specs.Prelude.{◌≤◌, List, ℕ, length}
 use Rattle.dns_wire.specs.DnsName.{IsName}
 use Rattle.record_wire.specs.Labels.{AreOfName}
 

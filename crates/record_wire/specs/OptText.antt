@@ -1,7 +1,7 @@
 -- An OPT record as a line (RFC 6891 section 6.1): it belongs to no zone, so it is a comment in a zone file.
-use Rattle.std.specs.Prelude.{ℕ, ◌/◌, ◌%◌, ◌==◌, nat_le, if◌then◌else◌, List, [], ◌∷◌, ◌++◌, flat_map}
-use Rattle.std.specs.Prelude.{Ok, Err, codes, decimal}
-use Rattle.wirebase.specs.Display.{pieces}
+use Rattle.std.specs.Prelude.{◌/◌, ◌%◌, ◌==◌, [], ◌∷◌, ◌++◌, Err, List, Ok, ℕ, codes, decimal, flat_map, if◌then◌else◌}
+use Rattle.std.specs.Prelude.{nat_le}
+use Rattle.record_wire.specs.Words.{pieces}
 use Rattle.record_wire.specs.Edns.{EdnsValue, Answer, answers_in}
 use Rattle.record_wire.specs.RecordDisplay.{option_display, option_refusal_display}
 

@@ -1,67 +1,56 @@
 -- The data of resource records by their type (RFC 1035 sections 3.3 and 3.4, RFC 2782, RFC 3596, RFC 3597 section 4).
-use Rattle.std.specs.Prelude.{◌≡◌, ℕ, ◌==◌, ◌≤◌, if◌then◌else◌, List, [], ◌∷◌, ◌++◌, length, drop}
-use Rattle.std.specs.Prelude.{Bool, true, false, Option, None, Some, nat_le}
+use Rattle.std.specs.Prelude.{◌≡◌, ◌==◌, ◌≤◌, [], ◌∷◌, ◌++◌, Bool, List, None, Option, Some, ℕ, drop, false}
+use Rattle.std.specs.Prelude.{if◌then◌else◌, length, nat_le, true}
 use Rattle.std.specs.Borrow.{Bor}
 use Rattle.std.specs.List.{flat_map}
-use Rattle.wirebase.specs.Bytes.{Field, field, Reaches, number_of}
+use Rattle.record_wire.specs.Words.{Field, Form, FrontForm, Ipv4Address, Ipv6Address, IsOnePart, Layout, Reaches}
+use Rattle.record_wire.specs.Words.{RestForm, field, number_of, written}
 use Rattle.wirebase.specs.Ipv4 as ipv4
 use Rattle.wirebase.specs.Ipv6Address as ipv6
-use Rattle.wirebase.specs.declared.ipv4.Ipv4Address.{Ipv4Address}
-use Rattle.wirebase.specs.declared.ipv6.address.Ipv6Address.{Ipv6Address}
-use Rattle.dns_wire.specs.DnsName.{IsOnePart, written}
 use Rattle.dns_wire.specs.DnsQuestion.{internet}
 use Rattle.dns_wire.specs.declared.dns.tables.Type.{«Type» as RecordType}
-use Rattle.dns_wire.specs.declared.dns.tables.Type.TheVariants as kind
 use Rattle.record_wire.specs.Fields.{FieldsValue, fields_of, IsFields}
-use Rattle.record_wire.specs.declared.rdata.fields.Form.{Form}
-use Rattle.record_wire.specs.declared.rdata.fields.FrontForm.{FrontForm}
-use Rattle.record_wire.specs.declared.rdata.fields.FrontForm.TheVariants as front_form
-use Rattle.record_wire.specs.declared.rdata.fields.RestForm.{RestForm}
-use Rattle.record_wire.specs.declared.rdata.fields.RestForm.TheVariants as rest_form
-use Rattle.record_wire.specs.declared.rdata.Layout.{Layout}
-use Rattle.record_wire.specs.declared.rdata.Layout.TheVariants as layout
 use Rattle.record_wire.specs.declared.rdata.Authority.{Authority}
 use Rattle.record_wire.specs.declared.rdata.RData.{RData}
-use Rattle.record_wire.specs.declared.rdata.RData.TheVariants as rdata
 
 -- ---- layouts
 
 -- fields before one name or two and after them
 abbrev pub form : FrontForm → Bool → RestForm → Layout
-form front has_two rest = layout.Fields (record { front = front; has_two = has_two; «rest» = rest })
+form front has_two rest = Layout.Fields (record { front = front; has_two = has_two; «rest» = rest })
 
 -- Which layout the data of a type has, by the type's number: 3 is MD, 4 MF, 7 MB, 8 MG, 9 MR, 12 PTR, 14 MINFO, 15 MX,
 -- 16 TXT (RFC 1035 section 3.2.2), 17 RP, 18 AFSDB, 21 RT (RFC 1183), 24 SIG, 30 NXT (RFC 2535), 26 PX (RFC 2163),
 -- 33 SRV (RFC 2782), 35 NAPTR (RFC 3403), 36 KX (RFC 2230), 39 DNAME (RFC 6672) and 47 NSEC (RFC 4034). Addresses are
 -- those of the internet.
 abbrev pub layout_of : RecordType → ℕ → Layout
-layout_of kind.A class = if class == internet then layout.Ipv4 else layout.Opaque
-layout_of kind.Aaaa class = if class == internet then layout.Ipv6 else layout.Opaque
-layout_of kind.Cname class = layout.Name
-layout_of kind.Ns class = layout.Name
-layout_of kind.Soa class = layout.Authority
-layout_of (kind.Unknown n) class =
-    if n == 12 then layout.Name
-    else if n == 39 then layout.Name
-    else if n == 7 then layout.Name
-    else if n == 3 then layout.Name
-    else if n == 4 then layout.Name
-    else if n == 8 then layout.Name
-    else if n == 9 then layout.Name
-    else if n == 15 then layout.Mail
-    else if n == 16 then layout.Strings
-    else if n == 33 then layout.Service
-    else if n == 14 then form front_form.Nothing true rest_form.Nothing
-    else if n == 17 then form front_form.Nothing true rest_form.Nothing
-    else if n == 18 then form front_form.Number false rest_form.Nothing
-    else if n == 21 then form front_form.Number false rest_form.Nothing
-    else if n == 36 then form front_form.Number false rest_form.Nothing
-    else if n == 26 then form front_form.Number true rest_form.Nothing
-    else if n == 35 then form front_form.Rule false rest_form.Nothing
-    else if n == 24 then form front_form.Signed false rest_form.Signature
-    else if n == 30 then form front_form.Nothing false rest_form.Bits
-    else if n == 47 then form front_form.Nothing false rest_form.Types
-    else layout.Opaque
+layout_of RecordType.A class = if class == internet then Layout.Ipv4 else Layout.Opaque
+layout_of RecordType.Aaaa class = if class == internet then Layout.Ipv6 else Layout.Opaque
+layout_of RecordType.Cname class = Layout.Name
+layout_of RecordType.Ns class = Layout.Name
+layout_of RecordType.Soa class = Layout.Authority
+layout_of (RecordType.Unknown n) class =
+    if n == 12 then Layout.Name
+    else if n == 39 then Layout.Name
+    else if n == 7 then Layout.Name
+    else if n == 3 then Layout.Name
+    else if n == 4 then Layout.Name
+    else if n == 8 then Layout.Name
+    else if n == 9 then Layout.Name
+    else if n == 15 then Layout.Mail
+    else if n == 16 then Layout.Strings
+    else if n == 33 then Layout.Service
+    else if n == 14 then form FrontForm.Nothing true RestForm.Nothing
+    else if n == 17 then form FrontForm.Nothing true RestForm.Nothing
+    else if n == 18 then form FrontForm.Number false RestForm.Nothing
+    else if n == 21 then form FrontForm.Number false RestForm.Nothing
+    else if n == 36 then form FrontForm.Number false RestForm.Nothing
+    else if n == 26 then form FrontForm.Number true RestForm.Nothing
+    else if n == 35 then form FrontForm.Rule false RestForm.Nothing
+    else if n == 24 then form FrontForm.Signed false RestForm.Signature
+    else if n == 30 then form FrontForm.Nothing false RestForm.Bits
+    else if n == 47 then form FrontForm.Nothing false RestForm.Types
+    else Layout.Opaque
 
 -- ---- data
 
@@ -140,15 +129,15 @@ authority_of soa = record {
 }
 
 abbrev pub rdata_of : RData → RDataValue
-rdata_of (rdata.A address) = address4 address
-rdata_of (rdata.Aaaa address) = address6 address
-rdata_of (rdata.Name bytes) = name bytes.now
-rdata_of (rdata.Mx preference exchange) = mail preference exchange.now
-rdata_of (rdata.Srv priority weight port target) = service priority weight port target.now
-rdata_of (rdata.Soa soa) = authority (authority_of soa)
-rdata_of (rdata.Txt bytes) = strings bytes.now
-rdata_of (rdata.Fields read) = fields (fields_of read)
-rdata_of (rdata.Other bytes) = other bytes.now
+rdata_of (RData.A address) = address4 address
+rdata_of (RData.Aaaa address) = address6 address
+rdata_of (RData.Name bytes) = name bytes.now
+rdata_of (RData.Mx preference exchange) = mail preference exchange.now
+rdata_of (RData.Srv priority weight port target) = service priority weight port target.now
+rdata_of (RData.Soa soa) = authority (authority_of soa)
+rdata_of (RData.Txt bytes) = strings bytes.now
+rdata_of (RData.Fields read) = fields (fields_of read)
+rdata_of (RData.Other bytes) = other bytes.now
 
 -- ---- the grammar of each layout
 
@@ -213,15 +202,15 @@ IsFieldsData form bytes value = (read : FieldsValue) × IsFields form bytes read
 
 -- the data of a type and a class
 abbrev pub IsLaidOut : Layout → List ℕ → RDataValue → Type 0
-IsLaidOut layout.Ipv4 bytes value = IsAddress4 bytes value
-IsLaidOut layout.Ipv6 bytes value = IsAddress6 bytes value
-IsLaidOut layout.Name bytes value = IsNameData bytes value
-IsLaidOut layout.Mail bytes value = IsMail bytes value
-IsLaidOut layout.Service bytes value = IsService bytes value
-IsLaidOut layout.Authority bytes value = IsAuthority bytes value
-IsLaidOut layout.Strings bytes value = IsStrings bytes value
-IsLaidOut (layout.Fields form) bytes value = IsFieldsData form bytes value
-IsLaidOut layout.Opaque bytes value = value ≡ other bytes
+IsLaidOut Layout.Ipv4 bytes value = IsAddress4 bytes value
+IsLaidOut Layout.Ipv6 bytes value = IsAddress6 bytes value
+IsLaidOut Layout.Name bytes value = IsNameData bytes value
+IsLaidOut Layout.Mail bytes value = IsMail bytes value
+IsLaidOut Layout.Service bytes value = IsService bytes value
+IsLaidOut Layout.Authority bytes value = IsAuthority bytes value
+IsLaidOut Layout.Strings bytes value = IsStrings bytes value
+IsLaidOut (Layout.Fields form) bytes value = IsFieldsData form bytes value
+IsLaidOut Layout.Opaque bytes value = value ≡ other bytes
 
 abbrev pub IsRData : RecordType → ℕ → List ℕ → RDataValue → Type 0
 IsRData t class bytes value = IsLaidOut (layout_of t class) bytes value

@@ -10,12 +10,10 @@
 -- +-------------------------------+- - - - - - - - -
 --
 -- of which a question has the type and the class alone.
-use Rattle.std.specs.Prelude.{◌≡◌, ℕ, ◌≤◌, List, ◌++◌, length, take, drop}
-use Rattle.wirebase.specs.Bytes.{Reaches, number_of}
-use Rattle.dns_wire.specs.DnsTables.{type_of}
-use Rattle.dns_wire.specs.DnsName.{IsOnePart}
+use Rattle.std.specs.Prelude.{◌≡◌, ◌≤◌, ◌++◌, List, ℕ, drop, length, take}
+use Rattle.record_wire.specs.Words.{IsOnePart, Reaches, length_field, number_of, type_of}
 use Rattle.dns_wire.specs.DnsQuestion.{type_field, class_field}
-use Rattle.dns_wire.specs.DnsRecord.{ttl_field, length_field}
+use Rattle.dns_wire.specs.DnsRecord.{ttl_field}
 use Rattle.dns_wire.specs.declared.dns.tables.Type.{«Type» as RecordType}
 use Rattle.record_wire.specs.declared.record.Question.{Question}
 use Rattle.record_wire.specs.declared.record.Record.{Record}

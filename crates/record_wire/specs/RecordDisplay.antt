@@ -1,11 +1,10 @@
 -- What questions, records and their data print. Names and data are printed by their lengths, since a name may go on
 -- elsewhere in its message.
-use Rattle.std.specs.Prelude.{ℕ, if◌then◌else◌, List, [], ◌∷◌, length, flat_map, codes, decimal}
-use Rattle.wirebase.specs.Display.{pieces}
+use Rattle.std.specs.Prelude.{[], ◌∷◌, List, ℕ, codes, decimal, flat_map, length}
+use Rattle.record_wire.specs.Words.{OptionRefusal, Section, encode_lower, name_in, name_or, pieces, type_display}
+use Rattle.wirebase.specs.Display.{truth_text}
 use Rattle.wirebase.specs.Ipv4 as ipv4
 use Rattle.wirebase.specs.Ipv6Address as ipv6
-use Rattle.wirebase.specs.Ethernet.{hex_byte}
-use Rattle.dns_wire.specs.DnsDisplay.{name_in, name_or, type_display}
 use Rattle.record_wire.specs.FieldsText.{fields_display}
 use Rattle.record_wire.specs.Mnemonics.{class_text}
 use Rattle.record_wire.specs.Record.{QuestionValue, RecordValue}
@@ -13,10 +12,6 @@ use Rattle.record_wire.specs.RData.{AuthorityValue, RDataValue, address4, addres
 use Rattle.record_wire.specs.RData.{strings, fields, other}
 use Rattle.record_wire.specs.Edns.{EdnsValue, OptionValue}
 use Rattle.record_wire.specs.Entries.{EntryValue, question, record_in}
-use Rattle.record_wire.specs.declared.edns.OptionRefusal.{OptionRefusal}
-use Rattle.record_wire.specs.declared.edns.OptionRefusal.TheVariants as refusal
-use Rattle.record_wire.specs.declared.entries.Section.{Section}
-use Rattle.record_wire.specs.declared.entries.Section.TheVariants.{Question, Answer, Authority, Additional}
 
 abbrev pub question_display : QuestionValue → List ℕ
 question_display q =
@@ -69,7 +64,7 @@ edns_display edns =
     pieces (codes "EDNS payload_size=" ∷ decimal edns.payload_size
     ∷ codes " extended_rcode=" ∷ decimal edns.extended_rcode
     ∷ codes " version=" ∷ decimal edns.version
-    ∷ codes " dnssec_ok=" ∷ (if edns.dnssec_ok then codes "true" else codes "false")
+    ∷ codes " dnssec_ok=" ∷ truth_text edns.dnssec_ok
     ∷ codes " flags=" ∷ decimal edns.flags
     ∷ codes " len=" ∷ decimal (length edns.options) ∷ [])
 
@@ -84,19 +79,19 @@ option_names =
 abbrev pub option_display : OptionValue → List ℕ
 option_display option =
     pieces (name_or (codes "option-") (name_in option_names option.code) option.code
-    ∷ codes "=" ∷ flat_map hex_byte option.«data» ∷ [])
+    ∷ codes "=" ∷ encode_lower option.«data» ∷ [])
 
 abbrev pub option_refusal_display : OptionRefusal → List ℕ
-option_refusal_display refusal.Fields = codes "the code and the length are cut"
-option_refusal_display refusal.Data = codes "the data of the option is cut"
+option_refusal_display OptionRefusal.Fields = codes "the code and the length are cut"
+option_refusal_display OptionRefusal.Data = codes "the data of the option is cut"
 
 -- ---- entries
 
 abbrev pub section_display : Section → List ℕ
-section_display Question = codes "question"
-section_display Answer = codes "answer"
-section_display Authority = codes "authority"
-section_display Additional = codes "additional"
+section_display Section.Question = codes "question"
+section_display Section.Answer = codes "answer"
+section_display Section.Authority = codes "authority"
+section_display Section.Additional = codes "additional"
 
 abbrev pub entry_display : EntryValue → List ℕ
 entry_display (question q) = question_display q

@@ -1,12 +1,11 @@
 -- Records whose names are read, and their lines in a zone file (RFC 1035 section 5.1, RFC 3597 section 5).
-use Rattle.std.specs.Prelude.{◌≡◌, ℕ, ◌⊎◌, Bool, true, List, [], ◌∷◌, Option, None, Some, codes, decimal}
-use Rattle.wirebase.specs.Display.{pieces}
+use Rattle.std.specs.Prelude.{◌≡◌, ◌⊎◌, [], ◌∷◌, Bool, List, None, Option, Some, ℕ, codes, decimal, true}
+use Rattle.record_wire.specs.Words.{Ipv4Address, Ipv6Address, NameRefusal, TextRefusal, pieces}
+use Rattle.record_wire.specs.Words.{type_display}
+use Rattle.record_wire.specs.declared.text.question.QuestionText.{QuestionText}
 use Rattle.wirebase.specs.Ipv4 as ipv4
 use Rattle.wirebase.specs.Ipv6Address as ipv6
-use Rattle.wirebase.specs.declared.ipv4.Ipv4Address.{Ipv4Address}
-use Rattle.wirebase.specs.declared.ipv6.address.Ipv6Address.{Ipv6Address}
 use Rattle.dns_wire.specs.declared.dns.tables.Type.{«Type» as RecordType}
-use Rattle.dns_wire.specs.DnsDisplay.{type_display}
 use Rattle.record_wire.specs.Edns.{EdnsValue}
 use Rattle.record_wire.specs.FieldsText.{FieldsTextValue, fields_text_of, IsFieldsText, RefusesNamesIn, fields_text}
 use Rattle.record_wire.specs.Mnemonics.{class_text}
@@ -21,14 +20,9 @@ use Rattle.record_wire.specs.Strings.{strings_in}
 use Rattle.record_wire.specs.RDataRefusal.{RefusesLayout, data_refusal_display}
 use Rattle.record_wire.specs.Update.{data_layout, IsDataOf}
 use Rattle.record_wire.specs.ZoneText.{whole_name, strings_text, generic_text}
-use Rattle.record_wire.specs.declared.name.refusal.NameRefusal.{NameRefusal}
 use Rattle.record_wire.specs.declared.text.AuthorityText.{AuthorityText}
 use Rattle.record_wire.specs.declared.text.DataText.{DataText}
-use Rattle.record_wire.specs.declared.text.DataText.TheVariants as text
 use Rattle.record_wire.specs.declared.text.RecordText.{RecordText}
-use Rattle.record_wire.specs.declared.text.question.QuestionText.{QuestionText}
-use Rattle.record_wire.specs.declared.text.refusal.TextRefusal.{TextRefusal}
-use Rattle.record_wire.specs.declared.text.refusal.TextRefusal.TheVariants as refusal
 
 -- ---- records and their data by content: of each name its labels
 
@@ -72,15 +66,15 @@ authority_text_of soa = record {
 }
 
 abbrev pub data_text_of : DataText → DataTextValue
-data_text_of (text.A address) = address4 address
-data_text_of (text.Aaaa address) = address6 address
-data_text_of (text.Name read) = name (labels_of read)
-data_text_of (text.Mx preference exchange) = mail preference (labels_of exchange)
-data_text_of (text.Srv priority weight port target) = service priority weight port (labels_of target)
-data_text_of (text.Soa soa) = authority (authority_text_of soa)
-data_text_of (text.Txt bytes) = strings bytes.now
-data_text_of (text.Fields read) = fields (fields_text_of read)
-data_text_of (text.Other bytes) = other bytes.now
+data_text_of (DataText.A address) = address4 address
+data_text_of (DataText.Aaaa address) = address6 address
+data_text_of (DataText.Name read) = name (labels_of read)
+data_text_of (DataText.Mx preference exchange) = mail preference (labels_of exchange)
+data_text_of (DataText.Srv priority weight port target) = service priority weight port (labels_of target)
+data_text_of (DataText.Soa soa) = authority (authority_text_of soa)
+data_text_of (DataText.Txt bytes) = strings bytes.now
+data_text_of (DataText.Fields read) = fields (fields_text_of read)
+data_text_of (DataText.Other bytes) = other bytes.now
 
 abbrev pub record_text_of : RecordText → RecordTextValue
 record_text_of r = record {
@@ -153,11 +147,11 @@ RefusesNameIn message (rdata.other bytes) why = ⊥
 
 -- the name is malformed; the data are not those of their type and class; a name in these is malformed
 abbrev pub RefusesText : List ℕ → ℕ → RecordValue → TextRefusal → Type 0
-RefusesText message class r (refusal.Owner why) = RefusesName r.name message why
-RefusesText message class r (refusal.Data why) =
+RefusesText message class r (TextRefusal.Owner why) = RefusesName r.name message why
+RefusesText message class r (TextRefusal.Data why) =
     HasName r.name message × ((value : rdata.RDataValue) → IsDataOf r.kind class r.«data» value → ⊥)
     × RefusesLayout (data_layout r.kind class r.«data») r.«data» why
-RefusesText message class r (refusal.DataName why) =
+RefusesText message class r (TextRefusal.DataName why) =
     HasName r.name message
     × ((value : rdata.RDataValue) × IsDataOf r.kind class r.«data» value × RefusesNameIn message value why)
 
@@ -212,6 +206,6 @@ question_text labels class kind =
     pieces (whole_name labels ∷ codes " " ∷ class_text class ∷ codes " " ∷ type_display kind ∷ [])
 
 abbrev pub text_refusal_display : TextRefusal → List ℕ
-text_refusal_display (refusal.Owner why) = pieces (codes "the owner: " ∷ name_refusal_display why ∷ [])
-text_refusal_display (refusal.Data why) = pieces (codes "the data: " ∷ data_refusal_display why ∷ [])
-text_refusal_display (refusal.DataName why) = pieces (codes "a name in the data: " ∷ name_refusal_display why ∷ [])
+text_refusal_display (TextRefusal.Owner why) = pieces (codes "the owner: " ∷ name_refusal_display why ∷ [])
+text_refusal_display (TextRefusal.Data why) = pieces (codes "the data: " ∷ data_refusal_display why ∷ [])
+text_refusal_display (TextRefusal.DataName why) = pieces (codes "a name in the data: " ∷ name_refusal_display why ∷ [])

@@ -1,7 +1,7 @@
 -- Strings of up to 255 bytes, each after its length (RFC 1035 section 3.3).
-use Rattle.std.specs.Prelude.{◌≡◌, ℕ, nat_le, if◌then◌else◌, List, [], ◌∷◌, ◌++◌, length, take, drop, flat_map}
-use Rattle.std.specs.Prelude.{Option, None, Some}
-use Rattle.dns_wire.specs.DnsName.{written}
+use Rattle.std.specs.Prelude.{◌≡◌, [], ◌∷◌, ◌++◌, List, None, Option, Some, ℕ, drop, flat_map, if◌then◌else◌, length}
+use Rattle.std.specs.Prelude.{nat_le, take}
+use Rattle.record_wire.specs.Words.{written}
 use Rattle.record_wire.specs.Ahead.{ahead}
 
 -- the octets do not begin with a string

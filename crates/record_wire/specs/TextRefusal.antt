@@ -1,12 +1,10 @@
 -- Why texts of names are refused: the check that fails first.
-use Rattle.std.specs.Prelude.{◌≡◌, ◌≢◌, ℕ, ◌<◌, ◌≤◌, List, [], ◌∷◌, ◌++◌, length, codes, decimal}
+use Rattle.std.specs.Prelude.{◌≡◌, ◌≢◌, ◌<◌, ◌≤◌, [], ◌∷◌, ◌++◌, List, ℕ, codes, decimal, length}
 use Rattle.std.specs.List.{AllByRecursion}
-use Rattle.wirebase.specs.Display.{pieces}
-use Rattle.dns_wire.specs.DnsName.{IsLabel}
+use Rattle.record_wire.specs.Words.{IsLabel, pieces}
 use Rattle.record_wire.specs.Labels.{wire}
 use Rattle.record_wire.specs.NameText.{IsCharacter, Spells, IsNameText}
 use Rattle.record_wire.specs.declared.name.text_refusal.NameTextRefusal.{NameTextRefusal}
-use Rattle.record_wire.specs.declared.name.text_refusal.NameTextRefusal.TheVariants as refusal
 
 -- a text is these labels, each with a dot after it, followed by more
 abbrev pub Leads : List ℕ → List (List ℕ) → List ℕ → Type 0
@@ -36,38 +34,38 @@ IsLabelEnd (byte ∷ rest) = byte ≡ 46
 
 -- the rest of a text that does not begin with a character: the end or a dot, a backslash, or another byte
 abbrev pub RefusesRest : List ℕ → NameTextRefusal → Type 0
-RefusesRest rest refusal.EmptyLabel = IsLabelEnd rest
-RefusesRest rest refusal.Escape = (more : List ℕ) × (rest ≡ 92 ∷ more) × BeginsWithNone rest
-RefusesRest rest (refusal.Byte byte) =
+RefusesRest rest NameTextRefusal.EmptyLabel = IsLabelEnd rest
+RefusesRest rest NameTextRefusal.Escape = (more : List ℕ) × (rest ≡ 92 ∷ more) × BeginsWithNone rest
+RefusesRest rest (NameTextRefusal.Byte byte) =
     (more : List ℕ) × (rest ≡ byte ∷ more) × (byte ≢ 46) × (byte ≢ 92) × BeginsWithNone rest
 RefusesRest rest _ = ⊥
 
 -- the rest of a text that does not begin with a label of 1 to 63 bytes: too many characters or none
 abbrev pub RefusesLabel : List ℕ → NameTextRefusal → Type 0
-RefusesLabel text refusal.LongLabel =
+RefusesLabel text NameTextRefusal.LongLabel =
     (label : List ℕ) × (rest : List ℕ) × Spells text label rest × (63 < length label)
-RefusesLabel text refusal.TooLong = ⊥
+RefusesLabel text NameTextRefusal.TooLong = ⊥
 RefusesLabel text why = RefusesRest text why
 
 -- A label has no characters, and the text is not a dot alone; it has too many; with it the name has too many octets; it
 -- is followed by a backslash or another byte that begins no character.
 abbrev pub RefusesText : List ℕ → NameTextRefusal → Type 0
-RefusesText text refusal.EmptyLabel =
+RefusesText text NameTextRefusal.EmptyLabel =
     (rest : List ℕ) × (read : IsReadTo text rest) × (read.label ≡ []) × IsLabelEnd rest × (text ≢ codes ".")
-RefusesText text refusal.LongLabel = (rest : List ℕ) × (read : IsReadTo text rest) × (63 < length read.label)
-RefusesText text refusal.TooLong =
+RefusesText text NameTextRefusal.LongLabel = (rest : List ℕ) × (read : IsReadTo text rest) × (63 < length read.label)
+RefusesText text NameTextRefusal.TooLong =
     (rest : List ℕ) × (read : IsReadTo text rest) × (255 < length (wire (read.done ++ read.label ∷ [])))
-RefusesText text refusal.Escape = (rest : List ℕ) × IsReadTo text rest × RefusesRest rest refusal.Escape
-RefusesText text (refusal.Byte byte) = (rest : List ℕ) × IsReadTo text rest × RefusesRest rest (refusal.Byte byte)
+RefusesText text NameTextRefusal.Escape = (rest : List ℕ) × IsReadTo text rest × RefusesRest rest NameTextRefusal.Escape
+RefusesText text (NameTextRefusal.Byte byte) = (rest : List ℕ) × IsReadTo text rest × RefusesRest rest (NameTextRefusal.Byte byte)
 
 -- the text of a name
 abbrev pub IsText : List ℕ → Type 0
 IsText text = (labels : List (List ℕ)) × IsNameText text labels
 
 abbrev pub text_refusal_display : NameTextRefusal → List ℕ
-text_refusal_display refusal.EmptyLabel = codes "a label is empty"
-text_refusal_display refusal.LongLabel = codes "a label has more than 63 bytes"
-text_refusal_display refusal.TooLong = codes "the name has more than 255 octets"
-text_refusal_display refusal.Escape = codes "a backslash stands before no character that it quotes"
-text_refusal_display (refusal.Byte byte) =
+text_refusal_display NameTextRefusal.EmptyLabel = codes "a label is empty"
+text_refusal_display NameTextRefusal.LongLabel = codes "a label has more than 63 bytes"
+text_refusal_display NameTextRefusal.TooLong = codes "the name has more than 255 octets"
+text_refusal_display NameTextRefusal.Escape = codes "a backslash stands before no character that it quotes"
+text_refusal_display (NameTextRefusal.Byte byte) =
     pieces (codes "byte " ∷ decimal byte ∷ codes " does not stand for itself" ∷ [])

@@ -1,7 +1,7 @@
 -- The parts of a record in a zone file (RFC 1035 section 5.1, RFC 3597 section 5, RFC 4648 section 4).
-use Rattle.std.specs.Prelude.{ℕ, ◌+◌, ◌-◌, ◌*◌, ◌/◌, ◌%◌, ◌==◌, ◌||◌, ◌&&◌, not, nat_le, Bool, if◌then◌else◌}
-use Rattle.std.specs.Prelude.{List, [], ◌∷◌, ◌++◌, length, flat_map, map, codes, decimal}
-use Rattle.wirebase.specs.Ethernet.{hex_byte}
+use Rattle.std.specs.Prelude.{◌+◌, ◌-◌, ◌*◌, ◌/◌, ◌%◌, ◌==◌, ◌||◌, ◌&&◌, [], ◌∷◌, ◌++◌, Bool, List, ℕ, codes, decimal}
+use Rattle.std.specs.Prelude.{flat_map, if◌then◌else◌, length, map, nat_le, not}
+use Rattle.record_wire.specs.Words.{encode_lower}
 use Rattle.record_wire.specs.NameText.{name_text}
 
 -- a word after a space
@@ -46,7 +46,7 @@ strings_text (first ∷ rest) = string_text first ++ string_words rest
 
 abbrev pub digits_word : List ℕ → List ℕ
 digits_word [] = []
-digits_word (byte ∷ rest) = word (flat_map hex_byte (byte ∷ rest))
+digits_word (byte ∷ rest) = word (encode_lower (byte ∷ rest))
 
 abbrev pub generic_text : List ℕ → List ℕ
 generic_text bytes = codes "\\#" ++ word (decimal (length bytes)) ++ digits_word bytes

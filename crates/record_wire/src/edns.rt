@@ -11,9 +11,9 @@ ghost use Rattle.record_wire.specs.OptText.{edns_by};
 
 use crate::multicast;
 use crate::record::Record;
-use crate::text::words::Digits;
 use std::marker::Model;
 use std::{fmt, result};
+use wirebase::text::Hex;
 use wirebase::{Error, Octets, Result};
 
 // The fields of an option; their picture is in specs/Edns.antt.
@@ -217,7 +217,7 @@ impl fmt::Display for EdnsOption<'_> {
 
     fn fmt<W: fmt::Write>(&self, f: &mut fmt::Formatter<W>) -> fmt::Result {
         let code = self.code;
-        let digits = Digits(self.data);
+        let digits = Hex(self.data);
         match self.name() {
             Some(name) => write!(f, "{name}={digits}"),
             None => write!(f, "option-{code}={digits}"),

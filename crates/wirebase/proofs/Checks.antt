@@ -1,5 +1,5 @@
 -- Checks that hold, and a check that fails first, exclude each other.
-use Rattle.std.proofs.Common.{◌≡◌, ◌∙◌, sym, inl, inr, List, [], ◌∷◌, ◌++◌}
+use Rattle.wirebase.proofs.Words.{◌≡◌, ◌∙◌, [], ◌∷◌, ◌++◌, List, inl, inr, sym}
 use Rattle.wirebase.specs.Checks.{Check, Passes, Fails}
 
 pub passes_fails : {Why : Type 0} → (checks : List (Check Why)) → Passes checks → (why : Why) → Fails checks why → ⊥

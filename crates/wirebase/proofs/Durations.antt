@@ -1,5 +1,5 @@
 -- A duration is its number of microseconds; one of whole milliseconds or seconds is determined by this number.
-use Rattle.std.proofs.Common.{◌≡◌, ℕ, ◌*◌, sym, ap, ◌∙◌, arith}
+use Rattle.wirebase.proofs.Words.{◌≡◌, ◌*◌, ◌∙◌, ℕ, ap, arith, sym}
 use Rattle.wirebase.specs.Duration.{micros_of, of_micros, millis_of, seconds_of, whole_millis, whole_seconds}
 use Rattle.wirebase.specs.declared.duration.Duration.{Duration}
 

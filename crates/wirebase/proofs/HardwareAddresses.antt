@@ -1,13 +1,11 @@
 -- Addresses of any hardware, which hold eight bytes, zeros after the address: they are equal exactly where their
 -- addresses are.
-use Rattle.std.proofs.Common.{◌≡◌, ℕ, ◌-◌, ◌≤◌, ◌&&◌, Bool, true, eqb, List, [], ◌∷◌, ◌++◌, length, take, drop}
-use Rattle.std.proofs.Common.{replicate, IsTrue, sym, ap, subst, ◌∙◌, arith, length-take-le}
-use Rattle.std.proofs.lemmas.Grind.{common_steps}
-use Rattle.std.proofs.lemmas.List.{take-append-drop}
-use Rattle.std.proofs.Math.Nat.{ℕ_set}
+use Rattle.wirebase.proofs.Words.{◌≡◌, ◌-◌, ◌≤◌, ◌&&◌, [], ◌∷◌, ◌++◌, ◌∙◌, Bool, IsTrue, List, ℕ, ℕ_set, ap, arith}
+use Rattle.wirebase.proofs.Words.{common_steps, drop, eqb, length, raw_bytes, replicate, subst, sym, take}
+use Rattle.wirebase.proofs.Words.{take-append-drop, true}
+use Rattle.std.proofs.Common.{length-take-le}
 use Rattle.std.specs.Cmp.Lexicographic.{pointwise, same_text}
 use Rattle.std.specs.Coded.{Coded-set, coded_ℕ, coded_list, le_prop}
-use Rattle.wirebase.specs.HardwareAddress.{raw_bytes}
 use Rattle.wirebase.specs.declared.ethernet.RawHardwareAddress.{RawHardwareAddress}
 
 abbrev zeros : ℕ → List ℕ

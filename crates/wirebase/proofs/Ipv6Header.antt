@@ -1,19 +1,12 @@
 -- IPv6 addresses and headers: their texts as they are written, and what is read in them.
-use Rattle.std.proofs.Common.{◌≡◌, ℕ, ◌<◌, ◌^◌, List, [], ◌∷◌, ◌++◌, length, take, drop, refl, sym, ap, subst}
-use Rattle.std.proofs.Common.{◌∙◌, arith, length-append}
-use Rattle.std.proofs.Math.Nat.{ℕ_set}
-use Rattle.std.proofs.lemmas.List.{append-nil, append_assoc, drop_at, take_at}
-use Rattle.byteorder.specs.Endian.{big_bytes}
-use Rattle.byteorder.specs.Numbers.{big_number-reads_back}
-use Rattle.wirebase.specs.declared.ip.IpProtocol.{IpProtocol}
+use Rattle.wirebase.proofs.Words.{◌≡◌, ◌<◌, ◌^◌, [], ◌∷◌, ◌++◌, ◌∙◌, IpProtocol, IsHeader, IsProper, List, Sheet, ℕ}
+use Rattle.wirebase.proofs.Words.{ℕ_set, ap, append-nil, arith, be16, be32, be8, big_bytes, big_number-reads_back}
+use Rattle.wirebase.proofs.Words.{blank, drop, drop_at, fields, length, length-append, over, part, protocol_number}
+use Rattle.wirebase.proofs.Words.{protocol_rows, pseudo_fields, put_all, refl, subst, sym, take, take_at}
+use Rattle.std.proofs.lemmas.List.{append_assoc}
 use Rattle.wirebase.specs.declared.ipv6.address.Ipv6Address.{Ipv6Address}
 use Rattle.wirebase.specs.declared.ipv6.Ipv6Repr.{Ipv6Repr}
-use Rattle.wirebase.specs.Bytes.{part, over}
-use Rattle.wirebase.specs.ByteWriter.{Sheet, blank, put_all, be8, be16, be32, fields}
-use Rattle.wirebase.specs.declared.ip.IpProtocol.TheVariants as protocol
-use Rattle.wirebase.specs.Ip.{protocol_number, protocol_rows}
-use Rattle.wirebase.specs.Numbered.{IsProper}
-use Rattle.wirebase.specs.Ipv6.{IsHeader, header_fields, header_text, pseudo_fields}
+use Rattle.wirebase.specs.Ipv6.{header_fields, header_text}
 use Rattle.wirebase.specs.Ipv6Address.{octets_of}
 use Rattle.wirebase.proofs.Pieces.{over-exact}
 use Rattle.wirebase.proofs.IpProtocols.{protocol_of-number}
@@ -93,7 +86,7 @@ pub ruleset header_writes = (over-header, whole-sheet)
 -- ---- reading what was written
 
 header-fields_read : (r : Ipv6Repr) (payload : List ℕ) → r.payload_len < 2 ^ 16
-    → IsProper protocol.Unknown protocol_rows r.next_header
+    → IsProper IpProtocol.Unknown protocol_rows r.next_header
     → IsHeader (0x60 ∷ 0 ∷ 0 ∷ 0
     ∷ (big_bytes 2 r.payload_len
     ++ (protocol_number r.next_header ∷ r.hop_limit ∷ (octets_of r.src_addr ++ (octets_of r.dst_addr ++ payload))))) r
@@ -111,7 +104,7 @@ header-fields_read r payload fits proper =
     }
 
 pub header-read : (r : Ipv6Repr) (payload : List ℕ) → r.payload_len < 2 ^ 16
-    → IsProper protocol.Unknown protocol_rows r.next_header → IsHeader (header_text r ++ payload) r
+    → IsProper IpProtocol.Unknown protocol_rows r.next_header → IsHeader (header_text r ++ payload) r
 header-read r payload fits proper =
     let front : List ℕ = big_bytes 2 r.payload_len in
     let apart : (octets_of r.src_addr ++ octets_of r.dst_addr) ++ payload ≡ octets_of r.src_addr

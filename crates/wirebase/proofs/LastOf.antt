@@ -1,6 +1,5 @@
 -- A field that is overwritten by each option that gives it is what the last such option gives.
-use Rattle.std.proofs.Common.{◌≡◌, List, [], ◌∷◌, refl, ap, ◌∙◌}
-use Rattle.std.specs.Prelude.{Option, None, Some}
+use Rattle.wirebase.proofs.Words.{◌≡◌, [], ◌∷◌, ◌∙◌, List, None, Option, Some, ap, refl}
 use Rattle.std.specs.Option.{option_or}
 use Rattle.wirebase.specs.LastOf.{last_of, keep_all}
 

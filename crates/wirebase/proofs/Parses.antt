@@ -1,6 +1,7 @@
 -- The promise of a parser that answers a type of its own: if it is sound and reads where there is a value, it reads
 -- that value.
-use Rattle.std.proofs.Common.{◌≡◌, Result, Ok, Err, IsOk, IfOk, IsOkAnd}
+use Rattle.wirebase.proofs.Words.{◌≡◌, Err, IsOk, IsOkAnd, Ok, Result}
+use Rattle.std.proofs.Common.{IfOk}
 
 pub reads-complete : {V T E : Type 0} (Reads : V → Type 0) → ((v w : V) → Reads v → Reads w → v ≡ w)
     → (value : T → V) (result : Result T E)

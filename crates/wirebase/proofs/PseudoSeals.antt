@@ -1,8 +1,6 @@
 -- Checksums that count a pseudo header: its sum may be folded first.
-use Rattle.std.proofs.Common.{◌≡◌, ℕ, ◌+◌, ◌-◌, List, sym, ap, ◌∙◌, arith}
-use Rattle.byteorder.specs.Endian.{big_bytes}
-use Rattle.wirebase.specs.Bytes.{Field, with_field}
-use Rattle.wirebase.specs.Checksum.{word_sum, fold, IsGood, zeroed, sealed}
+use Rattle.wirebase.proofs.Words.{◌≡◌, ◌+◌, ◌-◌, ◌∙◌, Field, IsGood, List, ℕ, ap, arith, big_bytes, fold, sealed, sym}
+use Rattle.wirebase.proofs.Words.{with_field, word_sum, zeroed}
 use Rattle.wirebase.proofs.ChecksumSums.{fold-add}
 
 pub fold-after : (n extra : ℕ) → fold (n + fold extra) ≡ fold (n + extra)

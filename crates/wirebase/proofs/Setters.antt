@@ -1,6 +1,5 @@
 -- A setter leaves the number of bytes unchanged.
-use Rattle.std.proofs.Common.{◌≡◌, ℕ, ◌-◌, ◌≤◌, List, length, ap, ◌∙◌}
-use Rattle.wirebase.specs.Bytes.{splice}
+use Rattle.wirebase.proofs.Words.{◌≡◌, ◌-◌, ◌≤◌, ◌∙◌, List, ℕ, ap, length, splice}
 use Rattle.wirebase.proofs.Pieces.{length-splice}
 
 pub length-put : {S : Type 0} (bytes : S → List ℕ) (put : S → List ℕ → S)

@@ -1,7 +1,6 @@
 -- Fields of four bytes, and the numbers that they spell.
-use Rattle.std.proofs.Common.{◌≡◌, ℕ, ◌+◌, ◌-◌, ◌<◌, ◌^◌, List, [], ◌∷◌, drop, take, arith}
-use Rattle.byteorder.specs.Endian.{big_number}
-use Rattle.wirebase.specs.Bytes.{IsBytes, part, field, number_of}
+use Rattle.wirebase.proofs.Words.{◌≡◌, ◌+◌, ◌-◌, ◌<◌, ◌^◌, [], ◌∷◌, IsBytes, List, ℕ, arith, big_number, drop, field}
+use Rattle.wirebase.proofs.Words.{number_of, part, take}
 use Rattle.wirebase.proofs.ByteParts.{IsBytes-drop}
 
 four_small : (bytes : List ℕ) → IsBytes bytes → big_number 4 (take 4 bytes) < 2 ^ 32

@@ -6,18 +6,16 @@ ghost use Rattle.std.specs.Prelude.{
   ◌≤◌,
   ◌↔◌,
   ◌-◌,
-  ◌++◌,
   length,
   drop,
   replicate,
   IsTrue,
   Some,
-  codes,
-  flat_map,
 };
-ghost use Rattle.std.specs.Fmt.{WritesOnOk};
-ghost use Rattle.wirebase.specs.Ethernet.{Ethernet, octets_of, hex_byte, hex_colons};
+ghost use Rattle.wirebase.specs.Ethernet.{Ethernet, octets_of};
+ghost use Rattle.wirebase.specs.Hexadecimal.{hex_colons};
 
+use crate::text::HexColons;
 use std::fmt::{self, Display};
 
 /// The greatest number of bytes of a hardware address.
@@ -172,45 +170,4 @@ impl fmt::Display for RawHardwareAddress {
     fn fmt<W: fmt::Write>(&self, f: &mut fmt::Formatter<W>) -> fmt::Result {
         HexColons(self.as_bytes()).fmt(f)
     }
-}
-
-// A byte as two digits.
-#[derive(Clone, Copy)]
-pub(crate) struct HexByte(pub(crate) u8);
-
-impl fmt::Display for HexByte {
-    ghost output = { λ byte. Some (hex_byte byte.0) };
-
-    fn fmt<W: fmt::Write>(&self, f: &mut fmt::Formatter<W>) -> fmt::Result {
-        let high = self.0 / 16;
-        let low = self.0 % 16;
-        write!(f, "{high:x}{low:x}")
-    }
-}
-
-// Bytes as two digits each, with colons between them.
-#[derive(Clone, Copy)]
-struct HexColons<'a>(&'a [u8]);
-
-impl fmt::Display for HexColons<'_> {
-    ghost output = { λ bytes. Some (hex_colons bytes.0.now) };
-
-    fn fmt<W: fmt::Write>(&self, f: &mut fmt::Formatter<W>) -> fmt::Result {
-        let [first, rest @ ..] = self.0 else {
-            return Ok(());
-        };
-        HexByte(*first).fmt(f)?;
-        fmt_behind_colons(f, rest)
-    }
-}
-
-// Prints each byte as two digits, after a colon.
-fn fmt_behind_colons<W: fmt::Write>(f: &mut fmt::Formatter<W>, bytes: &[u8]) -> fmt::Result
-    ensures { WritesOnOk W.write_str_gives f.old result
-        (flat_map (λ next. codes ":" ++ hex_byte next) bytes.now) f.new }
-{
-    for byte in bytes {
-        write!(f, ":{}", HexByte(*byte))?;
-    }
-    Ok(())
 }

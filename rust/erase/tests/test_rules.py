@@ -96,10 +96,10 @@ ROWS = {
     "nothing": ("use wirebase::{Error, are_facts}; fn are_facts(a: u8) ensures { a ≡ a } {} "
                 "fn f() -> Error { are_facts(1); R::are_facts(2); Error }",
                 "use crate::wirebase::{Error}; fn f() -> Error { Error }"),
-    "formatter": ("fn fmt<W: fmt::Write>(&self, f: &mut fmt::Formatter<W>) -> fmt::Result { f.write_str(\"a\") }",
-                  "fn fmt(&self, f: &mut fmt::Formatter<'_>) -> fmt::Result { f.write_str(\"a\") }"),
-    "hex_groups": ("fn f(o: [u8; 16]) -> u8 { g(Ipv6Addr::from(o).hex_groups()) }",
-                   "fn f(o: [u8; 16]) -> u8 { g(crate::by_hand::HexGroups(o)) }"),
+    "formatter": ("fn fmt<W: fmt::Write>(&self, f: &mut fmt::Formatter<W>) -> fmt::Result { f.write_str(\"a\") } "
+                  "impl<W: fmt::Write> Sink<fmt::Formatter<W>> for A { fn put(o: &mut fmt::Formatter<W>) -> u8 { 1 } }",
+                  "fn fmt(&self, f: &mut fmt::Formatter<'_>) -> fmt::Result { f.write_str(\"a\") } "
+                  "impl Sink<fmt::Formatter<'_>> for A { fn put(o: &mut fmt::Formatter<'_>) -> u8 { 1 } }"),
     "from_utf8": ("fn f() -> u8 { g(str::from_utf8(a)) }", "fn f() -> u8 { g(core::str::from_utf8(a)) }"),
     "label": ("fn f() -> u8 { 'a: loop { 'b: for i in c { continue 'b; } } }",
               "fn f() -> u8 { loop { 'b: for i in c { continue 'b; } } }"),
@@ -166,7 +166,6 @@ REFUSED = (
     ("fn f() -> u8 { unsafe { 1 } }", "`unsafe` is left"),
     ("fn f(rt: HostRuntime) -> u8 { 1 }", "is left"),
     ("fn f<V, W: fmt::Write>(f: &mut fmt::Formatter<W>) -> u8 { 1 }", "a Formatter in a function with other"),
-    ("fn f() -> u8 { Ipv6Addr::from(o).segments() }", "an Ipv6Addr"),
     ("fn are_facts() {} fn f() -> u8 { let a = are_facts; a }", "a function that does nothing, in another place"),
     ("impl Octets for [u8; 4] { fn octets(&self) -> &[u8] { self } }", "octets that are no slice"),
     ("impl Clone for S { fn clone(&self) -> S { S } }", "a Clone of S"),

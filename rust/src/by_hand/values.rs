@@ -84,7 +84,6 @@ errors! {
     ndisc::Refusal,
     ndiscoption::Refusal,
     quotes::icmpv4_error::Refusal,
-    quotes::icmpv6_error::Refusal,
     quotes::message::Icmpv4Refusal,
     quotes::message::Icmpv6Refusal,
     quotes::quote::Refusal,

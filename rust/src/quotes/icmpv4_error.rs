@@ -3,12 +3,12 @@
 
 mod display;
 mod reason;
-mod refusal;
 
-use super::field;
-use super::writing::write_error;
+pub use crate::quotes::error::Refusal;
+use crate::quotes::error::write_error;
+use crate::quotes::field;
+use crate::quotes::quote::why_no_datagram;
 use crate::wirebase::{ChecksumCapabilities, Error, Ipv4Address, Octets, Result, checksum};
-pub use refusal::Refusal;
 
 /// The most bytes of a datagram that an error quotes: with the error's own headers they make 576, which every host
 /// accepts (RFC 1812 section 4.3.2.3).
@@ -106,7 +106,8 @@ impl<'a> Repr<'a> {
         Repr::read(octets, checksum_caps)
     }
 
-    // The error in the octets.
+    // The error in the octets. Apart from `parse_or_refusal`: room for a reason in its result takes 81 bytes of code
+    // more at opt-level "z".
     fn read(octets: &'a [u8], checksum_caps: &ChecksumCapabilities) -> Result<Repr<'a>> {
         if octets.len() < field::HEADER_END {
             return Err(Error);
@@ -127,6 +128,39 @@ impl<'a> Repr<'a> {
             }),
             None => Err(Error),
         }
+    }
+
+    /// The error in the octets, or why [`Repr::parse`] refuses them, by the check that fails first.
+    #[inline]
+    pub fn parse_or_refusal(
+        octets: &'a [u8],
+        checksum_caps: &ChecksumCapabilities,
+    ) -> core::result::Result<Repr<'a>, Refusal> {
+        if octets.len() < field::HEADER_END {
+            return Err(Refusal::Short);
+        }
+        if checksum_caps.icmpv4.rx() && !checksum::is_good(octets, 0) {
+            return Err(Refusal::Checksum);
+        }
+        let number = octets.u8_at(field::TYPE);
+        let Some(kind) = Kind::from_number(number) else {
+            return Err(Refusal::UnknownType(number));
+        };
+        let quoted = &octets[field::HEADER_END..];
+        if !is_datagram(quoted) {
+            return Err(Refusal::Quote(why_no_datagram(quoted)));
+        }
+        Ok(Repr {
+            kind,
+            code: octets.u8_at(field::CODE),
+            rest: octets.u32_at(field::REST),
+            quoted,
+        })
+    }
+
+    /// Why [`Repr::parse`] refuses these octets, by the check that fails first; None exactly where it reads them.
+    pub fn refusal(octets: &[u8], checksum_caps: &ChecksumCapabilities) -> Option<Refusal> {
+        Repr::parse_or_refusal(octets, checksum_caps).err()
     }
 
     /// The MTU of the next link, in bytes, where fragmentation was needed but not allowed (type 3, code 4; RFC 1191
@@ -158,7 +192,7 @@ impl<'a> Repr<'a> {
 
     /// The length of the error in bytes, at most 556.
     pub fn buffer_len(&self) -> usize {
-        field::HEADER_END + self.quotable().len()
+        field::HEADER_END + self.quoted.len().min(MAX_QUOTED)
     }
 
     /// Writes the error at the start of the octets, cut at their end, and then, where the capabilities ask for it, the
@@ -169,24 +203,14 @@ impl<'a> Repr<'a> {
     ///
     /// May panic where what is asked for above does not hold.
     pub fn emit_into(&self, octets: &mut [u8], checksum_caps: &ChecksumCapabilities) {
-        self.write(octets);
-        seal(octets, checksum_caps);
-    }
-
-    // Writes the error with a checksum of zero.
-    fn write(&self, octets: &mut [u8]) {
         write_error(
             octets,
             self.kind.number(),
             self.code,
             self.rest,
-            self.quotable(),
+            &self.quoted[..self.quoted.len().min(MAX_QUOTED)],
         );
-    }
-
-    // The part of `quoted` that is written.
-    fn quotable(&self) -> &'a [u8] {
-        &self.quoted[..self.quoted.len().min(MAX_QUOTED)]
+        seal(octets, checksum_caps);
     }
 }
 

@@ -3,14 +3,14 @@
 
 mod display;
 mod reason;
-mod refusal;
 
-use super::field;
-use super::writing::write_error;
+pub use crate::quotes::error::Refusal;
+use crate::quotes::error::write_error;
+use crate::quotes::field;
+use crate::quotes::quote::why_no_packet;
 use crate::wirebase::{
     ChecksumCapabilities, Error, IPV6_HEADER_LEN, IpProtocol, Ipv6Address, Octets, Result, checksum,
 };
-pub use refusal::Refusal;
 
 /// The most bytes of a packet that an error quotes: with the error's own headers they make 1,280, which every link
 /// carries (RFC 4443 section 2.4(c)).
@@ -104,7 +104,8 @@ impl<'a> Repr<'a> {
         Repr::read(src_addr, dst_addr, octets, checksum_caps)
     }
 
-    // The error in the octets.
+    // The error in the octets. Apart from `parse_or_refusal`: room for a reason in its result takes 33 bytes of code
+    // more at opt-level "z".
     fn read(
         src_addr: &Ipv6Address,
         dst_addr: &Ipv6Address,
@@ -132,6 +133,47 @@ impl<'a> Repr<'a> {
         }
     }
 
+    /// The error in the octets of a message from `src_addr` to `dst_addr`, or why [`Repr::parse`] refuses them, by the
+    /// check that fails first.
+    #[inline]
+    pub fn parse_or_refusal(
+        src_addr: &Ipv6Address,
+        dst_addr: &Ipv6Address,
+        octets: &'a [u8],
+        checksum_caps: &ChecksumCapabilities,
+    ) -> core::result::Result<Repr<'a>, Refusal> {
+        if octets.len() < field::HEADER_END {
+            return Err(Refusal::Short);
+        }
+        if checksum_caps.icmpv6.rx() && !is_good(octets, src_addr, dst_addr) {
+            return Err(Refusal::Checksum);
+        }
+        let number = octets.u8_at(field::TYPE);
+        let Some(kind) = Kind::from_number(number) else {
+            return Err(Refusal::UnknownType(number));
+        };
+        let quoted = &octets[field::HEADER_END..];
+        if !is_packet_front(quoted) {
+            return Err(Refusal::Quote(why_no_packet(quoted)));
+        }
+        Ok(Repr {
+            kind,
+            code: octets.u8_at(field::CODE),
+            rest: octets.u32_at(field::REST),
+            quoted,
+        })
+    }
+
+    /// Why [`Repr::parse`] refuses these octets, by the check that fails first; None exactly where it reads them.
+    pub fn refusal(
+        src_addr: &Ipv6Address,
+        dst_addr: &Ipv6Address,
+        octets: &[u8],
+        checksum_caps: &ChecksumCapabilities,
+    ) -> Option<Refusal> {
+        Repr::parse_or_refusal(src_addr, dst_addr, octets, checksum_caps).err()
+    }
+
     /// The MTU of the next link, in bytes, in packet too big (RFC 4443 section 3.2). None for every other error.
     pub fn mtu(&self) -> Option<u32> {
         match self.kind {
@@ -151,7 +193,7 @@ impl<'a> Repr<'a> {
 
     /// The length of the error in bytes, at most 1,240.
     pub fn buffer_len(&self) -> usize {
-        field::HEADER_END + self.quotable().len()
+        field::HEADER_END + self.quoted.len().min(MAX_QUOTED)
     }
 
     /// Writes the error at the start of the octets, cut at their end, and then, where the capabilities ask for it, the
@@ -169,24 +211,14 @@ impl<'a> Repr<'a> {
         octets: &mut [u8],
         checksum_caps: &ChecksumCapabilities,
     ) {
-        self.write(octets);
-        seal(octets, src_addr, dst_addr, checksum_caps);
-    }
-
-    // Writes the error with a checksum of zero.
-    fn write(&self, octets: &mut [u8]) {
         write_error(
             octets,
             self.kind.number(),
             self.code,
             self.rest,
-            self.quotable(),
+            &self.quoted[..self.quoted.len().min(MAX_QUOTED)],
         );
-    }
-
-    // The part of `quoted` that is written.
-    fn quotable(&self) -> &'a [u8] {
-        &self.quoted[..self.quoted.len().min(MAX_QUOTED)]
+        seal(octets, src_addr, dst_addr, checksum_caps);
     }
 }
 

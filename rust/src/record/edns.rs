@@ -3,7 +3,7 @@
 
 use crate::record::multicast;
 use crate::record::record::Record;
-use crate::record::text::words::Digits;
+use crate::wirebase::text::Hex;
 use crate::wirebase::{Error, Octets, Result};
 use core::{fmt, result};
 
@@ -176,7 +176,7 @@ impl EdnsOption<'_> {
 impl fmt::Display for EdnsOption<'_> {
     fn fmt(&self, f: &mut fmt::Formatter<'_>) -> fmt::Result {
         let code = self.code;
-        let digits = Digits(self.data);
+        let digits = Hex(self.data);
         match self.name() {
             Some(name) => write!(f, "{name}={digits}"),
             None => write!(f, "option-{code}={digits}"),

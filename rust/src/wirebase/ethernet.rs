@@ -1,6 +1,7 @@
 // Made from crates/wirebase/src/ethernet.rt by rust/erase.
 //! Hardware addresses.
 
+use crate::wirebase::text::HexColons;
 use core::fmt::{self, Display};
 
 /// The greatest number of bytes of a hardware address.
@@ -97,38 +98,4 @@ impl fmt::Display for RawHardwareAddress {
     fn fmt(&self, f: &mut fmt::Formatter<'_>) -> fmt::Result {
         HexColons(self.as_bytes()).fmt(f)
     }
-}
-
-// A byte as two digits.
-#[derive(Clone, Copy)]
-pub(crate) struct HexByte(pub(crate) u8);
-
-impl fmt::Display for HexByte {
-    fn fmt(&self, f: &mut fmt::Formatter<'_>) -> fmt::Result {
-        let high = self.0 / 16;
-        let low = self.0 % 16;
-        write!(f, "{high:x}{low:x}")
-    }
-}
-
-// Bytes as two digits each, with colons between them.
-#[derive(Clone, Copy)]
-struct HexColons<'a>(&'a [u8]);
-
-impl fmt::Display for HexColons<'_> {
-    fn fmt(&self, f: &mut fmt::Formatter<'_>) -> fmt::Result {
-        let [first, rest @ ..] = self.0 else {
-            return Ok(());
-        };
-        HexByte(*first).fmt(f)?;
-        fmt_behind_colons(f, rest)
-    }
-}
-
-// Prints each byte as two digits, after a colon.
-fn fmt_behind_colons(f: &mut fmt::Formatter<'_>, bytes: &[u8]) -> fmt::Result {
-    for byte in bytes {
-        write!(f, ":{}", HexByte(*byte))?;
-    }
-    Ok(())
 }

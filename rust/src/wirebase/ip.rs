@@ -1,7 +1,7 @@
 // Made from crates/wirebase/src/ip.rt by rust/erase.
 //! The protocols over IP, of both versions.
 
-use crate::wirebase::ethernet::HexByte;
+use crate::wirebase::text::Hex;
 use core::fmt;
 
 /// What follows an IP header, one byte: the protocol of IPv4 (RFC 791 section 3.1), the next header of IPv6
@@ -97,7 +97,7 @@ impl fmt::Display for IpProtocol {
             IpProtocol::Icmpv6 => "ICMPv6",
             IpProtocol::Ipv6NoNxt => "IPv6-NoNxt",
             IpProtocol::Ipv6Opts => "IPv6-Opts",
-            IpProtocol::Unknown(number) => return write!(f, "0x{}", HexByte(number)),
+            IpProtocol::Unknown(number) => return write!(f, "0x{}", Hex(&[number])),
         };
         f.write_str(words)
     }

@@ -7,6 +7,7 @@ use crate::wirebase::checksum;
 use crate::wirebase::error::{Error, Result};
 use crate::wirebase::ip::IpProtocol;
 use crate::wirebase::octets::{Octets, OctetsMut};
+use crate::wirebase::text::{ToFormatter, put_v4};
 use core::fmt;
 
 /// An IPv4 address, four octets: `a.b.c.d` (RFC 791 section 3.2).
@@ -72,8 +73,7 @@ impl Default for Ipv4Address {
 /// The octets in decimal with dots between them, as `10.0.0.1`.
 impl fmt::Display for Ipv4Address {
     fn fmt(&self, f: &mut fmt::Formatter<'_>) -> fmt::Result {
-        let [a, b, c, d] = self.octets();
-        write!(f, "{a}.{b}.{c}.{d}")
+        put_v4::<_, ToFormatter>(f, *self, None)
     }
 }
 

@@ -1,12 +1,12 @@
 //! Times as RFC 3339 writes them (section 5.6), in UTC.
 
-ghost use Rattle.std.specs.Prelude.{◌≡◌, Some, decimal, flat_map, take};
-ghost use Rattle.std.specs.Fmt.{WritesOnOk};
-ghost use Rattle.capture.specs.TimeText.{two_digits, nine_digits, date_text, clock_text, fraction_text, time_text};
+ghost use Rattle.std.specs.Prelude.{◌≡◌, Some, take};
+ghost use Rattle.capture.specs.TimeText.{date_text, clock_text, fraction_text, time_text};
 
 use crate::calendar::{Date, date_of};
 use crate::time::Time;
 use std::fmt;
+use wirebase::text::{Sink, ToFormatter, TwoDigits, nine_digits};
 
 const DAY_SECONDS: u64 = 86_400;
 
@@ -52,20 +52,6 @@ impl fmt::Display for Clock {
     }
 }
 
-// The last two digits of a number.
-#[derive(Clone, Copy)]
-struct TwoDigits(u64);
-
-impl fmt::Display for TwoDigits {
-    ghost output = { λ number. Some (two_digits number.0) };
-
-    fn fmt<W: fmt::Write>(&self, f: &mut fmt::Formatter<W>) -> fmt::Result {
-        let tens = self.0 / 10 % 10;
-        let ones = self.0 % 10;
-        write!(f, "{tens}{ones}")
-    }
-}
-
 // The first digits of nanoseconds after a point, or nothing where there are none.
 #[derive(Clone, Copy)]
 struct Fraction {
@@ -80,27 +66,10 @@ impl fmt::Display for Fraction {
         if self.digits == 0 {
             return Ok(());
         }
-        let all = nine_digits(self.nanoseconds);
-        write!(f, ".")?;
-        fmt_digits(f, first_digits(&all, self.digits))
+        let all = nine_digits(u64::from(self.nanoseconds));
+        f.write_str(".")?;
+        ToFormatter::put(f, first_digits(&all, self.digits))
     }
-}
-
-// The digits of a number of nanoseconds.
-fn nine_digits(nanoseconds: u32) -> [u8; 9]
-    ensures { result ≡ nine_digits nanoseconds }
-{
-    [
-        (nanoseconds / 100_000_000 % 10) as u8,
-        (nanoseconds / 10_000_000 % 10) as u8,
-        (nanoseconds / 1_000_000 % 10) as u8,
-        (nanoseconds / 100_000 % 10) as u8,
-        (nanoseconds / 10_000 % 10) as u8,
-        (nanoseconds / 1_000 % 10) as u8,
-        (nanoseconds / 100 % 10) as u8,
-        (nanoseconds / 10 % 10) as u8,
-        (nanoseconds % 10) as u8,
-    ]
 }
 
 // The first of nine digits, this many, or all where that is more.
@@ -108,14 +77,4 @@ fn first_digits(all: &[u8; 9], count: u8) -> &[u8]
     ensures { result.now ≡ take count all.now }
 {
     &all[..(count as usize).min(9)]
-}
-
-// Prints digits one after another.
-fn fmt_digits<W: fmt::Write>(f: &mut fmt::Formatter<W>, digits: &[u8]) -> fmt::Result
-    ensures { WritesOnOk W.write_str_gives f.old result (flat_map decimal digits.now) f.new }
-{
-    for digit in digits {
-        write!(f, "{digit}")?;
-    }
-    Ok(())
 }

@@ -5,6 +5,7 @@ ghost use Rattle.std.specs.Prelude.{◌≡◌, ◌≤◌, ◌+◌, ◌∷◌, []
 ghost use Rattle.wirebase.specs.ByteWriter.{Puts, free};
 
 use super::MAX_DNS_SERVER_COUNT;
+use super::repr::ETHERNET;
 use super::tables::MessageType;
 use arrayvec::ArrayVec;
 use wirebase::{ByteWriter, EthernetAddress, Ipv4Address};
@@ -108,7 +109,7 @@ impl Data for EthernetAddress {
 
     fn put(&self, w: &mut ByteWriter<'_>) {
         let [a, b, c, d, e, f] = self.0;
-        w.put_bytes(&[1, a, b, c, d, e, f]);
+        w.put_bytes(&[ETHERNET, a, b, c, d, e, f]);
     }
 }
 

@@ -2,7 +2,6 @@
 
 ghost use Rattle.std.specs.Prelude.{◌++◌, Some, codes, flat_map};
 ghost use Rattle.std.specs.Fmt.{WritesOnOk};
-ghost use Rattle.wirebase.specs.Ethernet.{hex_byte, hex_colons};
 ghost use Rattle.wirebase.specs.Ipv4.{address_text};
 ghost use Rattle.dhcp_wire.specs.Dhcpv4Display.{commas};
 ghost use Rattle.dhcp_wire.specs.Dhcpv4OptionDisplay.{option_display, content_display, quoted, character};
@@ -13,6 +12,7 @@ use super::options::DhcpOption;
 use super::printing::Kinds;
 use super::value::{OptionAddresses, OptionValue, first_address};
 use std::fmt;
+use wirebase::text::{Hex, HexColons};
 
 /// Prints the name of the kind and the data by its format, as `lease-time=3600`; a kind that has no name here prints
 /// its number, as `option-224=01:02`.
@@ -114,48 +114,7 @@ impl fmt::Display for Character {
             b'"' => f.write_str("\\\""),
             b'\\' => f.write_str("\\\\"),
             visible @ b' '..=b'~' => write!(f, "{}", visible as char),
-            other => write!(f, "\\x{}", HexByte(other)),
+            other => write!(f, "\\x{}", Hex(&[other])),
         }
     }
-}
-
-// A byte as two digits.
-#[derive(Clone, Copy)]
-struct HexByte(u8);
-
-impl fmt::Display for HexByte {
-    ghost output = { λ byte. Some (hex_byte byte.0) };
-
-    fn fmt<W: fmt::Write>(&self, f: &mut fmt::Formatter<W>) -> fmt::Result {
-        let high = self.0 / 16;
-        let low = self.0 % 16;
-        write!(f, "{high:x}{low:x}")
-    }
-}
-
-// Bytes as two digits each, with colons between them.
-#[derive(Clone, Copy)]
-struct HexColons<'a>(&'a [u8]);
-
-impl fmt::Display for HexColons<'_> {
-    ghost output = { λ bytes. Some (hex_colons bytes.0.now) };
-
-    fn fmt<W: fmt::Write>(&self, f: &mut fmt::Formatter<W>) -> fmt::Result {
-        let Some((first, rest)) = self.0.split_first() else {
-            return Ok(());
-        };
-        write!(f, "{}", HexByte(*first))?;
-        fmt_behind_colons(f, rest)
-    }
-}
-
-// Prints each byte as two digits, after a colon.
-fn fmt_behind_colons<W: fmt::Write>(f: &mut fmt::Formatter<W>, octets: &[u8]) -> fmt::Result
-    ensures { WritesOnOk W.write_str_gives f.old result
-        (flat_map (λ next. codes ":" ++ hex_byte next) octets.now) f.new }
-{
-    for byte in octets {
-        write!(f, ":{}", HexByte(*byte))?;
-    }
-    Ok(())
 }

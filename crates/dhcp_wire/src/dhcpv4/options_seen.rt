@@ -1,29 +1,21 @@
 //! Collects the options of a packet, in one pass.
 
-ghost use Rattle.std.specs.Prelude.{◌≡◌, ◌≤◌, ◌↔◌, [], ◌∷◌, Some, None, length, flat_map, slice_index, IsTrue, IfOk};
-ghost use Rattle.std.specs.Prelude.{OnOk, OnErr};
+ghost use Rattle.std.specs.Prelude.{◌≡◌, ◌↔◌, [], ◌∷◌, Some, None, take, IsTrue, OnOk, OnErr};
 ghost use Rattle.std.specs.Option.{option_map, option_or};
 ghost use Rattle.wirebase.specs.Bytes.{Reaches, byte_of};
-ghost use Rattle.wirebase.specs.Ethernet.{octets_of as ethernet_octets};
 ghost use Rattle.wirebase.specs.HardwareAddress.{ethernet_of};
-ghost use Rattle.wirebase.specs.Ipv4.{octets_of};
-ghost use Rattle.wirebase.specs.LastOf.{keep_all};
-ghost use Rattle.dhcp_wire.specs.Dhcpv4.{of_len, number_in, identifier_in, whole_addresses, type_in, IsOfEthernet};
-ghost use Rattle.dhcp_wire.specs.Dhcpv4.{AreOfEthernet, value_of};
-ghost use Rattle.dhcp_wire.specs.Dhcpv4OptionsSeen.{kept_of, bare, nothing, keep};
+ghost use Rattle.dhcp_wire.specs.Dhcpv4.{value_of, with_options, said, type_in, type_among, address_in, number_in};
+ghost use Rattle.dhcp_wire.specs.Dhcpv4.{identifier_in, IsOfEthernet, AreOfEthernet};
 ghost use Rattle.dhcp_wire.specs.Dhcpv4Options.{value_of_option, option};
 ghost use Rattle.dhcp_wire.specs.Dhcpv4OptionsAhead.{list_of};
+ghost use Rattle.dhcp_wire.specs.Dhcpv4OptionValue.{addresses_in};
 ghost use Rattle.dhcp_wire.specs.Dhcpv4Packet.{inner, op_field, magic_field, options_in};
 
 use super::MAX_DNS_SERVER_COUNT;
-use super::option_kinds::{
-    OPT_CLIENT_ID, OPT_DHCP_MESSAGE_TYPE, OPT_DOMAIN_NAME_SERVER, OPT_IP_LEASE_TIME,
-    OPT_MAX_DHCP_MESSAGE_SIZE, OPT_PARAMETER_REQUEST_LIST, OPT_REBINDING_TIME_VALUE,
-    OPT_RENEWAL_TIME_VALUE, OPT_REQUESTED_IP, OPT_ROUTER, OPT_SERVER_IDENTIFIER, OPT_SUBNET_MASK,
-};
+use super::option_kinds::*;
 use super::options::DhcpOption;
 use super::packet::Packet;
-use super::repr::Repr;
+use super::repr::{ETHERNET, Repr};
 use super::tables::MessageType;
 use arrayvec::ArrayVec;
 use byteorder::{BigEndian, ByteOrder};
@@ -38,15 +30,14 @@ pub(super) struct OptionsSeen<'a> {
 }
 
 impl<'a> OptionsSeen<'a> {
-    // Notes all options of a packet, where none was noted before. Refused where one is a client identifier of another
-    // hardware.
+    // Notes all options of a packet. Refused where one is a client identifier of another hardware.
     pub(super) fn add_all(&mut self, packet: &Packet<&'a [u8]>) -> Result<()>
         requires room { Reaches magic_field (inner packet.now).now }
-        requires fresh { kept_of self.old ≡ nothing }
-        ensures found { OnOk result (kept_of self.new
-            ≡ keep_all (keep (byte_of op_field (inner packet.now).now)) nothing
-            (list_of (options_in (inner packet.now).now))) }
-        ensures header { bare (value_of self.new.repr) ≡ bare (value_of self.old.repr) }
+        ensures typed { OnOk result (self.new.message_type ≡ option_or
+            (type_among (byte_of op_field (inner packet.now).now) (list_of (options_in (inner packet.now).now)))
+            self.old.message_type) }
+        ensures value { OnOk result (value_of self.new.repr
+            ≡ with_options (list_of (options_in (inner packet.now).now)) (value_of self.old.repr)) }
         ensures accepted { OnOk result (AreOfEthernet (list_of (options_in (inner packet.now).now))) }
         ensures refused { OnErr result
             (AreOfEthernet (list_of (options_in (inner packet.now).now)) → ⊥) }
@@ -64,9 +55,12 @@ impl<'a> OptionsSeen<'a> {
     // Notes one more option, of a packet with this operation. Never inlined into the loop; by `&mut self`, so that the
     // value is not copied.
     #[inline(never)]
+    #[tactic(auto, unfolding(crate::specs::Dhcpv4::with_options))]
     fn add(&mut self, kind: u8, body: &'a [u8], op: u8)
-        ensures kept { kept_of self.new ≡ keep op (kept_of self.old) (option kind body.now) }
-        ensures header { bare (value_of self.new.repr) ≡ bare (value_of self.old.repr) }
+        ensures typed { self.new.message_type ≡ option_or
+            (type_among op (option kind body.now ∷ [])) self.old.message_type }
+        ensures value { value_of self.new.repr
+            ≡ with_options (option kind body.now ∷ []) (value_of self.old.repr) }
     {
         match kind {
             OPT_DHCP_MESSAGE_TYPE => set(&mut self.message_type, message_type(body, op)),
@@ -95,10 +89,8 @@ fn set<T: Copy>(field: &mut Option<T>, said: Option<T>)
     }
 }
 
-// The length of a client identifier that is an address of Ethernet, and the number of that hardware, its first byte.
+// The length of a client identifier that is an address of Ethernet, after the number of that hardware.
 pub(super) const IDENTIFIER_LEN: usize = 7;
-
-pub(super) const ETHERNET: u8 = 1;
 
 // Whether the option is not a client identifier of another hardware.
 fn is_of_ethernet(option: DhcpOption<'_>) -> bool
@@ -122,17 +114,17 @@ fn message_type(data: &[u8], op: u8) -> Option<MessageType>
 
 // An address of four octets; None for other data.
 fn address(data: &[u8]) -> Option<Ipv4Address>
-    ensures { option_map octets_of result ≡ of_len 4 data.now }
+    ensures { result ≡ address_in data.now }
 {
     if data.len() != 4 {
         return None;
     }
-    Some(Ipv4Address::from_octets(data.try_into().unwrap()))
+    Some(Ipv4Address::new(data[0], data[1], data[2], data[3]))
 }
 
 // An address of Ethernet after the number of its hardware; None for other data.
 fn identifier(data: &[u8]) -> Option<EthernetAddress>
-    ensures { option_map ethernet_octets (option_map ethernet_of result) ≡ identifier_in data.now }
+    ensures { option_map ethernet_of result ≡ identifier_in data.now }
 {
     if data.len() != IDENTIFIER_LEN {
         return None;
@@ -162,7 +154,7 @@ fn seconds(data: &[u8]) -> Option<u32>
 
 // The first whole addresses, at most `MAX_DNS_SERVER_COUNT`.
 fn addresses(data: &[u8]) -> ArrayVec<Ipv4Address, MAX_DNS_SERVER_COUNT>
-    ensures { flat_map octets_of result.items ≡ whole_addresses MAX_DNS_SERVER_COUNT data.now }
+    ensures { result.items ≡ take MAX_DNS_SERVER_COUNT (addresses_in data.now) }
 {
     let mut addresses = ArrayVec::new();
     let mut rest = data;

@@ -1,21 +1,18 @@
 //! Why octets are refused.
 
-ghost use Rattle.std.specs.Prelude.{◌≡◌, ◌↔◌, Some, None, List, IfSome, IsNone, IfOk, IfErr, IsOkAnd};
+ghost use Rattle.std.specs.Prelude.{◌≡◌, ◌↔◌, Some, None, IfSome, IsNone, IfOk, IfErr, IsOkAnd};
 ghost use Rattle.std.specs.Option.{option_map};
-ghost use Rattle.wirebase.specs.Bytes.{byte_of};
-ghost use Rattle.wirebase.specs.LastOf.{last_of};
-ghost use Rattle.dhcp_wire.specs.Dhcpv4.{Value, value_of, said, type_in, IsOfEthernet, AreOfEthernet, HasHeader};
-ghost use Rattle.dhcp_wire.specs.Dhcpv4.{IsPacket};
+ghost use Rattle.dhcp_wire.specs.Dhcpv4.{Value, value_of, IsOfEthernet, AreOfEthernet, HasHeader, IsPacket};
 ghost use Rattle.dhcp_wire.specs.Dhcpv4Options.{value_of_option};
 ghost use Rattle.dhcp_wire.specs.Dhcpv4OptionsAhead.{list_of};
-ghost use Rattle.dhcp_wire.specs.Dhcpv4Packet.{inner, op_field, options_in};
+ghost use Rattle.dhcp_wire.specs.Dhcpv4Packet.{inner, options_in};
 ghost use Rattle.dhcp_wire.specs.Dhcpv4Refusal.{IsRead, IsOther, Ends, Refuses, HasNoType, last_type, refusal_display};
 
 use super::option_kinds::{OPT_CLIENT_ID, OPT_DHCP_MESSAGE_TYPE, OPT_END, OPT_PAD};
 use super::options::DhcpOption;
-use super::options_seen::{ETHERNET, IDENTIFIER_LEN, OptionsSeen};
+use super::options_seen::{IDENTIFIER_LEN, OptionsSeen};
 use super::packet::{Packet, field};
-use super::repr::{ETHERNET_LEN, MAGIC_NUMBER, Repr};
+use super::repr::{ETHERNET, ETHERNET_LEN, MAGIC_NUMBER, Repr};
 use super::tables::{MessageType, OpCode};
 use std::fmt;
 use wirebase::Octets;

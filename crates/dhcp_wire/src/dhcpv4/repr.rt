@@ -2,9 +2,8 @@
 
 ghost use Rattle.std.specs.Prelude.{◌≡◌, ◌≤◌, ◌↔◌, ⊤, length, IsOk, IfOk, IsOkAnd, None};
 ghost use Rattle.std.specs.Option.{option_map};
-ghost use Rattle.dhcp_wire.specs.Dhcpv4.{Value, value_of, has_broadcast, HasHeader, IsPacket};
+ghost use Rattle.dhcp_wire.specs.Dhcpv4.{Value, value_of, has_broadcast, fixed_value, HasHeader, IsPacket};
 ghost use Rattle.dhcp_wire.specs.Dhcpv4Format.{format};
-ghost use Rattle.dhcp_wire.specs.Dhcpv4OptionsSeen.{kept_of, nothing, IsMadeOf};
 ghost use Rattle.wirebase.specs.Bytes.{number_of};
 ghost use Rattle.wirebase.specs.Format.{Rewrites};
 ghost use Rattle.dhcp_wire.specs.Dhcpv4Packet.{inner, flags_field};
@@ -12,12 +11,12 @@ ghost use Rattle.dhcp_wire.specs.Dhcpv4Packet.{inner, flags_field};
 use super::MAX_DNS_SERVER_COUNT;
 use super::options::DhcpOption;
 use super::options_seen::OptionsSeen;
-use super::packet::Packet;
+use super::packet::{Packet, field};
 use super::tables::{Flags, MessageType};
 use arrayvec::ArrayVec;
 use bitflags::Flags as _;
 use std::alloc::AllocError;
-use wirebase::{Error, EthernetAddress, Hardware, Ipv4Address, Result, are_bytes};
+use wirebase::{Error, EthernetAddress, Ipv4Address, Octets, Result, are_bytes};
 
 /// The value of a packet (RFC 2131 section 2), with the options that a client or a server asks for (RFC 2132).
 ///
@@ -75,7 +74,9 @@ pub struct Repr<'a> {
     pub additional_options: &'a [DhcpOption<'a>],
 }
 
-// The bytes of an address of Ethernet, and the number before the options (RFC 2131 section 3).
+// The number of Ethernet, the bytes of its addresses, and the number before the options (RFC 2131 section 3).
+pub(super) const ETHERNET: u8 = 1;
+
 pub(super) const ETHERNET_LEN: u8 = 6;
 
 pub(super) const MAGIC_NUMBER: u32 = 0x6382_5363;
@@ -134,8 +135,7 @@ impl<'a> Repr<'a> {
     // The value of a packet before its options are read; its type of message is one that no packet has.
     pub(super) fn of(packet: &Packet<&'a [u8]>) -> Repr<'a>
         requires { HasHeader (inner packet.now).now }
-        ensures header { IsMadeOf (inner packet.now).now result.message_type nothing (value_of result) }
-        ensures fresh { kept_of (record { message_type = None; repr = result }) ≡ nothing }
+        ensures { value_of result ≡ fixed_value (inner packet.now).now result.message_type }
     {
         Repr {
             message_type: MessageType::Unknown(0),
@@ -176,9 +176,7 @@ fn check_header(packet: &Packet<&[u8]>) -> Result<()>
     ensures { IsOk result ↔ HasHeader (inner packet.now).now }
 {
     packet.check_len()?;
-    let number: u16 = packet.hardware_type().into();
-    let ethernet: u16 = Hardware::Ethernet.into();
-    if number != ethernet || packet.hardware_len() != ETHERNET_LEN {
+    if packet.buffer.u8_at(field::HTYPE) != ETHERNET || packet.hardware_len() != ETHERNET_LEN {
         return Err(Error);
     }
     if packet.magic_number() != MAGIC_NUMBER {

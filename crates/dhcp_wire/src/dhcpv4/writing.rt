@@ -9,21 +9,19 @@ ghost use Rattle.wirebase.specs.Ethernet.{octets_of as ethernet_octets};
 ghost use Rattle.wirebase.specs.HardwareAddress.{ethernet_of};
 ghost use Rattle.wirebase.specs.Ipv4.{octets_of};
 ghost use Rattle.dhcp_wire.specs.Dhcpv4.{value_of, slot, slots_of, options_of, header_fields, text};
-ghost use Rattle.dhcp_wire.specs.Dhcpv4Writing.{WritesOptions, counted_len, progress, step_slot, steps, step_all};
-ghost use Rattle.dhcp_wire.specs.Dhcpv4Format.{data_len, text_len, format, Emits};
+ghost use Rattle.dhcp_wire.specs.Dhcpv4Writing.{WritesOptions, progress, step_slot, steps, step_all};
+ghost use Rattle.dhcp_wire.specs.Dhcpv4Format.{data_len, fields_len, text_len, format, Emits};
 ghost use Rattle.dhcp_wire.specs.Dhcpv4Options.{value_of_option};
-ghost use Rattle.dhcp_wire.specs.Dhcpv4Packet.{inner, magic_field};
+ghost use Rattle.dhcp_wire.specs.Dhcpv4Packet.{inner, magic_field, ethernet_type};
 ghost use Rattle.dhcp_wire.specs.Dhcpv4Writer.{the_slice};
 
 use super::option_data::Data;
-use super::option_kinds::{
-    OPT_CLIENT_ID, OPT_DHCP_MESSAGE_TYPE, OPT_DOMAIN_NAME_SERVER, OPT_IP_LEASE_TIME,
-    OPT_MAX_DHCP_MESSAGE_SIZE, OPT_PARAMETER_REQUEST_LIST, OPT_REBINDING_TIME_VALUE,
-    OPT_RENEWAL_TIME_VALUE, OPT_REQUESTED_IP, OPT_ROUTER, OPT_SERVER_IDENTIFIER, OPT_SUBNET_MASK,
-};
+use super::option_kinds::*;
 use super::options::{DhcpOption, DhcpOptionWriter};
 use super::packet::{Packet, field};
-use super::repr::{ETHERNET_LEN, MAGIC_NUMBER, Repr};
+use super::repr::{ETHERNET, ETHERNET_LEN, MAGIC_NUMBER, Repr};
+use super::tables::Flags;
+use bitflags::Flags as _;
 use wirebase::{ByteWriter, EthernetAddress, Ipv4Address, OctetsMut, Result};
 
 impl Repr<'_> {
@@ -73,8 +71,8 @@ impl Repr<'_> {
 
     // The bytes of all but the additional options; the end mark takes one.
     fn fields_len(&self) -> usize
-        requires { counted_len (value_of self.now) ≤ usize.MAX }
-        ensures { result ≡ counted_len (value_of self.now) }
+        requires { fields_len (value_of self.now) ≤ usize.MAX }
+        ensures { result ≡ fields_len (value_of self.now) }
     {
         field::OPTIONS
             + 1
@@ -107,9 +105,13 @@ impl Repr<'_> {
         ensures puts { Puts w.old w.new (take 7 (header_fields (value_of self.now))) }
         ensures room { length (free_bytes w.old) ≡ 12 + length (free_bytes w.new) }
     {
-        let flags = if self.broadcast { 0x8000 } else { 0 };
+        let flags = if self.broadcast {
+            Flags::BROADCAST.bits()
+        } else {
+            0
+        };
         w.put_u8(self.message_type.opcode().into());
-        w.put_u8(1);
+        w.put_u8(ETHERNET);
         w.put_u8(ETHERNET_LEN);
         w.put_u8(0);
         w.put_u32(self.transaction_id);
@@ -175,7 +177,8 @@ impl Repr<'_> {
 // Writes a client's identifier, where there is one.
 fn put_identifier(w: &mut DhcpOptionWriter<'_>, identifier: Option<EthernetAddress>) -> Result<()>
     ensures step { progress w.new result ≡ step_slot (progress w.old (Ok tt))
-        (slot 61 (option_map (λ address. 1 ∷ ethernet_octets address) (option_map ethernet_of identifier))) }
+        (slot OPT_CLIENT_ID (option_map (λ address. ethernet_type ∷ ethernet_octets address)
+        (option_map ethernet_of identifier))) }
     ensures same_slice { the_slice w.new ≡ the_slice w.old }
 {
     w.put(OPT_CLIENT_ID, identifier)

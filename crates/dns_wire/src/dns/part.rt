@@ -1,10 +1,12 @@
 //! One part of a name (RFC 1035 section 4.1.4): what it begins with, and where it stops.
 
-ghost use Rattle.std.specs.Prelude.{◌≡◌, ◌≤◌, ℕ, List, length, IfOk, IsOkAnd, Ok, IfSome, None};
-ghost use Rattle.dns_wire.specs.DnsNameAhead.{front_of};
-ghost use Rattle.dns_wire.specs.DnsPart.{shown, LeadsTo, IsSplit, BeginsWithPart};
+ghost use Rattle.std.specs.Prelude.{◌≡◌, ◌≤◌, ℕ, List, length, IfOk, IfErr, IsOkAnd, IfSome, None};
+ghost use Rattle.dns_wire.specs.DnsNameAhead.{front_of, torn};
+ghost use Rattle.dns_wire.specs.DnsPart.{shown, LeadsTo, IsSplit};
+ghost use Rattle.dns_wire.specs.DnsRefusal.{IsTorn, PartBreaks};
 
-use wirebase::{Error, Result};
+use crate::dns::refusal::NameRefusal;
+use wirebase::Error;
 
 /// What a part of a name begins with (RFC 1035 section 4.1.4).
 #[derive(Debug, PartialEq, Eq, Clone, Copy)]
@@ -20,10 +22,10 @@ pub enum NamePart<'a> {
 }
 
 // The first byte of a label is its length, below this.
-pub(crate) const LABEL_END: u8 = 0x40;
+const LABEL_END: u8 = 0x40;
 
 // The first byte of a pointer is this or above, and its other six bits are the higher ones of the place.
-pub(crate) const POINTER: u8 = 0xc0;
+const POINTER: u8 = 0xc0;
 
 /// Reads what a text begins with (RFC 1035 section 4.1.4).
 #[inline]
@@ -58,27 +60,48 @@ pub fn follow(reach: &[u8], target: usize) -> Option<(&[u8], &[u8])>
 }
 
 /// The part of a name at the front of a text, and what follows it. Refused where the text begins with none.
-pub fn split_name(text: &[u8]) -> Result<(&[u8], &[u8])>
+pub fn split_name(text: &[u8]) -> wirebase::Result<(&[u8], &[u8])>
     ensures sound { IfOk result (λ split. IsSplit text.now split.0.now split.1.now) }
     ensures complete { (name rest : List ℕ) → IsSplit text.now name rest
         → IsOkAnd result (λ split. (split.0.now ≡ name) × (split.1.now ≡ rest)) }
 {
-    let len = part_len(text)?;
-    Ok((&text[..len], &text[len..]))
+    match read_part(text) {
+        Ok(split) => Ok(split),
+        Err(_) => Err(Error),
+    }
 }
 
-// How many bytes the part at the front of a text takes.
-fn part_len(text: &[u8]) -> Result<usize>
-    ensures sound { IfOk result (λ len. BeginsWithPart text.now len) }
-    ensures complete { (len : ℕ) → BeginsWithPart text.now len → result ≡ Ok len }
+/// The part of a name at the front of a text, and what follows it; or why the text begins with none.
+pub(crate) fn read_part(text: &[u8]) -> Result<(&[u8], &[u8]), NameRefusal>
+    ensures sound { IfOk result (λ split. IsSplit text.now split.0.now split.1.now) }
+    ensures told { IfErr result (PartBreaks text.now) }
 {
     let mut left = text;
-    loop {
+    let after = loop {
         match read_front(left) {
             NamePart::Label(_, rest) => left = rest,
-            NamePart::Pointer(_) => return Ok(text.len() - left.len() + 2),
-            NamePart::End => return Ok(text.len() - left.len() + 1),
-            NamePart::Torn => return Err(Error),
+            NamePart::Pointer(_) => break &left[2..],
+            NamePart::End => break &left[1..],
+            NamePart::Torn => return Err(why_torn(left)),
         }
+    };
+    // A subtraction that saturates leaves no path that panics in the callers.
+    Ok((&text[..text.len().saturating_sub(after.len())], after))
+}
+
+/// Why a text begins with no whole label or mark.
+pub(crate) fn why_torn(text: &[u8]) -> NameRefusal
+    requires { front_of text.now ≡ torn }
+    ensures { IsTorn text.now result }
+{
+    let Some(&first) = text.first() else {
+        return NameRefusal::NoEnd;
+    };
+    if first >= POINTER {
+        return NameRefusal::PointerCut;
     }
+    if first < LABEL_END {
+        return NameRefusal::LabelCut;
+    }
+    NameRefusal::LabelType(first)
 }

@@ -1,15 +1,18 @@
 //! A question of a message (RFC 1035 section 4.1.2).
 
-ghost use Rattle.std.specs.Prelude.{◌≡◌, ◌≤◌, ◌+◌, ◌<◌, ◌^◌, List, ℕ, ◌∷◌, [], length, IfOk, IsOkAnd};
+ghost use Rattle.std.specs.Prelude.{◌≡◌, ◌≤◌, ◌+◌, ◌<◌, ◌^◌, ◌↔◌, List, ℕ, ◌∷◌, [], length, IfOk, IfErr, IsOkAnd};
+ghost use Rattle.std.specs.Prelude.{IfSome, IsNone};
 ghost use Rattle.wirebase.specs.Bytes.{over};
 ghost use Rattle.wirebase.specs.ByteWriter.{be16, free, Puts};
 ghost use Rattle.wirebase.specs.Format.{Rewrites, SameText};
 ghost use Rattle.dns_wire.specs.DnsQuestion.{QuestionValue, value_of, IsQuestion, question_fields, text, text_len};
 ghost use Rattle.dns_wire.specs.DnsQuestion.{format, Emits};
+ghost use Rattle.dns_wire.specs.DnsRefusal.{RefusesQuestion, BeginsWithQuestion};
 
-use crate::dns::part::split_name;
+use crate::dns::part::read_part;
+use crate::dns::refusal::Refusal;
 use crate::dns::tables::Type;
-use wirebase::{ByteWriter, Error, Octets, Result, are_bytes};
+use wirebase::{ByteWriter, Error, Octets, are_bytes};
 
 // The fields after the name of a question.
 mod field {
@@ -37,7 +40,7 @@ pub struct Question<'a> {
 impl<'a> Question<'a> {
     /// The octets after the question at the front, and the question. Refused where the octets do not begin with a name
     /// of one part, a type and the class of the internet.
-    pub fn parse(buffer: &'a [u8]) -> Result<(&'a [u8], Question<'a>)>
+    pub fn parse(buffer: &'a [u8]) -> wirebase::Result<(&'a [u8], Question<'a>)>
         ensures sound { IfOk result (λ read. IsQuestion buffer.now (value_of read.1) read.0.now) }
         ensures complete { (value : QuestionValue) (rest : List ℕ)
             → IsQuestion buffer.now value rest
@@ -46,24 +49,42 @@ impl<'a> Question<'a> {
             → IfOk result (λ read. Rewrites format (value_of read.1)) }
     {
         are_bytes(buffer);
-        Question::read(buffer)
+        match Question::read(buffer) {
+            Ok(read) => Ok(read),
+            Err(_) => Err(Error),
+        }
     }
 
-    // The question at the front of the octets.
-    fn read(buffer: &'a [u8]) -> Result<(&'a [u8], Question<'a>)>
-        ensures sound { IfOk result (λ read. IsQuestion buffer.now (value_of read.1) read.0.now) }
-        ensures complete { (value : QuestionValue) (rest : List ℕ)
-            → IsQuestion buffer.now value rest
-            → IsOkAnd result (λ read. (value_of read.1 ≡ value) × (read.0.now ≡ rest)) }
+    /// Why [`Question::parse`] refuses these octets, by the first check that fails; None where it reads them. A
+    /// question has no data, so this is [`Refusal::Name`], [`Refusal::Short`] or [`Refusal::Class`].
+    pub fn refusal(buffer: &[u8]) -> Option<Refusal>
+        ensures told { IfSome result (RefusesQuestion buffer.now) }
+        ensures exact { IsNone result ↔ BeginsWithQuestion buffer.now }
     {
-        let (name, after) = split_name(buffer)?;
+        match Question::read(buffer) {
+            Ok(_) => None,
+            Err(why) => Some(why),
+        }
+    }
+
+    // The octets after the question at the front, and the question; or the first check that fails.
+    #[inline(always)]
+    fn read(buffer: &'a [u8]) -> Result<(&'a [u8], Question<'a>), Refusal>
+        ensures sound { IfOk result (λ read. IsQuestion buffer.now (value_of read.1) read.0.now) }
+        ensures told { IfErr result (RefusesQuestion buffer.now) }
+    {
+        let (name, after) = match read_part(buffer) {
+            Ok(split) => split,
+            Err(why) => return Err(Refusal::Name(why)),
+        };
         if after.len() < field::END {
-            return Err(Error);
+            return Err(Refusal::Short);
+        }
+        let class = after.u16_at(field::CLASS);
+        if class != CLASS_IN {
+            return Err(Refusal::Class(class));
         }
         let type_ = Type::from(after.u16_at(field::TYPE));
-        if after.u16_at(field::CLASS) != CLASS_IN {
-            return Err(Error);
-        }
         Ok((&after[field::END..], Question { name, type_ }))
     }
 

@@ -1,13 +1,14 @@
 //! A resource record of a message (RFC 1035 section 4.1.3).
 
-ghost use Rattle.std.specs.Prelude.{◌≡◌, List, ℕ, IfOk, IsOkAnd};
+ghost use Rattle.std.specs.Prelude.{◌≡◌, ◌↔◌, List, ℕ, IfOk, IfErr, IsOkAnd, IfSome, IsNone};
 ghost use Rattle.dns_wire.specs.DnsRecord.{DataValue, data_value, IsData, RecordValue, value_of, IsRecord};
-ghost use Rattle.dns_wire.specs.DnsRecord.{IsBehindName};
+ghost use Rattle.dns_wire.specs.DnsRefusal.{RefusesRecord, BeginsWithRecord, RefusesData, AreData};
 
-use crate::dns::part::split_name;
+use crate::dns::part::read_part;
 use crate::dns::question::CLASS_IN;
+use crate::dns::refusal::Refusal;
 use crate::dns::tables::Type;
-use wirebase::{Error, Ipv4Address, Ipv6Address, Octets, Result};
+use wirebase::{Error, Ipv4Address, Ipv6Address, Octets};
 
 // The fields after the name of a record.
 mod field {
@@ -39,41 +40,55 @@ impl<'a> Record<'a> {
     /// The octets after the record at the front, and the record. Refused where the octets do not begin with a name of
     /// one part, a type, the class of the internet, a time to live, a length and as many bytes; and where these bytes
     /// are not data of the type.
-    pub fn parse(buffer: &'a [u8]) -> Result<(&'a [u8], Record<'a>)>
+    pub fn parse(buffer: &'a [u8]) -> wirebase::Result<(&'a [u8], Record<'a>)>
         ensures sound { IfOk result (λ read. IsRecord buffer.now (value_of read.1) read.0.now) }
         ensures complete { (value : RecordValue) (rest : List ℕ) → IsRecord buffer.now value rest
             → IsOkAnd result (λ read. (value_of read.1 ≡ value) × (read.0.now ≡ rest)) }
     {
-        let (name, after) = split_name(buffer)?;
-        let (rest, ttl, data) = read_behind_name(after)?;
-        Ok((rest, Record { name, ttl, data }))
+        match Record::read(buffer) {
+            Ok(read) => Ok(read),
+            Err(_) => Err(Error),
+        }
     }
-}
 
-// The octets after the record, its time to live and its data; `octets` begin after its name.
-fn read_behind_name(octets: &[u8]) -> Result<(&[u8], u32, RecordData<'_>)>
-    ensures sound { IfOk result
-        (λ read. IsBehindName octets.now read.1 (data_value read.2) read.0.now) }
-    ensures complete { (ttl : ℕ) (holds : DataValue) (rest : List ℕ) → IsBehindName octets.now ttl
-        holds
-        rest
-        → IsOkAnd result
-        (λ read. (read.1 ≡ ttl) × (data_value read.2 ≡ holds) × (read.0.now ≡ rest)) }
-{
-    if octets.len() < field::END {
-        return Err(Error);
+    /// Why [`Record::parse`] refuses these octets, by the first check that fails; None where it reads them.
+    pub fn refusal(buffer: &[u8]) -> Option<Refusal>
+        ensures told { IfSome result (RefusesRecord buffer.now) }
+        ensures exact { IsNone result ↔ BeginsWithRecord buffer.now }
+    {
+        match Record::read(buffer) {
+            Ok(_) => None,
+            Err(why) => Some(why),
+        }
     }
-    if octets.u16_at(field::CLASS) != CLASS_IN {
-        return Err(Error);
+
+    // The octets after the record at the front, and the record; or the first check that fails.
+    #[inline(always)]
+    fn read(buffer: &'a [u8]) -> Result<(&'a [u8], Record<'a>), Refusal>
+        ensures sound { IfOk result (λ read. IsRecord buffer.now (value_of read.1) read.0.now) }
+        ensures told { IfErr result (RefusesRecord buffer.now) }
+    {
+        let (name, after) = match read_part(buffer) {
+            Ok(split) => split,
+            Err(why) => return Err(Refusal::Name(why)),
+        };
+        if after.len() < field::END {
+            return Err(Refusal::Short);
+        }
+        let class = after.u16_at(field::CLASS);
+        if class != CLASS_IN {
+            return Err(Refusal::Class(class));
+        }
+        let len = after.u16_at(field::LENGTH) as usize;
+        let behind = &after[field::END..];
+        if behind.len() < len {
+            return Err(Refusal::Length);
+        }
+        let type_ = Type::from(after.u16_at(field::TYPE));
+        let data = RecordData::read(type_, &behind[..len])?;
+        let ttl = after.u32_at(field::TTL);
+        Ok((&behind[len..], Record { name, ttl, data }))
     }
-    let len = octets.u16_at(field::LENGTH) as usize;
-    let behind = &octets[field::END..];
-    if behind.len() < len {
-        return Err(Error);
-    }
-    let type_ = Type::from(octets.u16_at(field::TYPE));
-    let data = RecordData::parse(type_, &behind[..len])?;
-    Ok((&behind[len..], octets.u32_at(field::TTL), data))
 }
 
 /// The data of a record.
@@ -92,21 +107,47 @@ pub enum RecordData<'a> {
 impl<'a> RecordData<'a> {
     /// The data of a record of this type. Refused where an IPv4 address has other than 4 bytes, or an IPv6 address
     /// other than 16.
-    pub fn parse(type_: Type, data: &'a [u8]) -> Result<RecordData<'a>>
+    #[tactic(auto, unfolding(crate::specs::DnsRefusal::data_checks))]
+    pub fn parse(type_: Type, data: &'a [u8]) -> wirebase::Result<RecordData<'a>>
         ensures sound { IfOk result (λ read. IsData type_ «data».now (data_value read)) }
         ensures complete { (value : DataValue) → IsData type_ «data».now value
             → IsOkAnd result (λ read. data_value read ≡ value) }
     {
+        match RecordData::read(type_, data) {
+            Ok(read) => Ok(read),
+            Err(_) => Err(Error),
+        }
+    }
+
+    /// Why [`RecordData::parse`] refuses these data of a type; None where it reads them.
+    #[tactic(auto, unfolding(crate::specs::DnsRefusal::data_checks))]
+    pub fn refusal(type_: Type, data: &[u8]) -> Option<Refusal>
+        ensures told { IfSome result (RefusesData type_ «data».now) }
+        ensures exact { IsNone result ↔ AreData type_ «data».now }
+    {
+        match RecordData::read(type_, data) {
+            Ok(_) => None,
+            Err(why) => Some(why),
+        }
+    }
+
+    // The data of a record of this type, or the check that fails.
+    #[inline(always)]
+    #[tactic(auto, unfolding(crate::specs::DnsRefusal::data_checks))]
+    fn read(type_: Type, data: &'a [u8]) -> Result<RecordData<'a>, Refusal>
+        ensures sound { IfOk result (λ read. IsData type_ «data».now (data_value read)) }
+        ensures told { IfErr result (RefusesData type_ «data».now) }
+    {
         match type_ {
             Type::A => {
                 if data.len() != 4 {
-                    return Err(Error);
+                    return Err(Refusal::AddressLength(data.len()));
                 }
                 Ok(RecordData::A(Ipv4Address::from_octets(data.try_into().unwrap())))
             }
             Type::Aaaa => {
                 if data.len() != 16 {
-                    return Err(Error);
+                    return Err(Refusal::AddressLength(data.len()));
                 }
                 Ok(RecordData::Aaaa(Ipv6Address::from_octets(data.try_into().unwrap())))
             }

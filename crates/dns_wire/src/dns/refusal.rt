@@ -1,34 +1,13 @@
 //! Why octets are refused as a question, a record, data or a whole name: the first check that fails.
 
-ghost use Rattle.std.specs.Prelude.{◌≡◌, ◌↔◌, Some, IfSome, IsNone, IfOk, IfErr};
-ghost use Rattle.dns_wire.specs.DnsNameAhead.{front_of, torn};
+ghost use Rattle.std.specs.Prelude.{◌↔◌, Some, IfSome, IsNone};
 ghost use Rattle.dns_wire.specs.DnsPacket.{inner};
-ghost use Rattle.dns_wire.specs.DnsPart.{IsSplit, BeginsWithPart};
-ghost use Rattle.dns_wire.specs.DnsRefusal.{IsTorn, PartBreaks, NameBreaks, HasName, RefusesQuestion};
-ghost use Rattle.dns_wire.specs.DnsRefusal.{BeginsWithQuestion, RefusesData, AreData, RefusesBehindName};
-ghost use Rattle.dns_wire.specs.DnsRefusal.{GoesOnBehindName, RefusesRecord, BeginsWithRecord};
-ghost use Rattle.dns_wire.specs.DnsRefusal.{name_refusal_display, refusal_display};
+ghost use Rattle.dns_wire.specs.DnsRefusal.{NameBreaks, HasName, name_refusal_display, refusal_display};
 
-use super::{Packet, Question, Record, RecordData, Type};
-use crate::dns::part::{LABEL_END, NamePart, POINTER, follow, read_front};
-use crate::dns::question::CLASS_IN;
+use super::Packet;
+use crate::dns::part::{NamePart, follow, read_front, why_torn};
 use std::fmt;
 use wirebase::Octets;
-
-// The fields after the name of a question or of a record.
-mod field {
-    use wirebase::Field;
-
-    pub const TYPE: Field = 0..2;
-
-    pub const CLASS: Field = 2..4;
-
-    pub const LENGTH: Field = 8..10;
-
-    pub const QUESTION_END: usize = 4;
-
-    pub const RECORD_END: usize = 10;
-}
 
 /// Why a name breaks (RFC 1035 section 4.1.4).
 #[derive(Debug, PartialEq, Eq, Clone, Copy)]
@@ -47,7 +26,7 @@ pub enum NameRefusal {
     Pointer(usize),
 }
 
-/// Why octets are refused as a [`Question`], a [`Record`] or [`RecordData`].
+/// Why octets are refused as a [`crate::dns::Question`], a [`crate::dns::Record`] or [`crate::dns::RecordData`].
 #[derive(Debug, PartialEq, Eq, Clone, Copy)]
 pub enum Refusal {
     /// They begin with no part of a name. This is never [`NameRefusal::Pointer`], for no pointer is followed.
@@ -105,104 +84,6 @@ impl<T: Octets> Packet<T> {
     }
 }
 
-impl Question<'_> {
-    /// Why [`Question::parse`] refuses these octets, by the first check that fails; None where it reads them. A
-    /// question has no data, so this is [`Refusal::Name`], [`Refusal::Short`] or [`Refusal::Class`].
-    pub fn refusal(buffer: &[u8]) -> Option<Refusal>
-        ensures told { IfSome result (RefusesQuestion buffer.now) }
-        ensures exact { IsNone result ↔ BeginsWithQuestion buffer.now }
-    {
-        let after = match split_or_why(buffer) {
-            Ok((_, after)) => after,
-            Err(reason) => return Some(Refusal::Name(reason)),
-        };
-        if after.len() < field::QUESTION_END {
-            return Some(Refusal::Short);
-        }
-        let class = after.u16_at(field::CLASS);
-        if class != CLASS_IN {
-            return Some(Refusal::Class(class));
-        }
-        None
-    }
-}
-
-impl Record<'_> {
-    /// Why [`Record::parse`] refuses these octets, by the first check that fails; None where it reads them.
-    pub fn refusal(buffer: &[u8]) -> Option<Refusal>
-        ensures told { IfSome result (RefusesRecord buffer.now) }
-        ensures exact { IsNone result ↔ BeginsWithRecord buffer.now }
-    {
-        match split_or_why(buffer) {
-            Ok((_, after)) => why_not_behind_name(after),
-            Err(reason) => Some(Refusal::Name(reason)),
-        }
-    }
-}
-
-// Why these octets, which follow the name of a record, are not the rest of one.
-fn why_not_behind_name(octets: &[u8]) -> Option<Refusal>
-    ensures told { IfSome result (RefusesBehindName octets.now) }
-    ensures exact { IsNone result ↔ GoesOnBehindName octets.now }
-{
-    if octets.len() < field::RECORD_END {
-        return Some(Refusal::Short);
-    }
-    let class = octets.u16_at(field::CLASS);
-    if class != CLASS_IN {
-        return Some(Refusal::Class(class));
-    }
-    let len = octets.u16_at(field::LENGTH) as usize;
-    let behind = &octets[field::RECORD_END..];
-    if behind.len() < len {
-        return Some(Refusal::Length);
-    }
-    RecordData::refusal(Type::from(octets.u16_at(field::TYPE)), &behind[..len])
-}
-
-impl RecordData<'_> {
-    /// Why [`RecordData::parse`] refuses these data of a type; None where it reads them.
-    pub fn refusal(type_: Type, data: &[u8]) -> Option<Refusal>
-        ensures told { IfSome result (RefusesData type_ «data».now) }
-        ensures exact { IsNone result ↔ AreData type_ «data».now }
-    {
-        let is_read = match type_ {
-            Type::A => data.len() == 4,
-            Type::Aaaa => data.len() == 16,
-            _ => true,
-        };
-        if is_read {
-            return None;
-        }
-        Some(Refusal::AddressLength(data.len()))
-    }
-}
-
-// The part of a name at the front of a text, and what follows it; or why there is none.
-fn split_or_why(text: &[u8]) -> Result<(&[u8], &[u8]), NameRefusal>
-    ensures sound { IfOk result (λ split. IsSplit text.now split.0.now split.1.now) }
-    ensures told { IfErr result (PartBreaks text.now) }
-{
-    let len = part_len_or_why(text)?;
-    Ok((&text[..len], &text[len..]))
-}
-
-// How many bytes the part at the front of a text takes, or why there is none.
-fn part_len_or_why(text: &[u8]) -> Result<usize, NameRefusal>
-    ensures sound { IfOk result (λ len. BeginsWithPart text.now len) }
-    ensures told { IfErr result (PartBreaks text.now) }
-{
-    let mut left = text;
-    loop {
-        match read_front(left) {
-            NamePart::Label(_, rest) => left = rest,
-            NamePart::Pointer(_) => return Ok(text.len() - left.len() + 2),
-            NamePart::End => return Ok(text.len() - left.len() + 1),
-            NamePart::Torn => return Err(why_torn(left)),
-        }
-    }
-}
-
 // Why the name that begins in a text, and may go on in a message, breaks.
 fn why_broken(message: &[u8], text: &[u8]) -> Option<NameRefusal>
     ensures told { IfSome result (NameBreaks text.now message.now) }
@@ -225,21 +106,4 @@ fn why_broken(message: &[u8], text: &[u8]) -> Option<NameRefusal>
             NamePart::Torn => return Some(why_torn(left)),
         }
     }
-}
-
-// Why a text begins with no whole label or mark.
-fn why_torn(text: &[u8]) -> NameRefusal
-    requires { front_of text.now ≡ torn }
-    ensures { IsTorn text.now result }
-{
-    let Some(&first) = text.first() else {
-        return NameRefusal::NoEnd;
-    };
-    if first >= POINTER {
-        return NameRefusal::PointerCut;
-    }
-    if first < LABEL_END {
-        return NameRefusal::LabelCut;
-    }
-    NameRefusal::LabelType(first)
 }

@@ -1,17 +1,15 @@
 //! Why octets are refused as a message (RFC 792).
 
 ghost use Rattle.std.specs.Prelude.{◌≡◌, ◌↔◌, IfOk, IfErr, IsOkAnd, IfSome, IsNone, Some};
-ghost use Rattle.icmp4_wire.specs.Icmpv4.{view_octets, MessageValue, value_of, IsMessage};
-ghost use Rattle.icmp4_wire.specs.Icmpv4Refusal.{IsRead, IsWholeQuote, Refuses, RefusesQuote, refusal_display};
+ghost use Rattle.wirebase.specs.Checks.{Passes, Fails};
+ghost use Rattle.icmp4_wire.specs.Icmpv4.{view_octets, MessageValue, value_of, quote_checks, IsMessage};
+ghost use Rattle.icmp4_wire.specs.Icmpv4Refusal.{IsRead, Refuses, refusal_display};
 
 use super::packet::Packet;
-use super::repr::Repr;
+use super::repr::{QUOTED_HEADER_LEN, Repr};
 use super::tables::Message;
 use std::fmt;
 use wirebase::{ChecksumCapabilities, Ipv4Packet};
-
-// The bytes of an IPv4 header without options.
-const IPV4_HEADER_LEN: usize = 20;
 
 /// Why [`Repr::parse`] refuses octets as a message: the first check that fails.
 #[derive(Debug, PartialEq, Eq, Clone, Copy)]
@@ -72,11 +70,15 @@ impl<'a> Repr<'a> {
         ensures told { IfSome result (Refuses checksum_caps.now (view_octets packet.now)) }
         ensures exact { IsNone result ↔ IsRead checksum_caps.now (view_octets packet.now) }
     {
-        Repr::parse_or_refusal(packet, checksum_caps).err()
+        match Repr::parse_or_refusal(packet, checksum_caps) {
+            Ok(_) => None,
+            Err(why) => Some(why),
+        }
     }
 }
 
-// The first check that fails in octets that are not read.
+// The first check that fails in octets that are not read. Apart from the reader, which took 133 instructions in place
+// of 115 for an echo where its result had room for a reason.
 fn why(packet: &Packet<&[u8]>, checksum_caps: &ChecksumCapabilities) -> Refusal
     requires { IsRead checksum_caps.now (view_octets packet.now) → ⊥ }
     ensures { Refuses checksum_caps.now (view_octets packet.now) result }
@@ -96,11 +98,11 @@ fn why(packet: &Packet<&[u8]>, checksum_caps: &ChecksumCapabilities) -> Refusal
 
 // The first check that fails in what an error quotes.
 fn why_no_quote(octets: &[u8]) -> Refusal
-    requires { IsWholeQuote octets.now → ⊥ }
-    ensures { RefusesQuote octets.now result }
+    requires { Passes (quote_checks octets.now) → ⊥ }
+    ensures { Fails (quote_checks octets.now) result }
 {
     let len = octets.len();
-    if len < IPV4_HEADER_LEN {
+    if len < QUOTED_HEADER_LEN {
         return Refusal::QuotedHeader;
     }
     let quoted = Ipv4Packet::new_unchecked(octets);

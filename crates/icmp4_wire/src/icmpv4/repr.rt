@@ -1,18 +1,18 @@
 //! Messages as values (RFC 792).
 
-ghost use Rattle.std.specs.Prelude.{◌≡◌, ◌≤◌, ◌<◌, ◌+◌, ◌^◌, ◌⊎◌, ℕ, List, length, IfOk, IsOkAnd, Some};
-ghost use Rattle.wirebase.specs.Bytes.{byte_of, over, Reaches};
+ghost use Rattle.std.specs.Prelude.{◌≡◌, ◌≤◌, ◌<◌, ◌+◌, ◌^◌, ◌⊎◌, length, IfOk, IfErr, IsOkAnd, Some};
+ghost use Rattle.wirebase.specs.Bytes.{over, Reaches};
 ghost use Rattle.wirebase.specs.ByteWriter.{free, Puts};
+ghost use Rattle.wirebase.specs.Checks.{Passes};
 ghost use Rattle.wirebase.specs.Format.{Rewrites, SameText};
-ghost use Rattle.wirebase.specs.Icmp.{type_field, checksum_field, header};
+ghost use Rattle.wirebase.specs.Icmp.{checksum_field, header, data_in};
 ghost use Rattle.wirebase.specs.declared.capabilities.ChecksumCapabilities.{ChecksumCapabilities};
-ghost use Rattle.wirebase.specs.declared.ipv4.Ipv4Repr.{Ipv4Repr};
 ghost use Rattle.icmp4_wire.specs.Icmpv4Tables.{message_number};
 ghost use Rattle.icmp4_wire.specs.Icmpv4.{inner, view_octets, MessageValue, value_of, error_fields, message_fields};
-ghost use Rattle.icmp4_wire.specs.Icmpv4.{text, text_len};
-ghost use Rattle.icmp4_wire.specs.Icmpv4.{packet_text, CanEmit, IsQuote, IsContent, IsMessage};
-ghost use Rattle.icmp4_wire.specs.Icmpv4.{seal as sealed_octets, format, Emits};
+ghost use Rattle.icmp4_wire.specs.Icmpv4.{text, text_len, packet_text, CanEmit, type_in, behind_in, quoted_in};
+ghost use Rattle.icmp4_wire.specs.Icmpv4.{quote_checks, Says, IsMessage, seal as sealed_octets, format, Emits};
 ghost use Rattle.icmp4_wire.specs.Icmpv4Display.{repr_display};
+ghost use Rattle.icmp4_wire.specs.declared.icmpv4.tables.Message.{Message as AnyMessage};
 
 use super::field;
 use super::packet::Packet;
@@ -24,7 +24,7 @@ use wirebase::{
 };
 
 // The bytes of a quoted header without options.
-const QUOTED_HEADER_LEN: usize = 20;
+pub(super) const QUOTED_HEADER_LEN: usize = 20;
 
 // The least number of bytes that an error quotes after the header.
 const MIN_QUOTED_DATA: usize = 8;
@@ -91,6 +91,7 @@ impl<'a> Repr<'a> {
     // Always inlined, so that a caller matches on the fields where they were read: a returned value is written and
     // copied. A responder that drops errors then has no code that reads them.
     #[inline(always)]
+    #[tactic(auto, using(crate::proofs::Icmpv4Grammar::grammar))]
     pub fn parse(
         packet: &Packet<&'a [u8]>,
         checksum_caps: &ChecksumCapabilities,
@@ -125,13 +126,14 @@ impl<'a> Repr<'a> {
     }
 
     // The error in octets of such a type, whatever their checksum.
+    #[tactic(auto, using(crate::proofs::Icmpv4Grammar::contents))]
     fn read_error(packet: &Packet<&'a [u8]>) -> Result<Repr<'a>>
         requires whole { Reaches header (view_octets packet.now) }
-        requires error { (byte_of type_field (view_octets packet.now) ≡ 3)
-            ⊎ (byte_of type_field (view_octets packet.now) ≡ 11) }
-        ensures sound { IfOk result (λ repr. IsContent (view_octets packet.now) (value_of repr)) }
-        ensures complete { (value : MessageValue) → IsContent (view_octets packet.now) value
-            → IsOkAnd result (λ repr. value_of repr ≡ value) }
+        requires error { (type_in (view_octets packet.now) ≡ AnyMessage.DstUnreachable)
+            ⊎ (type_in (view_octets packet.now) ≡ AnyMessage.TimeExceeded) }
+        ensures sound { IfOk result (λ repr.
+            Passes (quote_checks (data_in (view_octets packet.now))) × Says (view_octets packet.now) (value_of repr)) }
+        ensures refused { IfErr result (λ error. Passes (quote_checks (data_in (view_octets packet.now))) → ⊥) }
     {
         let (header, data) = read_quote(packet.data())?;
         let code = packet.msg_code();
@@ -282,10 +284,11 @@ impl fmt::Display for Repr<'_> {
 }
 
 // The header that an error quotes, and all that follows it (RFC 792).
+#[tactic(auto, using(crate::proofs::Icmpv4Grammar::quotes))]
 fn read_quote(octets: &[u8]) -> Result<(Ipv4Repr, &[u8])>
-    ensures sound { IfOk result (λ read. IsQuote octets.now read.0 read.1.now) }
-    ensures complete { (quoted : Ipv4Repr) (behind : List ℕ) → IsQuote octets.now quoted behind
-        → IsOkAnd result (λ read. (read.0 ≡ quoted) × (read.1.now ≡ behind)) }
+    ensures sound { IfOk result (λ read. Passes (quote_checks octets.now)
+        × (read.0 ≡ quoted_in octets.now) × (read.1.now ≡ behind_in octets.now)) }
+    ensures refused { IfErr result (λ error. Passes (quote_checks octets.now) → ⊥) }
 {
     let packet = Ipv4Packet::new_checked(octets)?;
     let header_len = packet.header_len() as usize;

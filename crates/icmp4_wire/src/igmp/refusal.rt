@@ -60,7 +60,9 @@ impl Repr {
     }
 }
 
-// The first check that fails in octets that are not read.
+// The first check that fails in octets that are not read. Apart from the reader, which took 40 instructions in place of
+// 23 where its result had room for a reason.
+#[tactic(auto, using(crate::proofs::IgmpGrammar::reasons))]
 fn why(packet: &Packet<&[u8]>) -> Refusal
     requires { IsRead (view_octets packet.now) → ⊥ }
     ensures { Refuses (view_octets packet.now) result }
@@ -69,11 +71,8 @@ fn why(packet: &Packet<&[u8]>) -> Refusal
         return Refusal::Short;
     }
     match packet.msg_type() {
-        Message::MembershipQuery
-        | Message::MembershipReportV1
-        | Message::MembershipReportV2
-        | Message::LeaveGroup => Refusal::Group(packet.group_addr()),
-        other => Refusal::UnknownType(other.into()),
+        Message::Unknown(number) => Refusal::UnknownType(number),
+        _ => Refusal::Group(packet.group_addr()),
     }
 }
 

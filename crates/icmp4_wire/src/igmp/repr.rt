@@ -87,6 +87,7 @@ impl Repr {
 
     // The message at the front of the octets.
     #[inline]
+    #[tactic(auto, using(crate::proofs::IgmpGrammar::grammar))]
     fn read(packet: &Packet<&[u8]>) -> Result<Repr>
         ensures sound { IfOk result (IsMessage (view_octets packet.now)) }
         ensures complete { (repr : Repr) → IsMessage (view_octets packet.now) repr
@@ -96,8 +97,7 @@ impl Repr {
         // Before the match, so that each value is made once it is known to be good: in the other order a host that
         // reads queries pays for a copy.
         let group_addr = packet.group_addr();
-        let allowed = is_group(group_addr);
-        if !allowed {
+        if !is_group(group_addr) {
             return Err(Error);
         }
         match packet.msg_type() {
@@ -244,7 +244,7 @@ fn put_message(w: &mut ByteWriter<'_>, message: Message, code: u8, group: Ipv4Ad
 
 // Whether a message may have this group: 0.0.0.0, for none, or a multicast address.
 #[inline]
-pub(super) fn is_group(address: Ipv4Address) -> bool
+fn is_group(address: Ipv4Address) -> bool
     ensures { IsTrue result ↔ IsGroup address }
 {
     address.is_unspecified() || address.is_multicast()

@@ -7,8 +7,8 @@ ghost use Rattle.icmp6_wire.specs.MldDisplay.{repr_display, counts_display, reco
 ghost use Rattle.icmp6_wire.specs.MldRecord.{value_of as record_value};
 
 use super::{AddressRecordRepr, Repr};
-use opt_wire::digits::Digits;
 use std::fmt;
+use wirebase::text::HexOrDash;
 
 /// Prints the message with its fields, as `MLD report nr_mcast_addr_rcrds=0 data=-`. A report given by its records has
 /// each record in parentheses in place of `data`.
@@ -42,7 +42,7 @@ impl fmt::Display for Repr<'_> {
                 nr_mcast_addr_rcrds,
                 data,
             } => {
-                let data = Digits(data);
+                let data = HexOrDash(data);
                 write!(
                     f,
                     "MLD report nr_mcast_addr_rcrds={nr_mcast_addr_rcrds} data={data}"
@@ -76,7 +76,7 @@ impl fmt::Display for Counts<'_> {
             self.qrv,
             self.qqic,
             self.num_srcs,
-            Digits(self.data)
+            HexOrDash(self.data)
         )
     }
 }
@@ -108,7 +108,7 @@ impl fmt::Display for AddressRecordRepr<'_> {
             mcast_addr,
             payload,
         } = *self;
-        let payload = Digits(payload);
+        let payload = HexOrDash(payload);
         write!(
             f,
             "MLD record record_type={record_type} aux_data_len={aux_data_len} num_srcs={num_srcs} \

@@ -8,9 +8,9 @@ ghost use Rattle.icmp6_wire.specs.NdiscDisplay.{repr_display, times_display, opt
 ghost use Rattle.icmp6_wire.specs.NdiscOptionsSeen.{link_of, packet_of};
 
 use super::Repr;
-use opt_wire::digits::Digits;
 use opt_wire::ndiscoption::{PrefixInformation, RedirectedHeader};
 use std::fmt;
+use wirebase::text::HexOrDash;
 use wirebase::{Duration, RawHardwareAddress};
 
 /// Prints the message with its fields and the options that are there, flags by their names and octets in hexadecimal,
@@ -198,7 +198,7 @@ impl fmt::Display for Redirected<'_> {
             Some(packet) => {
                 let RedirectedHeader { header, data } = packet;
                 let payload_len = header.payload_len;
-                let data = Digits(data);
+                let data = HexOrDash(data);
                 write!(
                     f,
                     " redirected_hdr=({header} payload_len={payload_len} data={data})"

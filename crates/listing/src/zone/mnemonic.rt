@@ -9,11 +9,12 @@ ghost use Rattle.dns_wire.specs.DnsTables.{type_number};
 ghost use Rattle.record_wire.specs.Mnemonics.{type_text, class_text};
 ghost use Rattle.record_wire.specs.ZoneText.{word};
 
-use crate::number::write_number;
+use crate::output::ToWriter;
 use dns_wire::dns::Type;
 use record_wire::classes;
 use std::io;
 use std::io::Write;
+use wirebase::text::put_number;
 
 /// Writes a type after a space.
 pub fn type_word<W: Write>(output: &mut W, type_: Type) -> io::Result<()>
@@ -51,5 +52,5 @@ fn put_numbered<W: Write>(output: &mut W, text: &str, number: u16) -> io::Result
         (word (name_or text.now None number))) }
 {
     put_word(output, text)?;
-    write_number(output, u64::from(number))
+    put_number::<_, ToWriter>(output, u64::from(number))
 }

@@ -17,11 +17,11 @@ ghost use Rattle.opt_wire.specs.NdiscOptionRepr.{prefix_display, redirected_disp
 ghost use Rattle.opt_wire.specs.declared.ndiscoption.repr.PrefixInformation.{PrefixInformation};
 
 use super::{NdiscOption, PrefixInfoFlags, Type, field};
-use crate::digits::Digits;
 use crate::writing;
 use crate::writing::UNIT;
 use bitflags::Flags as _;
 use std::fmt;
+use wirebase::text::HexOrDash;
 use wirebase::{
     ByteWriter, Duration, Error, Ipv6Address, Ipv6Packet, Ipv6Repr, OctetsMut, RawHardwareAddress,
     Result, are_bytes,
@@ -93,7 +93,7 @@ impl fmt::Display for RedirectedHeader<'_> {
             "RedirectedHeader header={} payload_len={} data={}",
             self.header,
             self.header.payload_len,
-            Digits(self.data)
+            HexOrDash(self.data)
         )
     }
 }
@@ -352,6 +352,6 @@ fn fmt_unknown<W: fmt::Write>(
     write!(
         f,
         "NDISC Option: Unknown({type_}) length={length} data={}",
-        Digits(data)
+        HexOrDash(data)
     )
 }

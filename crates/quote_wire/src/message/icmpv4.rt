@@ -1,7 +1,9 @@
 //! Messages of ICMPv4 (RFC 792).
 
 ghost use Rattle.std.specs.Prelude.{◌≡◌, ◌↔◌, IfOk, IfErr, IsOkAnd, IfSome, IsNone, IsTrue, Some};
-ghost use Rattle.quote_wire.specs.Icmpv4Message.{MessageValue, value_of, HasErrorType, IsMessage, IsRead, Refuses};
+ghost use Rattle.quote_wire.specs.Error.{HasErrorType};
+ghost use Rattle.quote_wire.specs.Icmpv4Error.{kind_number};
+ghost use Rattle.quote_wire.specs.Icmpv4Message.{MessageValue, value_of, IsMessage, IsRead, Refuses};
 ghost use Rattle.quote_wire.specs.Icmpv4Message.{message_display, refusal_display};
 
 use crate::icmpv4_error;
@@ -108,7 +110,7 @@ impl<'a> Icmpv4Message<'a> {
 
 // Whether the type is that of an error.
 fn has_error_type(octets: &[u8]) -> bool
-    ensures { IsTrue result ↔ HasErrorType octets.now }
+    ensures { IsTrue result ↔ HasErrorType kind_number octets.now }
 {
     match octets.first() {
         Some(number) => icmpv4_error::Kind::from_number(*number).is_some(),

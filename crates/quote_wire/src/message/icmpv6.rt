@@ -2,7 +2,9 @@
 //! (RFC 3810).
 
 ghost use Rattle.std.specs.Prelude.{◌≡◌, ◌↔◌, IfOk, IfErr, IsOkAnd, IfSome, IsNone, IsTrue, Some};
-ghost use Rattle.quote_wire.specs.Icmpv6Message.{MessageValue, value_of, HasErrorType, IsMessage, IsRead, Refuses};
+ghost use Rattle.quote_wire.specs.Error.{HasErrorType};
+ghost use Rattle.quote_wire.specs.Icmpv6Error.{kind_number};
+ghost use Rattle.quote_wire.specs.Icmpv6Message.{MessageValue, value_of, IsMessage, IsRead, Refuses};
 ghost use Rattle.quote_wire.specs.Icmpv6Message.{message_display, refusal_display};
 
 use crate::icmpv6_error;
@@ -130,7 +132,7 @@ impl<'a> Icmpv6Message<'a> {
 
 // Whether the type is that of an error.
 fn has_error_type(octets: &[u8]) -> bool
-    ensures { IsTrue result ↔ HasErrorType octets.now }
+    ensures { IsTrue result ↔ HasErrorType kind_number octets.now }
 {
     match octets.first() {
         Some(number) => icmpv6_error::Kind::from_number(*number).is_some(),

@@ -4,7 +4,6 @@
 
 ghost use Rattle.std.specs.Prelude.{◌≡◌, [], ◌∷◌, Some, None, flat_map, map};
 ghost use Rattle.std.specs.Fmt.{WritesOnOk};
-ghost use Rattle.wirebase.specs.Ethernet.{hex_byte};
 ghost use Rattle.record_wire.specs.Name.{labels_of};
 ghost use Rattle.record_wire.specs.Strings.{strings_in};
 ghost use Rattle.record_wire.specs.ZoneText.{whole_name, string_character, string_text, string_words, strings_text};
@@ -15,6 +14,7 @@ use crate::name::Name;
 use crate::name::text::write_piece;
 use crate::strings::TxtStrings;
 use std::fmt;
+use wirebase::text::Hex;
 
 /// A name with its last dot; the root is a dot.
 #[derive(Clone, Copy)]
@@ -133,44 +133,7 @@ impl fmt::Display for Generic<'_> {
         if self.0.is_empty() {
             return Ok(());
         }
-        f.write_str(" ")?;
-        fmt_digits(f, self.0)
-    }
-}
-
-/// Bytes in hexadecimal, two digits each.
-#[derive(Clone, Copy)]
-pub(crate) struct Digits<'a>(pub(crate) &'a [u8]);
-
-impl fmt::Display for Digits<'_> {
-    ghost output = { λ bytes. Some (flat_map hex_byte bytes.0.now) };
-
-    fn fmt<W: fmt::Write>(&self, f: &mut fmt::Formatter<W>) -> fmt::Result {
-        fmt_digits(f, self.0)
-    }
-}
-
-// Writes bytes as two hexadecimal digits each.
-fn fmt_digits<W: fmt::Write>(f: &mut fmt::Formatter<W>, bytes: &[u8]) -> fmt::Result
-    ensures { WritesOnOk W.write_str_gives f.old result (flat_map hex_byte bytes.now) f.new }
-{
-    for byte in bytes {
-        write!(f, "{}", HexByte(*byte))?;
-    }
-    Ok(())
-}
-
-// A byte as two hexadecimal digits.
-#[derive(Clone, Copy)]
-struct HexByte(u8);
-
-impl fmt::Display for HexByte {
-    ghost output = { λ byte. Some (hex_byte byte.0) };
-
-    fn fmt<W: fmt::Write>(&self, f: &mut fmt::Formatter<W>) -> fmt::Result {
-        let high = self.0 / 16;
-        let low = self.0 % 16;
-        write!(f, "{high:x}{low:x}")
+        write!(f, " {}", Hex(self.0))
     }
 }
 

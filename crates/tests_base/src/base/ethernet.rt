@@ -67,6 +67,6 @@ fn addresses_in_hexadecimal(rt: HostRuntime) {
 
 #[test]
 fn printing_an_address_fails_only_with_its_writer(rt: HostRuntime) {
-    takes_writes(&rt, &ADDRESS, 17);
-    takes_writes(&rt, &RawHardwareAddress::from(ADDRESS), 17);
+    takes_writes(&rt, &ADDRESS, 11);
+    takes_writes(&rt, &RawHardwareAddress::from(ADDRESS), 11);
 }

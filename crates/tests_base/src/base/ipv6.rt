@@ -131,7 +131,7 @@ fn addresses_of_every_pattern_of_zero_groups(rt: HostRuntime) -> Result<(), Fail
 #[test]
 fn printing_a_header_fails_only_with_its_writer(rt: HostRuntime) {
     let header = quoted();
-    takes_writes(&rt, &header, 12);
+    takes_writes(&rt, &header, 8);
     prints(
         &rt,
         rt.alloc(),

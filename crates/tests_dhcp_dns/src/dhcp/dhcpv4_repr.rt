@@ -93,6 +93,7 @@ fn five_servers() -> ArrayVec<Ipv4Address, MAX_DNS_SERVER_COUNT>
 }
 
 #[test]
+#[tactic(auto, unfolding(wirebase::specs::ByteWriter::be8, wirebase::specs::ByteWriter::be16))]
 fn bytes_that_a_value_takes(rt: HostRuntime) {
     let mut repr = bare(MessageType::Discover);
     same(&rt, repr.buffer_len(), 244);
@@ -104,6 +105,7 @@ fn bytes_that_a_value_takes(rt: HostRuntime) {
 }
 
 #[test]
+#[tactic(auto, unfolding(wirebase::specs::ByteWriter::be8, wirebase::specs::ByteWriter::be32))]
 fn bytes_that_three_times_take(rt: HostRuntime) {
     let mut repr = bare(MessageType::Ack);
     repr.lease_duration = Some(3600);
@@ -113,6 +115,7 @@ fn bytes_that_three_times_take(rt: HostRuntime) {
 }
 
 #[test]
+#[tactic(auto, unfolding(wirebase::specs::ByteWriter::be8))]
 fn a_discover_with_five_servers_takes_266_bytes(rt: HostRuntime) {
     let mut repr = bare(MessageType::Discover);
     repr.dns_servers = Some(five_servers());

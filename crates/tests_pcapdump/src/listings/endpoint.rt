@@ -1,14 +1,19 @@
 //! Addresses and ports as text.
 
 use crate::testing::{holds_of, same_of};
-use listing::endpoint::{write_v4, write_v6};
+use listing::output::ToWriter;
 use std::alloc::Global;
 use std::process::Abort;
+use wirebase::text::{put_v4, put_v6};
 use wirebase::{Ipv4Address, Ipv6Address};
 
 fn check_v4(rt: &impl Abort, alloc: Global, address: Ipv4Address, port: Option<u16>, want: &str) {
     let mut output = Vec::new(alloc);
-    holds_of(rt, want, write_v4(&mut output, address, port).is_ok());
+    holds_of(
+        rt,
+        want,
+        put_v4::<_, ToWriter>(&mut output, address, port).is_ok(),
+    );
     same_of(rt, want, output.as_slice(), want.as_bytes());
 }
 
@@ -16,7 +21,11 @@ fn check_v6(rt: &impl Abort, alloc: Global, groups: [u16; 8], port: Option<u16>,
     let [a, b, c, d, e, f, g, h] = groups;
     let address = Ipv6Address::new(a, b, c, d, e, f, g, h);
     let mut output = Vec::new(alloc);
-    holds_of(rt, want, write_v6(&mut output, address, port).is_ok());
+    holds_of(
+        rt,
+        want,
+        put_v6::<_, ToWriter>(&mut output, address, port).is_ok(),
+    );
     same_of(rt, want, output.as_slice(), want.as_bytes());
 }
 

@@ -2,8 +2,8 @@
 
 ghost use Rattle.std.specs.Prelude.{◌≡◌, length};
 
+use crate::text::{ToFormatter, put_v6};
 use std::fmt;
-use std::net::Ipv6Addr;
 
 /// An IPv6 address, sixteen octets (RFC 4291 section 2).
 #[derive(Debug, PartialEq, Eq, Clone, Copy)]
@@ -110,6 +110,6 @@ impl fmt::Display for Ipv6Address {
     ghost output = { λ address. Some (address_text address) };
 
     fn fmt<W: fmt::Write>(&self, f: &mut fmt::Formatter<W>) -> fmt::Result {
-        write!(f, "{}", Ipv6Addr::from(self.octets).hex_groups())
+        put_v6::<_, ToFormatter>(f, *self, None)
     }
 }

@@ -95,6 +95,7 @@ impl Capture {
 
     /// Reads the next record. Where the capture has ended, each further call says so again.
     pub fn next<R: BufRead>(&mut self, input: &mut R) -> Result<Next, Fault> {
+        // A bound that no input reaches: each loop has to end.
         for _ in 0..u64::MAX {
             match self.read_step(input)? {
                 Step::Passed => (),

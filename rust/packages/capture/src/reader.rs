@@ -19,6 +19,7 @@ pub fn read_onto<R: BufRead>(
     if octets.as_slice().len() == count {
         return Ok(());
     }
+    // A bound that no input reaches: each loop has to end.
     for _ in 0..u64::MAX {
         let missing = count - octets.as_slice().len();
         let ended = take_part(input, octets, missing)?;
@@ -50,6 +51,7 @@ fn take_part<R: BufRead>(
 /// Passes over this many octets, or over all where there are fewer, and returns whether there were enough.
 pub fn skip<R: BufRead>(input: &mut R, count: usize) -> Result<bool, Fault> {
     let mut missing = count;
+    // A bound that no input reaches: each loop has to end.
     for _ in 0..u64::MAX {
         let (skipped, ended) = skip_part(input, missing)?;
         missing -= skipped;

@@ -5,8 +5,9 @@ use crate::sight::Headers;
 use crate::time::Clock;
 use capture::{Record, Time};
 use control_wire::frames::Addresses;
+use control_wire::inside::text::{put_v4, put_v6};
 use control_wire::{Field, Ipv4Address, Ipv6Address, Octets};
-use listing::endpoint::{write_v4, write_v6};
+use listing::output::ToWriter;
 use listing::printer::{Value, line};
 use rattle_std::io;
 use rattle_std::io::Write;
@@ -62,9 +63,9 @@ fn show_v4<W: Write>(
     ports: Option<(u16, u16)>,
 ) -> io::Result<()> {
     output.write_all(b" ")?;
-    write_v4(output, source, source_port(ports))?;
+    put_v4::<_, ToWriter>(output, source, source_port(ports))?;
     output.write_all(b" > ")?;
-    write_v4(output, destination, destination_port(ports))
+    put_v4::<_, ToWriter>(output, destination, destination_port(ports))
 }
 
 fn show_v6<W: Write>(
@@ -74,9 +75,9 @@ fn show_v6<W: Write>(
     ports: Option<(u16, u16)>,
 ) -> io::Result<()> {
     output.write_all(b" ")?;
-    write_v6(output, source, source_port(ports))?;
+    put_v6::<_, ToWriter>(output, source, source_port(ports))?;
     output.write_all(b" > ")?;
-    write_v6(output, destination, destination_port(ports))
+    put_v6::<_, ToWriter>(output, destination, destination_port(ports))
 }
 
 fn source_port(ports: Option<(u16, u16)>) -> Option<u16> {

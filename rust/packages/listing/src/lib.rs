@@ -4,9 +4,7 @@
 //! Each `show_` function prints what the grammar reads in some octets, or `refused` where it reads nothing.
 
 pub mod dhcp;
-pub mod endpoint;
 pub mod hbh;
-mod hex_digits;
 pub mod icmp4;
 pub mod icmp4_error;
 pub mod icmp6;
@@ -18,7 +16,7 @@ pub mod mld;
 pub mod name;
 pub mod ndisc;
 pub mod ndopt;
-pub mod number;
+pub mod output;
 pub mod page;
 pub mod ports;
 pub mod printer;

@@ -1,9 +1,8 @@
 // Made from crates/listing/src/printer.rt by rust/erase.
 //! Printing of values: names and fields, one a line.
 
-use crate::endpoint::write_v4;
-use crate::hex_digits::encode;
-use crate::number::write_number;
+use crate::output::ToWriter;
+use control_wire::inside::text::{put_number, put_octets, put_v4};
 use control_wire::{Duration, Ipv4Address};
 use rattle_std::io;
 use rattle_std::io::Write;
@@ -16,31 +15,31 @@ pub trait Value {
 
 impl Value for u8 {
     fn write_to<W: Write>(self, output: &mut W) -> io::Result<()> {
-        write_number(output, u64::from(self))
+        put_number::<_, ToWriter>(output, u64::from(self))
     }
 }
 
 impl Value for u16 {
     fn write_to<W: Write>(self, output: &mut W) -> io::Result<()> {
-        write_number(output, u64::from(self))
+        put_number::<_, ToWriter>(output, u64::from(self))
     }
 }
 
 impl Value for u32 {
     fn write_to<W: Write>(self, output: &mut W) -> io::Result<()> {
-        write_number(output, u64::from(self))
+        put_number::<_, ToWriter>(output, u64::from(self))
     }
 }
 
 impl Value for u64 {
     fn write_to<W: Write>(self, output: &mut W) -> io::Result<()> {
-        write_number(output, self)
+        put_number::<_, ToWriter>(output, self)
     }
 }
 
 impl Value for usize {
     fn write_to<W: Write>(self, output: &mut W) -> io::Result<()> {
-        write_number(output, self as u64)
+        put_number::<_, ToWriter>(output, self as u64)
     }
 }
 
@@ -59,7 +58,7 @@ impl Value for &str {
 // An address with dots.
 impl Value for Ipv4Address {
     fn write_to<W: Write>(self, output: &mut W) -> io::Result<()> {
-        write_v4(output, self, None)
+        put_v4::<_, ToWriter>(output, self, None)
     }
 }
 
@@ -79,30 +78,11 @@ impl<V: Value> Value for Option<V> {
     }
 }
 
-// The number of octets that are converted to digits at a time, and the digits of these.
-const OCTETS: usize = 64;
-
-const DIGITS: usize = 2 * OCTETS;
-
 // Octets in lower-case hexadecimal digits, or `-` for none.
 impl Value for &[u8] {
     fn write_to<W: Write>(self, output: &mut W) -> io::Result<()> {
-        if self.is_empty() {
-            return output.write_all(b"-");
-        }
-        for octets in self.chunks(OCTETS) {
-            write_digits(output, octets)?;
-        }
-        Ok(())
+        put_octets::<_, ToWriter>(output, self)
     }
-}
-
-// Writes the digits of at most this many octets.
-fn write_digits<W: Write>(output: &mut W, octets: &[u8]) -> io::Result<()> {
-    let mut room = [0u8; DIGITS];
-    let digits = &mut room[..2 * octets.len()];
-    encode(octets, digits);
-    output.write_all(digits)
 }
 
 /// Prints a line of its own: a variant's name, a value without a name, or a result that is no value.

@@ -5,9 +5,10 @@ mod mnemonic;
 mod name_text;
 mod string;
 
-use crate::endpoint::write_v6;
+use crate::output::ToWriter;
 use crate::printer::Value;
 use control_wire::Ipv6Address;
+use control_wire::inside::text::put_v6;
 pub use mnemonic::{class_word, type_word};
 pub use name_text::NameText;
 use rattle_std::io;
@@ -23,7 +24,7 @@ pub fn word<V: Value, W: Write>(output: &mut W, value: V) -> io::Result<()> {
 /// Writes an address after a space.
 pub fn ipv6_word<W: Write>(output: &mut W, address: Ipv6Address) -> io::Result<()> {
     output.write_all(b" ")?;
-    write_v6(output, address, None)
+    put_v6::<_, ToWriter>(output, address, None)
 }
 
 /// Writes a name after a space.

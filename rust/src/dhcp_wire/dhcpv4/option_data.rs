@@ -2,6 +2,7 @@
 //! The data of options, written from the fields of a value (RFC 2132).
 
 use super::MAX_DNS_SERVER_COUNT;
+use super::repr::ETHERNET;
 use super::tables::MessageType;
 use crate::wirebase::{ByteWriter, EthernetAddress, Ipv4Address};
 use arrayvec::ArrayVec;
@@ -73,7 +74,7 @@ impl Data for EthernetAddress {
 
     fn put(&self, w: &mut ByteWriter<'_>) {
         let [a, b, c, d, e, f] = self.0;
-        w.put_bytes(&[1, a, b, c, d, e, f]);
+        w.put_bytes(&[ETHERNET, a, b, c, d, e, f]);
     }
 }
 

@@ -4,6 +4,7 @@
 use super::options::DhcpOption;
 use super::printing::Kinds;
 use super::value::{OptionAddresses, OptionValue, first_address};
+use crate::wirebase::text::{Hex, HexColons};
 use core::fmt;
 
 /// Prints the name of the kind and the data by its format, as `lease-time=3600`; a kind that has no name here prints
@@ -91,41 +92,7 @@ impl fmt::Display for Character {
             b'"' => f.write_str("\\\""),
             b'\\' => f.write_str("\\\\"),
             visible @ b' '..=b'~' => write!(f, "{}", visible as char),
-            other => write!(f, "\\x{}", HexByte(other)),
+            other => write!(f, "\\x{}", Hex(&[other])),
         }
     }
-}
-
-// A byte as two digits.
-#[derive(Clone, Copy)]
-struct HexByte(u8);
-
-impl fmt::Display for HexByte {
-    fn fmt(&self, f: &mut fmt::Formatter<'_>) -> fmt::Result {
-        let high = self.0 / 16;
-        let low = self.0 % 16;
-        write!(f, "{high:x}{low:x}")
-    }
-}
-
-// Bytes as two digits each, with colons between them.
-#[derive(Clone, Copy)]
-struct HexColons<'a>(&'a [u8]);
-
-impl fmt::Display for HexColons<'_> {
-    fn fmt(&self, f: &mut fmt::Formatter<'_>) -> fmt::Result {
-        let Some((first, rest)) = self.0.split_first() else {
-            return Ok(());
-        };
-        write!(f, "{}", HexByte(*first))?;
-        fmt_behind_colons(f, rest)
-    }
-}
-
-// Prints each byte as two digits, after a colon.
-fn fmt_behind_colons(f: &mut fmt::Formatter<'_>, octets: &[u8]) -> fmt::Result {
-    for byte in octets {
-        write!(f, ":{}", HexByte(*byte))?;
-    }
-    Ok(())
 }

@@ -2,14 +2,10 @@
 //! Collects the options of a packet, in one pass.
 
 use super::MAX_DNS_SERVER_COUNT;
-use super::option_kinds::{
-    OPT_CLIENT_ID, OPT_DHCP_MESSAGE_TYPE, OPT_DOMAIN_NAME_SERVER, OPT_IP_LEASE_TIME,
-    OPT_MAX_DHCP_MESSAGE_SIZE, OPT_PARAMETER_REQUEST_LIST, OPT_REBINDING_TIME_VALUE,
-    OPT_RENEWAL_TIME_VALUE, OPT_REQUESTED_IP, OPT_ROUTER, OPT_SERVER_IDENTIFIER, OPT_SUBNET_MASK,
-};
+use super::option_kinds::*;
 use super::options::DhcpOption;
 use super::packet::Packet;
-use super::repr::Repr;
+use super::repr::{ETHERNET, Repr};
 use super::tables::MessageType;
 use crate::wirebase::{Error, EthernetAddress, Ipv4Address, Result};
 use arrayvec::ArrayVec;
@@ -23,8 +19,7 @@ pub(super) struct OptionsSeen<'a> {
 }
 
 impl<'a> OptionsSeen<'a> {
-    // Notes all options of a packet, where none was noted before. Refused where one is a client identifier of another
-    // hardware.
+    // Notes all options of a packet. Refused where one is a client identifier of another hardware.
     pub(super) fn add_all<B: AsRef<[u8]> + ?Sized>(
         &mut self,
         packet: &Packet<&'a B>,
@@ -68,10 +63,8 @@ fn set<T: Copy>(field: &mut Option<T>, said: Option<T>) {
     }
 }
 
-// The length of a client identifier that is an address of Ethernet, and the number of that hardware, its first byte.
+// The length of a client identifier that is an address of Ethernet, after the number of that hardware.
 pub(super) const IDENTIFIER_LEN: usize = 7;
-
-pub(super) const ETHERNET: u8 = 1;
 
 // Whether the option is not a client identifier of another hardware.
 fn is_of_ethernet(option: DhcpOption<'_>) -> bool {
@@ -94,7 +87,7 @@ fn address(data: &[u8]) -> Option<Ipv4Address> {
     if data.len() != 4 {
         return None;
     }
-    Some(Ipv4Address::from_octets(data.try_into().unwrap()))
+    Some(Ipv4Address::new(data[0], data[1], data[2], data[3]))
 }
 
 // An address of Ethernet after the number of its hardware; None for other data.

@@ -3,9 +3,9 @@
 
 use super::option_kinds::{OPT_CLIENT_ID, OPT_DHCP_MESSAGE_TYPE, OPT_END, OPT_PAD};
 use super::options::DhcpOption;
-use super::options_seen::{ETHERNET, IDENTIFIER_LEN, OptionsSeen};
+use super::options_seen::{IDENTIFIER_LEN, OptionsSeen};
 use super::packet::{Packet, field};
-use super::repr::{ETHERNET_LEN, MAGIC_NUMBER, Repr};
+use super::repr::{ETHERNET, ETHERNET_LEN, MAGIC_NUMBER, Repr};
 use super::tables::{MessageType, OpCode};
 use crate::wirebase::Octets;
 use core::fmt;

@@ -4,9 +4,9 @@
 use super::MAX_DNS_SERVER_COUNT;
 use super::options::DhcpOption;
 use super::options_seen::OptionsSeen;
-use super::packet::Packet;
+use super::packet::{Packet, field};
 use super::tables::{Flags, MessageType};
-use crate::wirebase::{Error, EthernetAddress, Hardware, Ipv4Address, Result};
+use crate::wirebase::{Error, EthernetAddress, Ipv4Address, Octets, Result};
 use arrayvec::ArrayVec;
 
 /// The value of a packet (RFC 2131 section 2), with the options that a client or a server asks for (RFC 2132).
@@ -65,7 +65,9 @@ pub struct Repr<'a> {
     pub additional_options: &'a [DhcpOption<'a>],
 }
 
-// The bytes of an address of Ethernet, and the number before the options (RFC 2131 section 3).
+// The number of Ethernet, the bytes of its addresses, and the number before the options (RFC 2131 section 3).
+pub(super) const ETHERNET: u8 = 1;
+
 pub(super) const ETHERNET_LEN: u8 = 6;
 
 pub(super) const MAGIC_NUMBER: u32 = 0x6382_5363;
@@ -126,9 +128,7 @@ fn is_broadcast<B: AsRef<[u8]> + ?Sized>(packet: &Packet<&B>) -> bool {
 // Accepts a packet that is whole, of Ethernet, and with the cookie of DHCP.
 fn check_header<B: AsRef<[u8]> + ?Sized>(packet: &Packet<&B>) -> Result<()> {
     packet.check_len()?;
-    let number: u16 = packet.hardware_type().into();
-    let ethernet: u16 = Hardware::Ethernet.into();
-    if number != ethernet || packet.hardware_len() != ETHERNET_LEN {
+    if packet.buffer.u8_at(field::HTYPE) != ETHERNET || packet.hardware_len() != ETHERNET_LEN {
         return Err(Error);
     }
     if packet.magic_number() != MAGIC_NUMBER {

@@ -2,14 +2,11 @@
 //! Writes values.
 
 use super::option_data::Data;
-use super::option_kinds::{
-    OPT_CLIENT_ID, OPT_DHCP_MESSAGE_TYPE, OPT_DOMAIN_NAME_SERVER, OPT_IP_LEASE_TIME,
-    OPT_MAX_DHCP_MESSAGE_SIZE, OPT_PARAMETER_REQUEST_LIST, OPT_REBINDING_TIME_VALUE,
-    OPT_RENEWAL_TIME_VALUE, OPT_REQUESTED_IP, OPT_ROUTER, OPT_SERVER_IDENTIFIER, OPT_SUBNET_MASK,
-};
+use super::option_kinds::*;
 use super::options::{DhcpOption, DhcpOptionWriter};
 use super::packet::{Packet, field};
-use super::repr::{ETHERNET_LEN, MAGIC_NUMBER, Repr};
+use super::repr::{ETHERNET, ETHERNET_LEN, MAGIC_NUMBER, Repr};
+use super::tables::Flags;
 use crate::wirebase::{ByteWriter, EthernetAddress, Ipv4Address, OctetsMut, Result};
 
 impl Repr<'_> {
@@ -76,9 +73,13 @@ impl Repr<'_> {
 
     // Writes the numbers before the addresses of the fixed part.
     fn put_numbers(&self, w: &mut ByteWriter<'_>) {
-        let flags = if self.broadcast { 0x8000 } else { 0 };
+        let flags = if self.broadcast {
+            Flags::BROADCAST.bits()
+        } else {
+            0
+        };
         w.put_u8(self.message_type.opcode().into());
-        w.put_u8(1);
+        w.put_u8(ETHERNET);
         w.put_u8(ETHERNET_LEN);
         w.put_u8(0);
         w.put_u32(self.transaction_id);

@@ -1,7 +1,8 @@
 // Made from crates/dns_wire/src/dns/part.rt by rust/erase.
 //! One part of a name (RFC 1035 section 4.1.4): what it begins with, and where it stops.
 
-use crate::wirebase::{Error, Result};
+use crate::dns_wire::dns::refusal::NameRefusal;
+use crate::wirebase::Error;
 
 /// What a part of a name begins with (RFC 1035 section 4.1.4).
 #[derive(Debug, PartialEq, Eq, Clone, Copy)]
@@ -17,10 +18,10 @@ pub enum NamePart<'a> {
 }
 
 // The first byte of a label is its length, below this.
-pub(crate) const LABEL_END: u8 = 0x40;
+const LABEL_END: u8 = 0x40;
 
 // The first byte of a pointer is this or above, and its other six bits are the higher ones of the place.
-pub(crate) const POINTER: u8 = 0xc0;
+const POINTER: u8 = 0xc0;
 
 /// Reads what a text begins with (RFC 1035 section 4.1.4).
 #[inline]
@@ -50,20 +51,42 @@ pub fn follow(reach: &[u8], target: usize) -> Option<(&[u8], &[u8])> {
 }
 
 /// The part of a name at the front of a text, and what follows it. Refused where the text begins with none.
-pub fn split_name(text: &[u8]) -> Result<(&[u8], &[u8])> {
-    let len = part_len(text)?;
-    Ok((&text[..len], &text[len..]))
+pub fn split_name(text: &[u8]) -> crate::wirebase::Result<(&[u8], &[u8])> {
+    match read_part(text) {
+        Ok(split) => Ok(split),
+        Err(_) => Err(Error),
+    }
 }
 
-// How many bytes the part at the front of a text takes.
-fn part_len(text: &[u8]) -> Result<usize> {
+/// The part of a name at the front of a text, and what follows it; or why the text begins with none.
+pub(crate) fn read_part(text: &[u8]) -> Result<(&[u8], &[u8]), NameRefusal> {
     let mut left = text;
-    loop {
+    let after = loop {
         match read_front(left) {
             NamePart::Label(_, rest) => left = rest,
-            NamePart::Pointer(_) => return Ok(text.len() - left.len() + 2),
-            NamePart::End => return Ok(text.len() - left.len() + 1),
-            NamePart::Torn => return Err(Error),
+            NamePart::Pointer(_) => break &left[2..],
+            NamePart::End => break &left[1..],
+            NamePart::Torn => return Err(why_torn(left)),
         }
+    };
+    // A subtraction that saturates leaves no path that panics in the callers.
+    Ok((&text[..text.len().saturating_sub(after.len())], after))
+}
+
+/// Why a text begins with no whole label or mark.
+///
+/// # Panics
+///
+/// May panic where what is asked for above does not hold.
+pub(crate) fn why_torn(text: &[u8]) -> NameRefusal {
+    let Some(&first) = text.first() else {
+        return NameRefusal::NoEnd;
+    };
+    if first >= POINTER {
+        return NameRefusal::PointerCut;
     }
+    if first < LABEL_END {
+        return NameRefusal::LabelCut;
+    }
+    NameRefusal::LabelType(first)
 }

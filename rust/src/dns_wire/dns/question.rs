@@ -1,9 +1,10 @@
 // Made from crates/dns_wire/src/dns/question.rt by rust/erase.
 //! A question of a message (RFC 1035 section 4.1.2).
 
-use crate::dns_wire::dns::part::split_name;
+use crate::dns_wire::dns::part::read_part;
+use crate::dns_wire::dns::refusal::Refusal;
 use crate::dns_wire::dns::tables::Type;
-use crate::wirebase::{ByteWriter, Error, Octets, Result};
+use crate::wirebase::{ByteWriter, Error, Octets};
 
 // The fields after the name of a question.
 mod field {
@@ -31,20 +32,37 @@ pub struct Question<'a> {
 impl<'a> Question<'a> {
     /// The octets after the question at the front, and the question. Refused where the octets do not begin with a name
     /// of one part, a type and the class of the internet.
-    pub fn parse(buffer: &'a [u8]) -> Result<(&'a [u8], Question<'a>)> {
-        Question::read(buffer)
+    pub fn parse(buffer: &'a [u8]) -> crate::wirebase::Result<(&'a [u8], Question<'a>)> {
+        match Question::read(buffer) {
+            Ok(read) => Ok(read),
+            Err(_) => Err(Error),
+        }
     }
 
-    // The question at the front of the octets.
-    fn read(buffer: &'a [u8]) -> Result<(&'a [u8], Question<'a>)> {
-        let (name, after) = split_name(buffer)?;
+    /// Why [`Question::parse`] refuses these octets, by the first check that fails; None where it reads them. A
+    /// question has no data, so this is [`Refusal::Name`], [`Refusal::Short`] or [`Refusal::Class`].
+    pub fn refusal(buffer: &[u8]) -> Option<Refusal> {
+        match Question::read(buffer) {
+            Ok(_) => None,
+            Err(why) => Some(why),
+        }
+    }
+
+    // The octets after the question at the front, and the question; or the first check that fails.
+    #[inline(always)]
+    fn read(buffer: &'a [u8]) -> Result<(&'a [u8], Question<'a>), Refusal> {
+        let (name, after) = match read_part(buffer) {
+            Ok(split) => split,
+            Err(why) => return Err(Refusal::Name(why)),
+        };
         if after.len() < field::END {
-            return Err(Error);
+            return Err(Refusal::Short);
+        }
+        let class = after.u16_at(field::CLASS);
+        if class != CLASS_IN {
+            return Err(Refusal::Class(class));
         }
         let type_ = Type::from(after.u16_at(field::TYPE));
-        if after.u16_at(field::CLASS) != CLASS_IN {
-            return Err(Error);
-        }
         Ok((&after[field::END..], Question { name, type_ }))
     }
 

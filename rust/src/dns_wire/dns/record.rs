@@ -1,10 +1,11 @@
 // Made from crates/dns_wire/src/dns/record.rt by rust/erase.
 //! A resource record of a message (RFC 1035 section 4.1.3).
 
-use crate::dns_wire::dns::part::split_name;
+use crate::dns_wire::dns::part::read_part;
 use crate::dns_wire::dns::question::CLASS_IN;
+use crate::dns_wire::dns::refusal::Refusal;
 use crate::dns_wire::dns::tables::Type;
-use crate::wirebase::{Error, Ipv4Address, Ipv6Address, Octets, Result};
+use crate::wirebase::{Error, Ipv4Address, Ipv6Address, Octets};
 
 // The fields after the name of a record.
 mod field {
@@ -36,29 +37,45 @@ impl<'a> Record<'a> {
     /// The octets after the record at the front, and the record. Refused where the octets do not begin with a name of
     /// one part, a type, the class of the internet, a time to live, a length and as many bytes; and where these bytes
     /// are not data of the type.
-    pub fn parse(buffer: &'a [u8]) -> Result<(&'a [u8], Record<'a>)> {
-        let (name, after) = split_name(buffer)?;
-        let (rest, ttl, data) = read_behind_name(after)?;
-        Ok((rest, Record { name, ttl, data }))
+    pub fn parse(buffer: &'a [u8]) -> crate::wirebase::Result<(&'a [u8], Record<'a>)> {
+        match Record::read(buffer) {
+            Ok(read) => Ok(read),
+            Err(_) => Err(Error),
+        }
     }
-}
 
-// The octets after the record, its time to live and its data; `octets` begin after its name.
-fn read_behind_name(octets: &[u8]) -> Result<(&[u8], u32, RecordData<'_>)> {
-    if octets.len() < field::END {
-        return Err(Error);
+    /// Why [`Record::parse`] refuses these octets, by the first check that fails; None where it reads them.
+    pub fn refusal(buffer: &[u8]) -> Option<Refusal> {
+        match Record::read(buffer) {
+            Ok(_) => None,
+            Err(why) => Some(why),
+        }
     }
-    if octets.u16_at(field::CLASS) != CLASS_IN {
-        return Err(Error);
+
+    // The octets after the record at the front, and the record; or the first check that fails.
+    #[inline(always)]
+    fn read(buffer: &'a [u8]) -> Result<(&'a [u8], Record<'a>), Refusal> {
+        let (name, after) = match read_part(buffer) {
+            Ok(split) => split,
+            Err(why) => return Err(Refusal::Name(why)),
+        };
+        if after.len() < field::END {
+            return Err(Refusal::Short);
+        }
+        let class = after.u16_at(field::CLASS);
+        if class != CLASS_IN {
+            return Err(Refusal::Class(class));
+        }
+        let len = after.u16_at(field::LENGTH) as usize;
+        let behind = &after[field::END..];
+        if behind.len() < len {
+            return Err(Refusal::Length);
+        }
+        let type_ = Type::from(after.u16_at(field::TYPE));
+        let data = RecordData::read(type_, &behind[..len])?;
+        let ttl = after.u32_at(field::TTL);
+        Ok((&behind[len..], Record { name, ttl, data }))
     }
-    let len = octets.u16_at(field::LENGTH) as usize;
-    let behind = &octets[field::END..];
-    if behind.len() < len {
-        return Err(Error);
-    }
-    let type_ = Type::from(octets.u16_at(field::TYPE));
-    let data = RecordData::parse(type_, &behind[..len])?;
-    Ok((&behind[len..], octets.u32_at(field::TTL), data))
 }
 
 /// The data of a record.
@@ -77,11 +94,28 @@ pub enum RecordData<'a> {
 impl<'a> RecordData<'a> {
     /// The data of a record of this type. Refused where an IPv4 address has other than 4 bytes, or an IPv6 address
     /// other than 16.
-    pub fn parse(type_: Type, data: &'a [u8]) -> Result<RecordData<'a>> {
+    pub fn parse(type_: Type, data: &'a [u8]) -> crate::wirebase::Result<RecordData<'a>> {
+        match RecordData::read(type_, data) {
+            Ok(read) => Ok(read),
+            Err(_) => Err(Error),
+        }
+    }
+
+    /// Why [`RecordData::parse`] refuses these data of a type; None where it reads them.
+    pub fn refusal(type_: Type, data: &[u8]) -> Option<Refusal> {
+        match RecordData::read(type_, data) {
+            Ok(_) => None,
+            Err(why) => Some(why),
+        }
+    }
+
+    // The data of a record of this type, or the check that fails.
+    #[inline(always)]
+    fn read(type_: Type, data: &'a [u8]) -> Result<RecordData<'a>, Refusal> {
         match type_ {
             Type::A => {
                 if data.len() != 4 {
-                    return Err(Error);
+                    return Err(Refusal::AddressLength(data.len()));
                 }
                 Ok(RecordData::A(Ipv4Address::from_octets(
                     data.try_into().unwrap(),
@@ -89,7 +123,7 @@ impl<'a> RecordData<'a> {
             }
             Type::Aaaa => {
                 if data.len() != 16 {
-                    return Err(Error);
+                    return Err(Refusal::AddressLength(data.len()));
                 }
                 Ok(RecordData::Aaaa(Ipv6Address::from_octets(
                     data.try_into().unwrap(),

@@ -2,13 +2,10 @@
 //! Why octets are refused as a message (RFC 792).
 
 use super::packet::Packet;
-use super::repr::Repr;
+use super::repr::{QUOTED_HEADER_LEN, Repr};
 use super::tables::Message;
 use crate::wirebase::{ChecksumCapabilities, Ipv4Packet};
 use core::fmt;
-
-// The bytes of an IPv4 header without options.
-const IPV4_HEADER_LEN: usize = 20;
 
 /// Why [`Repr::parse`] refuses octets as a message: the first check that fails.
 #[derive(Debug, PartialEq, Eq, Clone, Copy)]
@@ -63,11 +60,15 @@ impl<'a> Repr<'a> {
         packet: &Packet<&B>,
         checksum_caps: &ChecksumCapabilities,
     ) -> Option<Refusal> {
-        Repr::parse_or_refusal(packet, checksum_caps).err()
+        match Repr::parse_or_refusal(packet, checksum_caps) {
+            Ok(_) => None,
+            Err(why) => Some(why),
+        }
     }
 }
 
-// The first check that fails in octets that are not read.
+// The first check that fails in octets that are not read. Apart from the reader, which took 133 instructions in place
+// of 115 for an echo where its result had room for a reason.
 fn why<B: AsRef<[u8]> + ?Sized>(
     packet: &Packet<&B>,
     checksum_caps: &ChecksumCapabilities,
@@ -88,7 +89,7 @@ fn why<B: AsRef<[u8]> + ?Sized>(
 // The first check that fails in what an error quotes.
 fn why_no_quote(octets: &[u8]) -> Refusal {
     let len = octets.len();
-    if len < IPV4_HEADER_LEN {
+    if len < QUOTED_HEADER_LEN {
         return Refusal::QuotedHeader;
     }
     let quoted = Ipv4Packet::new_unchecked(octets);

@@ -11,7 +11,7 @@ use crate::wirebase::{
 use core::fmt;
 
 // The bytes of a quoted header without options.
-const QUOTED_HEADER_LEN: usize = 20;
+pub(super) const QUOTED_HEADER_LEN: usize = 20;
 
 // The least number of bytes that an error quotes after the header.
 const MIN_QUOTED_DATA: usize = 8;

@@ -47,17 +47,15 @@ impl Repr {
     }
 }
 
-// The first check that fails in octets that are not read.
+// The first check that fails in octets that are not read. Apart from the reader, which took 40 instructions in place of
+// 23 where its result had room for a reason.
 fn why<B: AsRef<[u8]> + ?Sized>(packet: &Packet<&B>) -> Refusal {
     if packet.check_len().is_err() {
         return Refusal::Short;
     }
     match packet.msg_type() {
-        Message::MembershipQuery
-        | Message::MembershipReportV1
-        | Message::MembershipReportV2
-        | Message::LeaveGroup => Refusal::Group(packet.group_addr()),
-        other => Refusal::UnknownType(other.into()),
+        Message::Unknown(number) => Refusal::UnknownType(number),
+        _ => Refusal::Group(packet.group_addr()),
     }
 }
 

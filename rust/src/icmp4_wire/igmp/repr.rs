@@ -76,8 +76,7 @@ impl Repr {
         // Before the match, so that each value is made once it is known to be good: in the other order a host that
         // reads queries pays for a copy.
         let group_addr = packet.group_addr();
-        let allowed = is_group(group_addr);
-        if !allowed {
+        if !is_group(group_addr) {
             return Err(Error);
         }
         match packet.msg_type() {
@@ -202,7 +201,7 @@ fn put_message(w: &mut ByteWriter<'_>, message: Message, code: u8, group: Ipv4Ad
 
 // Whether a message may have this group: 0.0.0.0, for none, or a multicast address.
 #[inline]
-pub(super) fn is_group(address: Ipv4Address) -> bool {
+fn is_group(address: Ipv4Address) -> bool {
     address.is_unspecified() || address.is_multicast()
 }
 

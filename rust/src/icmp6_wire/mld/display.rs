@@ -2,7 +2,7 @@
 //! Messages and records printed, each in one line, octets in hexadecimal.
 
 use super::{AddressRecordRepr, Repr};
-use crate::opt_wire::digits::Digits;
+use crate::wirebase::text::HexOrDash;
 use core::fmt;
 
 /// Prints the message with its fields, as `MLD report nr_mcast_addr_rcrds=0 data=-`. A report given by its records has
@@ -34,7 +34,7 @@ impl fmt::Display for Repr<'_> {
                 nr_mcast_addr_rcrds,
                 data,
             } => {
-                let data = Digits(data);
+                let data = HexOrDash(data);
                 write!(
                     f,
                     "MLD report nr_mcast_addr_rcrds={nr_mcast_addr_rcrds} data={data}"
@@ -66,7 +66,7 @@ impl fmt::Display for Counts<'_> {
             self.qrv,
             self.qqic,
             self.num_srcs,
-            Digits(self.data)
+            HexOrDash(self.data)
         )
     }
 }
@@ -90,7 +90,7 @@ impl fmt::Display for AddressRecordRepr<'_> {
             mcast_addr,
             payload,
         } = *self;
-        let payload = Digits(payload);
+        let payload = HexOrDash(payload);
         write!(
             f,
             "MLD record record_type={record_type} aux_data_len={aux_data_len} num_srcs={num_srcs} \

@@ -2,8 +2,8 @@
 //! Messages printed, each in one line.
 
 use super::Repr;
-use crate::opt_wire::digits::Digits;
 use crate::opt_wire::ndiscoption::{PrefixInformation, RedirectedHeader};
+use crate::wirebase::text::HexOrDash;
 use crate::wirebase::{Duration, RawHardwareAddress};
 use core::fmt;
 
@@ -172,7 +172,7 @@ impl fmt::Display for Redirected<'_> {
             Some(packet) => {
                 let RedirectedHeader { header, data } = packet;
                 let payload_len = header.payload_len;
-                let data = Digits(data);
+                let data = HexOrDash(data);
                 write!(
                     f,
                     " redirected_hdr=({header} payload_len={payload_len} data={data})"

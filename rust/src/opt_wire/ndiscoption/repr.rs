@@ -2,9 +2,9 @@
 //! The values of options of neighbor discovery (RFC 4861 section 4.6).
 
 use super::{NdiscOption, PrefixInfoFlags, Type, field};
-use crate::opt_wire::digits::Digits;
 use crate::opt_wire::writing;
 use crate::opt_wire::writing::UNIT;
+use crate::wirebase::text::HexOrDash;
 use crate::wirebase::{
     ByteWriter, Duration, Error, Ipv6Address, Ipv6Packet, Ipv6Repr, OctetsMut, RawHardwareAddress,
     Result,
@@ -71,7 +71,7 @@ impl fmt::Display for RedirectedHeader<'_> {
             "RedirectedHeader header={} payload_len={} data={}",
             self.header,
             self.header.payload_len,
-            Digits(self.data)
+            HexOrDash(self.data)
         )
     }
 }
@@ -279,6 +279,6 @@ fn fmt_unknown(f: &mut fmt::Formatter<'_>, type_: u8, length: u8, data: &[u8]) -
     write!(
         f,
         "NDISC Option: Unknown({type_}) length={length} data={}",
-        Digits(data)
+        HexOrDash(data)
     )
 }

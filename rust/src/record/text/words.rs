@@ -4,6 +4,7 @@
 use crate::record::name::Name;
 use crate::record::name::text::write_piece;
 use crate::record::strings::TxtStrings;
+use crate::wirebase::text::Hex;
 use core::fmt;
 
 /// A name with its last dot; the root is a dot.
@@ -102,38 +103,7 @@ impl fmt::Display for Generic<'_> {
         if self.0.is_empty() {
             return Ok(());
         }
-        f.write_str(" ")?;
-        fmt_digits(f, self.0)
-    }
-}
-
-/// Bytes in hexadecimal, two digits each.
-#[derive(Clone, Copy)]
-pub(crate) struct Digits<'a>(pub(crate) &'a [u8]);
-
-impl fmt::Display for Digits<'_> {
-    fn fmt(&self, f: &mut fmt::Formatter<'_>) -> fmt::Result {
-        fmt_digits(f, self.0)
-    }
-}
-
-// Writes bytes as two hexadecimal digits each.
-fn fmt_digits(f: &mut fmt::Formatter<'_>, bytes: &[u8]) -> fmt::Result {
-    for byte in bytes {
-        write!(f, "{}", HexByte(*byte))?;
-    }
-    Ok(())
-}
-
-// A byte as two hexadecimal digits.
-#[derive(Clone, Copy)]
-struct HexByte(u8);
-
-impl fmt::Display for HexByte {
-    fn fmt(&self, f: &mut fmt::Formatter<'_>) -> fmt::Result {
-        let high = self.0 / 16;
-        let low = self.0 % 16;
-        write!(f, "{high:x}{low:x}")
+        write!(f, " {}", Hex(self.0))
     }
 }
 

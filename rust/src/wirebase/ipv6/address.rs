@@ -1,6 +1,7 @@
 // Made from crates/wirebase/src/ipv6/address.rt by rust/erase.
 //! IPv6 addresses (RFC 4291).
 
+use crate::wirebase::text::{ToFormatter, put_v6};
 use core::fmt;
 
 /// An IPv6 address, sixteen octets (RFC 4291 section 2).
@@ -84,6 +85,6 @@ pub const IPV6_LINK_LOCAL_ALL_ROUTERS: Ipv6Address = Ipv6Address {
 /// The groups in hexadecimal, as `fe80::1` (RFC 5952 section 4).
 impl fmt::Display for Ipv6Address {
     fn fmt(&self, f: &mut fmt::Formatter<'_>) -> fmt::Result {
-        write!(f, "{}", crate::by_hand::HexGroups(self.octets))
+        put_v6::<_, ToFormatter>(f, *self, None)
     }
 }

@@ -68,6 +68,6 @@ fn addresses_in_hexadecimal() {
 
 #[test]
 fn printing_an_address_fails_only_with_its_writer() {
-    takes_writes(&ADDRESS, 17);
-    takes_writes(&RawHardwareAddress::from(ADDRESS), 17);
+    takes_writes(&ADDRESS, 11);
+    takes_writes(&RawHardwareAddress::from(ADDRESS), 11);
 }

@@ -132,7 +132,7 @@ fn addresses_of_every_pattern_of_zero_groups() -> Result<(), Fail> {
 #[test]
 fn printing_a_header_fails_only_with_its_writer() {
     let header = quoted();
-    takes_writes(&header, 12);
+    takes_writes(&header, 8);
     prints(
         &header,
         "IPv6 src=fe80::1 dst=fe80::2 nxt_hdr=17 hop_limit=64",

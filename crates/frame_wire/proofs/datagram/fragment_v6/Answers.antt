@@ -1,10 +1,6 @@
 -- The header of a fragment is read, where the headers lead.
-use Rattle.std.proofs.Common.{rules, refl, arith, subst}
-use Rattle.std.proofs.lemmas.Grind.{common_steps}
-use Rattle.wirebase.specs.Bytes.{bytes_of}
-use Rattle.wirebase.specs.Ipv6.{dst_addr_field}
-use Rattle.wirebase.specs.Ipv6Address.{octets_of}
-use Rattle.frame_wire.specs.Datagram.{Passes, next_header_in}
+use Rattle.frame_wire.proofs.Words.{Passes, arith, bytes_of, common_steps, dst_addr_field, next_header_in, octets_of}
+use Rattle.frame_wire.proofs.Words.{refl, rules, subst}
 use Rattle.frame_wire.proofs.datagram.fragment_v6.Goals as goal
 
 pub returns : goal.returns

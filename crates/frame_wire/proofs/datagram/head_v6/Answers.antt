@@ -1,6 +1,5 @@
 -- The fixed header is read.
-use Rattle.std.proofs.Common.{rules, refl, arith}
-use Rattle.std.proofs.lemmas.Grind.{common_steps}
+use Rattle.frame_wire.proofs.Words.{arith, common_steps, refl, rules}
 use Rattle.frame_wire.proofs.datagram.head_v6.Goals as goal
 
 pub returns : goal.returns

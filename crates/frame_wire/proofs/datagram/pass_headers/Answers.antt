@@ -1,5 +1,5 @@
 -- Headers are passed, one after another.
-use Rattle.std.proofs.Common.{refl, inl}
+use Rattle.frame_wire.proofs.Words.{inl, refl}
 use Rattle.frame_wire.specs.Datagram.{here}
 use Rattle.frame_wire.proofs.Headers.{so_far-init, so_far-more}
 use Rattle.frame_wire.proofs.datagram.pass_headers.Goals as goal

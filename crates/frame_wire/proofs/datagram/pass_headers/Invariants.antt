@@ -1,6 +1,5 @@
 -- Some headers are passed.
-use Rattle.std.proofs.Common.{length}
-use Rattle.wirebase.specs.Ipv6Address.{octets_of}
+use Rattle.frame_wire.proofs.Words.{length, octets_of}
 use Rattle.frame_wire.proofs.Headers.{SoFar}
 use Rattle.frame_wire.proofs.datagram.pass_headers.Given as goal
 

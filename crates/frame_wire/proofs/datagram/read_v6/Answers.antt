@@ -1,10 +1,6 @@
 -- The fixed header is read, and what the others lead to.
-use Rattle.std.proofs.Common.{◌≡◌, rules, refl, arith, inl}
-use Rattle.std.proofs.lemmas.Grind.{common_steps}
-use Rattle.wirebase.specs.Bytes.{bytes_of}
-use Rattle.wirebase.specs.Ipv6.{dst_addr_field}
-use Rattle.wirebase.specs.Ipv6Address.{octets_of}
-use Rattle.frame_wire.specs.Datagram.{next_header_in}
+use Rattle.frame_wire.proofs.Words.{◌≡◌, arith, bytes_of, common_steps, dst_addr_field, inl, next_header_in, octets_of}
+use Rattle.frame_wire.proofs.Words.{refl, rules}
 use Rattle.frame_wire.proofs.Headers.{passes_at, options_at}
 use Rattle.frame_wire.proofs.Tags.{told_not}
 use Rattle.frame_wire.proofs.datagram.read_v6.Goals as goal

@@ -1,5 +1,5 @@
 -- The last type of the tags is that of what follows them.
-use Rattle.frame_wire.specs.Link.{typed_of}
+use Rattle.frame_wire.proofs.Words.{typed_of}
 use Rattle.frame_wire.proofs.Tags.{if_ok}
 use Rattle.frame_wire.proofs.link.read_typed.Goals as goal
 

@@ -1,7 +1,5 @@
 -- Tags are passed, one after another.
-use Rattle.std.proofs.Common.{take, ap, sym, subst, ◌∙◌}
-use Rattle.byteorder.specs.Endian.{big_number}
-use Rattle.frame_wire.specs.Link.{IsTagged}
+use Rattle.frame_wire.proofs.Words.{◌∙◌, IsTagged, ap, big_number, subst, sym, take}
 use Rattle.frame_wire.proofs.Tags.{so_far-init, so_far-more, so_far-last, cut_none, cut_here, part-behind, told}
 use Rattle.frame_wire.proofs.Tags.{told_not}
 use Rattle.frame_wire.proofs.link.untagged.Goals as goal

@@ -1,5 +1,5 @@
 -- This many bytes are tags.
-use Rattle.std.proofs.Common.{◌-◌, length}
+use Rattle.frame_wire.proofs.Words.{◌-◌, length}
 use Rattle.frame_wire.proofs.Tags.{SoFar}
 use Rattle.frame_wire.proofs.link.untagged.Given as goal
 

@@ -1,15 +1,9 @@
 -- The checksum is filled in, and replaced where it is 0.
-use Rattle.std.proofs.Common.{◌≡◌, ℕ, List, length, take_all, refl, sym, ap, ◌∙◌, arith, rules}
-use Rattle.std.proofs.lemmas.Grind.{common_steps}
-use Rattle.byteorder.specs.Endian.{big_bytes}
-use Rattle.wirebase.specs.Bytes.{number_of, splice}
-use Rattle.wirebase.specs.Checksum.{sealed}
-use Rattle.wirebase.specs.declared.ip.IpProtocol.TheVariants.{Udp}
+use Rattle.frame_wire.proofs.Words.{◌≡◌, ◌∙◌, IpProtocol, List, ℕ, ap, arith, big_bytes, checksum_field, common_steps}
+use Rattle.frame_wire.proofs.Words.{length, number_of, refl, rules, sealed, splice, sum_before, sym, take_all}
 use Rattle.wirebase.proofs.ChecksumSeals.{put_mid-splice}
 use Rattle.wirebase.proofs.Pieces.{append-drop_whole}
 use Rattle.wirebase.proofs.PseudoSeals.{sealed-fold}
-use Rattle.frame_wire.specs.Addresses.{sum_before}
-use Rattle.frame_wire.specs.Udp.{checksum_field}
 use Rattle.frame_wire.proofs.UdpSeals.{sealed-none, sealed-other}
 use Rattle.frame_wire.proofs.udp.seal.Goals as goal
 use Rattle.frame_wire.proofs.udp.seal.Goals.{then-u16_at-eq0, else-u16_at-eq0}
@@ -17,7 +11,7 @@ use Rattle.frame_wire.proofs.udp.seal.Goals.{then-u16_at-eq0, else-u16_at-eq0}
 pub returns : goal.returns
 returns c =
     let old = c.args.octets.now in
-    let extra = sum_before c.args.addresses.now Udp (length old) in
+    let extra = sum_before c.args.addresses.now IpProtocol.Udp (length old) in
     let left : c.fill.new.octets ≡ sealed checksum_field old extra =
     c.fill.ensures.sealed
     ∙ ap (λ (l : List ℕ). sealed checksum_field l c.sum_before-sum.result) (take_all (length old) old (omega arith))

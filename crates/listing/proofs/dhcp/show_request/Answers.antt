@@ -1,5 +1,5 @@
 -- The lines, one after another.
-use Rattle.std.proofs.Common.{sym}
+use Rattle.listing.proofs.Words.{sym}
 use Rattle.listing.proofs.Addresses.{identifier-text}
 use Rattle.listing.proofs.Printing.{◌then◌, gains_last}
 use Rattle.listing.proofs.dhcp.show_request.Goals as goal

@@ -1,12 +1,11 @@
 -- Each turn prints one option, and at the end all options of the header are printed.
-use Rattle.std.proofs.Common.{◌∙◌, arith}
-use Rattle.std.proofs.lemmas.List.{take_all}
+use Rattle.listing.proofs.Words.{◌∙◌, arith, take_all}
 use Rattle.opt_wire.specs.Ipv6Option.{value_of as option_value}
 use Rattle.opt_wire.specs.Ipv6Hbh.{value_of}
-use Rattle.opt_wire.specs.declared.ipv6option.Repr.TheVariants.{Pad1}
 use Rattle.listing.specs.ListingHbh.{option_listing}
 use Rattle.listing.proofs.Printing.{gains_both, listed, one_more_listed, refused_on_ok}
 use Rattle.listing.proofs.hbh.show_hbh.Goals as goal
+use Rattle.opt_wire.specs.declared.ipv6option.Repr.{Repr}
 
 pub returns-in_default : goal.returns-in_default
 returns-in_default g c =
@@ -14,7 +13,7 @@ returns-in_default g c =
 
 pub loop-option-preserved : goal.loop-option-preserved
 loop-option-preserved g c =
-    rw (one_more_listed option_value option_listing c.as_slice-option-items.result.now c.loop-option.option-index Pad1
+    rw (one_more_listed option_value option_listing c.as_slice-option-items.result.now c.loop-option.option-index Repr.Pad1
     (omega arith))
     (gains_both _ _ _ _ _ c.loop-option.invariant c.in_ok-show_option.ensures)
 

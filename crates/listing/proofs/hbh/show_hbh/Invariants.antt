@@ -1,9 +1,7 @@
 -- The lines of the options so far.
-use Rattle.std.proofs.Common.{take}
-use Rattle.std.specs.Prelude.{map}
+use Rattle.listing.proofs.Words.{Gains, map, take}
 use Rattle.opt_wire.specs.Ipv6Option.{value_of}
 use Rattle.listing.specs.ListingHbh.{options_listing}
-use Rattle.listing.specs.Output.{Gains}
 use Rattle.listing.proofs.hbh.show_hbh.Given as goal
 
 abbrev pub invariant-loop-option : goal.invariant-loop-option

@@ -1,8 +1,6 @@
 -- The address of the number's octets.
-use Rattle.std.proofs.Common.{◌≡◌, ap, ◌∙◌, codes, decimal}
-use Rattle.std.specs.List.{join_by}
+use Rattle.listing.proofs.Words.{◌≡◌, ◌∙◌, address_text, ap, codes, decimal, join_by, octets_of}
 use Rattle.wirebase.specs.ByteWriter.{be32}
-use Rattle.wirebase.specs.Ipv4.{address_text, octets_of}
 use Rattle.listing.proofs.Gateways.{address_joined}
 use Rattle.listing.proofs.icmp4_error.show_gateway.Goals as goal
 

@@ -1,5 +1,5 @@
 -- The error, with the fields of what it quotes.
-use Rattle.std.proofs.Common.{refl}
+use Rattle.listing.proofs.Words.{refl}
 use Rattle.quote_wire.specs.Icmpv6Error.{value_of}
 use Rattle.listing.specs.ListingIcmp6Error.{icmp6_error_listing, Icmp6ErrorPrints}
 use Rattle.listing.proofs.Printing.{gained_text}

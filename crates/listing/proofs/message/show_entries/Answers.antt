@@ -1,7 +1,6 @@
 -- Each turn prints an entry, up to the first that is not listed.
-use Rattle.std.proofs.Common.{Some, None, sym, ◌∙◌, inl, inr}
-use Rattle.dns_wire.specs.DnsPacket.{view_octets}
-use Rattle.record_wire.specs.Entries.{all_of, entry_of}
+use Rattle.listing.proofs.Words.{◌∙◌, None, Some, all_of, inl, inr, sym, view_octets}
+use Rattle.record_wire.specs.Entries.{entry_of}
 use Rattle.listing.specs.ListingMessage.{none_left}
 use Rattle.listing.proofs.Entries.{nothing_more, refused_next, one_listed, one_unread}
 use Rattle.listing.proofs.message.show_entries.Goals as goal

@@ -1,5 +1,5 @@
 -- The header, and then the entries.
-use Rattle.std.proofs.Common.{◌≤◌, [], length, refl, arith}
+use Rattle.listing.proofs.Words.{◌≤◌, [], arith, length, refl}
 use Rattle.listing.specs.ListingMessage.{has_no_header}
 use Rattle.listing.proofs.Entries.{message_printed}
 use Rattle.listing.proofs.Printing.{gains_none}

@@ -1,5 +1,5 @@
 -- Each turn prints a label, or how the walk ends.
-use Rattle.std.proofs.Common.{[], ◌++◌, refl, ap, sym, ◌∙◌, append_assoc}
+use Rattle.listing.proofs.Words.{[], ◌++◌, ◌∙◌, ap, append_assoc, refl, sym}
 use Rattle.listing.proofs.Printing.{gains_none, gains_both, gains_last}
 use Rattle.listing.proofs.Walking.{listing-label, fewer-label, listing-fault, listing-end}
 use Rattle.listing.proofs.name.show_labels.Goals as goal

@@ -1,7 +1,5 @@
 -- What is printed so far, and what the answers still to come print; each label takes one of these.
-use Rattle.std.proofs.Common.{◌≡◌, ℕ, List, ◌++◌, length}
-use Rattle.listing.specs.ListingDns.{answers_listing}
-use Rattle.listing.specs.Output.{Gains}
+use Rattle.listing.proofs.Words.{◌≡◌, ◌++◌, Gains, List, ℕ, answers_listing, length}
 use Rattle.listing.proofs.name.show_labels.Given as goal
 
 abbrev pub invariant-loop-label : goal.invariant-loop-label

@@ -1,7 +1,6 @@
 -- The first LF ends the line.
-use Rattle.std.proofs.Common.{arith, add-one, length}
-use Rattle.std.proofs.lemmas.Bool.{eqb-true, eq-eqb}
-use Rattle.std.proofs.lemmas.List.{take_all, drop_all}
+use Rattle.listing.proofs.Words.{add-one, arith, eq-eqb, eqb-true, length, take_all}
+use Rattle.std.proofs.lemmas.List.{drop_all}
 use Rattle.listing.proofs.Lines.{line_until, line_whole}
 use Rattle.listing.proofs.page.line_len.Goals as goal
 

@@ -1,5 +1,5 @@
 -- Each turn writes two spaces and a line.
-use Rattle.std.proofs.Common.{◌++◌, codes}
+use Rattle.listing.proofs.Words.{◌++◌, codes}
 use Rattle.listing.proofs.Lines.{one_line}
 use Rattle.listing.proofs.Printing.{gained, ◌then◌}
 use Rattle.listing.proofs.page.write_indented.Goals as goal

@@ -1,7 +1,5 @@
 -- The lines so far are written.
-use Rattle.std.proofs.Common.{◌≡◌, ℕ, List, ◌++◌, length}
-use Rattle.listing.specs.Indented.{indented}
-use Rattle.listing.specs.Output.{Gains}
+use Rattle.listing.proofs.Words.{◌≡◌, ◌++◌, Gains, List, ℕ, indented, length}
 use Rattle.listing.proofs.page.write_indented.Given as goal
 
 abbrev pub invariant-loop-rest : goal.invariant-loop-rest

@@ -1,6 +1,5 @@
 -- The name, the sign, and the line of the value.
-use Rattle.std.proofs.Common.{◌++◌, append_assoc, codes}
-use Rattle.listing.specs.Layout.{field, line}
+use Rattle.listing.proofs.Words.{◌++◌, append_assoc, codes, field, line}
 use Rattle.listing.proofs.Printing.{◌then◌, gained, gains_last}
 use Rattle.listing.proofs.printer.field.Goals as goal
 

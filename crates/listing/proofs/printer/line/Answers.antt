@@ -1,5 +1,5 @@
 -- The value, and then the line's end.
-use Rattle.listing.specs.Layout.{line}
+use Rattle.listing.proofs.Words.{line}
 use Rattle.listing.proofs.Printing.{gains_last, gained_on_ok}
 use Rattle.listing.proofs.printer.line.Goals as goal
 

@@ -1,5 +1,5 @@
 -- The part's name with its dot, and the field.
-use Rattle.listing.specs.Layout.{part_field}
+use Rattle.listing.proofs.Words.{part_field}
 use Rattle.listing.proofs.Printing.{gained, gains_last}
 use Rattle.listing.proofs.printer.part_field.Goals as goal
 

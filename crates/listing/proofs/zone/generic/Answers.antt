@@ -1,7 +1,7 @@
 -- The number of octets, and their digits where there are any.
-use Rattle.std.proofs.Common.{length, sym, ◌∙◌}
-use Rattle.std.proofs.lemmas.Bool.{eqb-true, eqb-false}
-use Rattle.listing.proofs.HexBytes.{generic_none, generic_some}
+use Rattle.listing.proofs.Words.{◌∙◌, eqb-true, length, sym}
+use Rattle.std.proofs.lemmas.Bool.{eqb-false}
+use Rattle.listing.proofs.ZoneTexts.{generic_none, generic_some}
 use Rattle.listing.proofs.Printing.{◌then◌, gains_last}
 use Rattle.listing.proofs.zone.generic.Goals as goal
 
@@ -14,5 +14,5 @@ returns-then-is_empty g c =
 pub returns : goal.returns
 returns g c =
     let some = eqb-false (length c.args.octets.now) 0 (sym c.is_empty.ensures ∙ c.if-is_empty.false) in
-    rw (generic_some c.args.octets.now some (λ k. (c.type_inv.octets k).fits))
+    rw (generic_some c.args.octets.now some)
     (gains_last _ _ _ (c.in_ok-word.ensures then c.in_ok-word-2.ensures) c.word-3.ensures)

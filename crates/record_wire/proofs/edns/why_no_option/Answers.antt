@@ -1,4 +1,4 @@
-use Rattle.std.proofs.Common.{arith}
+use Rattle.record_wire.proofs.Words.{arith}
 use Rattle.record_wire.proofs.EdnsTiles.{data_cut}
 use Rattle.record_wire.proofs.edns.why_no_option.Goals as goal
 

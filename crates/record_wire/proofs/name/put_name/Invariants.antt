@@ -1,4 +1,4 @@
-use Rattle.std.proofs.Common.{◌+◌, length}
+use Rattle.record_wire.proofs.Words.{◌+◌, length}
 use Rattle.record_wire.proofs.NameRefusals.{IsAt}
 use Rattle.record_wire.proofs.name.put_name.Given as goal
 

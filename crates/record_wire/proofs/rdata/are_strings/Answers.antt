@@ -1,5 +1,4 @@
-use Rattle.std.proofs.Common.{◌≤◌, length, sym, ◌∙◌, arith}
-use Rattle.std.proofs.lemmas.Bool.{eqb-false}
+use Rattle.record_wire.proofs.Words.{◌≤◌, ◌∙◌, arith, eqb-false, length, sym}
 use Rattle.record_wire.proofs.RDataParts.{strings_behind, no_string_first}
 use Rattle.record_wire.proofs.rdata.are_strings.Goals as goal
 

@@ -1,5 +1,4 @@
-use Rattle.std.proofs.Common.{length}
-use Rattle.record_wire.specs.RData.{AreStrings}
+use Rattle.record_wire.proofs.Words.{AreStrings, length}
 use Rattle.record_wire.proofs.rdata.are_strings.Given as goal
 
 abbrev pub invariant-loop-left : goal.invariant-loop-left

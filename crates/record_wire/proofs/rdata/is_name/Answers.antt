@@ -1,5 +1,4 @@
-use Rattle.std.proofs.Common.{[], length, ap, sym, ◌∙◌, eq-eqb}
-use Rattle.std.proofs.lemmas.Bool.{eqb-true}
+use Rattle.record_wire.proofs.Words.{[], ◌∙◌, ap, eq-eqb, eqb-true, length, sym}
 use Rattle.record_wire.proofs.RDataParts.{whole_split, split_whole}
 use Rattle.record_wire.proofs.rdata.is_name.Goals as goal
 

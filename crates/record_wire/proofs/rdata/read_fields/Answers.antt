@@ -1,5 +1,4 @@
-use Rattle.std.proofs.Common.{sym, ap, ◌∙◌}
-use Rattle.record_wire.specs.RData.{fields}
+use Rattle.record_wire.proofs.Words.{◌∙◌, ap, fields, sym}
 use Rattle.record_wire.proofs.rdata.read_fields.Goals as goal
 
 pub returns-in_err-read-clause-complete : goal.returns-in_err-read-clause-complete

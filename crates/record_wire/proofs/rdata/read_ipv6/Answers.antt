@@ -1,6 +1,5 @@
-use Rattle.std.proofs.Common.{◌≡◌, ap, sym, ◌∙◌, refl, rules}
+use Rattle.record_wire.proofs.Words.{◌≡◌, ◌∙◌, address6, ap, refl, rules, sym}
 use Rattle.wirebase.specs.Ipv6Address.{octets_of}
-use Rattle.record_wire.specs.RData.{address6}
 use Rattle.record_wire.proofs.rdata.read_ipv6.Goals as goal
 
 pub returns-clause-sound : goal.returns-clause-sound

@@ -1,7 +1,5 @@
-use Rattle.std.proofs.Common.{sym, ap, ◌∙◌, inl, inr}
-use Rattle.dns_wire.specs.DnsPart.{shown}
-use Rattle.record_wire.proofs.TornNames.{behind_label, split_pointer, split_end}
-use Rattle.record_wire.proofs.TornNames.{no_part_behind}
+use Rattle.record_wire.proofs.Words.{◌∙◌, ap, inl, inr, shown, sym}
+use Rattle.record_wire.proofs.TornNames.{behind_label, split_pointer, split_end, no_part_behind}
 use Rattle.record_wire.proofs.refusal.why_no_part.Goals as goal
 
 pub loop-rest-preserved : goal.loop-rest-preserved

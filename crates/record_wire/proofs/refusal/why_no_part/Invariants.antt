@@ -1,5 +1,4 @@
-use Rattle.std.proofs.Common.{length}
-use Rattle.record_wire.specs.RecordRefusal.{Behind}
+use Rattle.record_wire.proofs.Words.{Behind, length}
 use Rattle.record_wire.proofs.refusal.why_no_part.Given as goal
 
 abbrev pub invariant-loop-rest : goal.invariant-loop-rest

@@ -1,5 +1,4 @@
-use Rattle.std.proofs.Common.{◌≤◌, length, sym, ◌∙◌, inl, inr, arith}
-use Rattle.std.proofs.lemmas.Bool.{eqb-false}
+use Rattle.record_wire.proofs.Words.{◌≤◌, ◌∙◌, arith, eqb-false, inl, inr, length, sym}
 use Rattle.record_wire.proofs.TornNames.{torn_cut, no_part_cut, no_part_type}
 use Rattle.record_wire.proofs.refusal.why_torn.Goals as goal
 

@@ -101,7 +101,7 @@ fn views_in_words(rt: HostRuntime) {
 
 #[test]
 fn printing_fails_only_with_its_writer(rt: HostRuntime) {
-    const ROWS: &[(&[u8], u32)] = &[(&MTU, 2), (&PREFIX, 22), (&UNKNOWN, 17), (&[], 3)];
+    const ROWS: &[(&[u8], u32)] = &[(&MTU, 2), (&PREFIX, 20), (&UNKNOWN, 6), (&[], 3)];
     for &(bytes, calls) in ROWS {
         takes_writes(&rt, &NdiscOption::new_unchecked(bytes), calls);
     }

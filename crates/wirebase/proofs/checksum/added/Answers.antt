@@ -1,4 +1,4 @@
-use Rattle.std.proofs.Common.{refl, sym, ◌∙◌}
+use Rattle.wirebase.proofs.Words.{◌∙◌, refl, sym}
 use Rattle.wirebase.proofs.ChecksumSums.{fold_small, fold-carry, carry_small}
 use Rattle.wirebase.proofs.checksum.added.Goals as goal
 

@@ -1,4 +1,4 @@
-use Rattle.std.proofs.Common.{◌^◌, refl}
+use Rattle.wirebase.proofs.Words.{◌^◌, refl}
 use Rattle.wirebase.proofs.ChecksumSums.{fold-carry}
 use Rattle.wirebase.proofs.checksum.added_32.Goals as goal
 

@@ -1,5 +1,4 @@
-use Rattle.std.proofs.Common.{List, ℕ, refl, ap, ◌∙◌}
-use Rattle.wirebase.specs.Checksum.{word_sum, fold}
+use Rattle.wirebase.proofs.Words.{◌∙◌, List, ℕ, ap, fold, refl, word_sum}
 use Rattle.wirebase.specs.Ipv4.{pseudo_sum}
 use Rattle.wirebase.proofs.Ipv4Header.{over-pseudo}
 use Rattle.wirebase.proofs.checksum.pseudo_header_v4.Goals as goal

@@ -1,5 +1,4 @@
-use Rattle.std.proofs.Common.{rules, ◌%◌}
-use Rattle.wirebase.specs.ByteWriter.{Puts}
+use Rattle.wirebase.proofs.Words.{◌%◌, Puts, rules}
 use Rattle.wirebase.specs.Ipv4.{pseudo_fields}
 use Rattle.wirebase.proofs.Chains.{over-puts}
 use Rattle.wirebase.proofs.Ipv4Header.{pseudo-low}

@@ -1,6 +1,4 @@
-use Rattle.std.proofs.Common.{rules}
-use Rattle.wirebase.specs.ByteWriter.{Puts}
-use Rattle.wirebase.specs.Ipv6.{pseudo_fields}
+use Rattle.wirebase.proofs.Words.{Puts, pseudo_fields, rules}
 use Rattle.wirebase.proofs.Chains.{over-puts}
 use Rattle.wirebase.proofs.checksum.write_pseudo_header_v6.Goals as goal
 

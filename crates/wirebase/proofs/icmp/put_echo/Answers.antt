@@ -1,8 +1,6 @@
 -- Identifier and sequence number are written as the four bytes after the checksum.
-use Rattle.std.proofs.Common.{rules, ◌≡◌, ℕ, List, [], ◌∷◌, slice_index, refl, sym, ap, ◌∙◌}
-use Rattle.byteorder.specs.Endian.{big_bytes}
-use Rattle.wirebase.specs.ByteWriter.{Puts, sheet, put, fields, be8, be16}
-use Rattle.wirebase.specs.Icmp.{echo_fields}
+use Rattle.wirebase.proofs.Words.{◌≡◌, [], ◌∷◌, ◌∙◌, List, Puts, ℕ, ap, be16, be8, big_bytes, echo_fields, fields, put}
+use Rattle.wirebase.proofs.Words.{refl, rules, sheet, slice_index, sym}
 use Rattle.wirebase.proofs.Chains.{put-fields}
 use Rattle.wirebase.proofs.icmp.put_echo.Goals as goal
 

@@ -1,8 +1,7 @@
 -- The number has the bytes of the fields.
-use Rattle.std.proofs.Common.{rules, ◌≡◌, ◌<◌, ℕ, zero, suc, List, [], ◌∷◌, length, refl, sym, ap, ◌∙◌, arith}
+use Rattle.wirebase.proofs.Words.{◌≡◌, ◌<◌, [], ◌∷◌, ◌∙◌, IsBytes, List, ℕ, ap, arith, be16, be8, fields, length, put}
+use Rattle.wirebase.proofs.Words.{refl, rules, sheet, suc, sym, zero}
 use Rattle.std.proofs.lemmas.Nat.{be_bytes_8}
-use Rattle.wirebase.specs.Bytes.{IsBytes}
-use Rattle.wirebase.specs.ByteWriter.{sheet, put, fields, be8, be16}
 use Rattle.wirebase.proofs.Chains.{put-fields}
 use Rattle.wirebase.proofs.icmp.put_header.Goals as goal
 

@@ -3,6 +3,7 @@
 
 use crate::calendar::{Date, date_of};
 use crate::time::Time;
+use control_wire::inside::text::{Sink, ToFormatter, TwoDigits, nine_digits};
 use std::fmt;
 
 const DAY_SECONDS: u64 = 86_400;
@@ -42,18 +43,6 @@ impl fmt::Display for Clock {
     }
 }
 
-// The last two digits of a number.
-#[derive(Clone, Copy)]
-struct TwoDigits(u64);
-
-impl fmt::Display for TwoDigits {
-    fn fmt(&self, f: &mut fmt::Formatter<'_>) -> fmt::Result {
-        let tens = self.0 / 10 % 10;
-        let ones = self.0 % 10;
-        write!(f, "{tens}{ones}")
-    }
-}
-
 // The first digits of nanoseconds after a point, or nothing where there are none.
 #[derive(Clone, Copy)]
 struct Fraction {
@@ -66,36 +55,13 @@ impl fmt::Display for Fraction {
         if self.digits == 0 {
             return Ok(());
         }
-        let all = nine_digits(self.nanoseconds);
-        write!(f, ".")?;
-        fmt_digits(f, first_digits(&all, self.digits))
+        let all = nine_digits(u64::from(self.nanoseconds));
+        f.write_str(".")?;
+        ToFormatter::put(f, first_digits(&all, self.digits))
     }
-}
-
-// The digits of a number of nanoseconds.
-fn nine_digits(nanoseconds: u32) -> [u8; 9] {
-    [
-        (nanoseconds / 100_000_000 % 10) as u8,
-        (nanoseconds / 10_000_000 % 10) as u8,
-        (nanoseconds / 1_000_000 % 10) as u8,
-        (nanoseconds / 100_000 % 10) as u8,
-        (nanoseconds / 10_000 % 10) as u8,
-        (nanoseconds / 1_000 % 10) as u8,
-        (nanoseconds / 100 % 10) as u8,
-        (nanoseconds / 10 % 10) as u8,
-        (nanoseconds % 10) as u8,
-    ]
 }
 
 // The first of nine digits, this many, or all where that is more.
 fn first_digits(all: &[u8; 9], count: u8) -> &[u8] {
     &all[..(count as usize).min(9)]
-}
-
-// Prints digits one after another.
-fn fmt_digits(f: &mut fmt::Formatter<'_>, digits: &[u8]) -> fmt::Result {
-    for digit in digits {
-        write!(f, "{digit}")?;
-    }
-    Ok(())
 }

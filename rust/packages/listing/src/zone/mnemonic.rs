@@ -1,8 +1,9 @@
 // Made from crates/listing/src/zone/mnemonic.rt by rust/erase.
 //! The names of types and classes.
 
-use crate::number::write_number;
+use crate::output::ToWriter;
 use control_wire::dns::Type;
+use control_wire::inside::text::put_number;
 use control_wire::record::classes;
 use rattle_std::io;
 use rattle_std::io::Write;
@@ -30,5 +31,5 @@ fn put_word<W: Write>(output: &mut W, text: &str) -> io::Result<()> {
 
 fn put_numbered<W: Write>(output: &mut W, text: &str, number: u16) -> io::Result<()> {
     put_word(output, text)?;
-    write_number(output, u64::from(number))
+    put_number::<_, ToWriter>(output, u64::from(number))
 }

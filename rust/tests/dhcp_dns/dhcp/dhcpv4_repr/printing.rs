@@ -95,8 +95,8 @@ fn types_operations_and_options() {
 #[test]
 fn printing_fails_only_with_its_writer() {
     let mut repr = bare(MessageType::Nak);
-    takes_writes(&repr, 58);
+    takes_writes(&repr, 28);
     repr.max_size = Some(576);
     repr.parameter_request_list = Some(&[1, 3, 42]);
-    takes_writes(&repr, 68);
+    takes_writes(&repr, 38);
 }

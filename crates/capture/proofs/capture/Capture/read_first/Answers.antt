@@ -12,7 +12,7 @@ returns-then-begins_section-clause-gives g c =
     if_ok _ _ c.read_block.result
     (λ s t all none.
     let reads = first_reads all _ _ _ _ 4 c.requires.empty none c.in_ok-read_onto.ensures.fills in
-    first_gives _ all _ _ _ c.requires.start
+    first_gives _ all _ c.requires.start
     (subst IsSectionKind (c.as_slice.ensures.value ∙ reads.front)
     (told _ c.begins_section.ensures c.if-begins_section.true)) s (t all 4 (omega arith) reads))
     c.read_block.ensures.gives
@@ -21,7 +21,7 @@ pub returns-in-Ok-clause-gives : goal.returns-in-Ok-clause-gives
 returns-in-Ok-clause-gives g c all none =
     let reads = first_reads all _ _ _ _ 4 c.requires.empty none c.in_ok-read_onto.ensures.fills in
     let more = fills_reads all _ _ _ _ 4 24 (omega arith) reads c.in_ok-read_onto-2.ensures.fills in
-    file_gives _ all _ _ _ c.in-Ok.header c.requires.start refl more
+    file_gives _ all _ c.in-Ok.header c.requires.start refl more
     (subst (λ l. IsFileHeader l c.in-Ok.header) c.as_slice-2.ensures.value c.in-Ok.ensures.sound)
 
 pub returns-in-Err-clause-gives : goal.returns-in-Err-clause-gives

@@ -9,12 +9,12 @@ use Rattle.capture.proofs.capture.Capture.read_step.Goals as goal
 pub returns-in-File-clause-gives : goal.returns-in-File-clause-gives
 returns-in-File-clause-gives g c =
     if_ok _ _ c.read_record.result
-    (λ s t all none. record_gives (state_of c.args.self.now) all _ (state_of c.read_record.new.self) _ c.in-File.header
+    (λ s t all none. record_gives (state_of c.args.self.now) all _ c.in-File.header
     c.in-File.is (ap State.stage c.read_record.ensures.state ∙ c.in-File.is) s (t all none)) c.read_record.ensures.gives
 
 pub returns-in-Section-clause-gives : goal.returns-in-Section-clause-gives
 returns-in-Section-clause-gives g c =
     if_ok _ _ c.read_block.result
-    (λ s t all none. block_gives _ all _ _ _ c.in-Section.section c.in-Section.is s
+    (λ s t all none. block_gives _ all _ c.in-Section.section c.in-Section.is s
     (t all 0 (omega arith) (subst (λ l. Reads all (g.R.Read.remaining c.args.input.now) l 0)
     (sym c.clear.ensures.items) none))) c.read_block.ensures.gives

@@ -3,7 +3,7 @@ use Rattle.std.proofs.Common.{◌+◌, ◌*◌, ◌<◌, pos, refl, ap, sym, sub
 use Rattle.std.proofs.lemmas.Int.{to_z-of_z}
 use Rattle.std.specs.Int.{w64, cast_signed}
 use Rattle.capture.specs.Time.{IsTime, nanos_of, moved}
-use Rattle.capture.specs.declared.time.Time.{Time}
+use Rattle.capture.specs.Types.{Time}
 use Rattle.capture.proofs.time.Time.moved.Goals as goal
 
 stays : (t : Time) → t.seconds < 18446744073709551616 → t.nanoseconds < 1000000000

@@ -1,14 +1,13 @@
-use Rattle.std.proofs.Common.{◌≡◌, ◌<◌, ◌≤◌, ◌-◌, ◌++◌, ◌+◌, ℕ, length, flat_map, sym, ap, ◌∙◌, arith}
+use Rattle.std.proofs.Common.{◌≡◌, ◌<◌, ◌≤◌, ◌-◌, ◌++◌, ◌+◌, ℕ, length, take, sym, ap, ◌∙◌, arith}
 use Rattle.std.proofs.lemmas.Bool.{eqb-true, eqb-false}
-use Rattle.wirebase.specs.Ipv4.{octets_of}
-use Rattle.dhcp_wire.specs.Dhcpv4.{whole_addresses}
+use Rattle.dhcp_wire.specs.Dhcpv4OptionValue.{addresses_in}
 use Rattle.dhcp_wire.proofs.Dhcpv4Addresses.{taken-more, taken-short, taken-full}
 use Rattle.dhcp_wire.proofs.dhcpv4.options_seen.addresses.Goals as goal
 
 pub returns-in_default : goal.returns-in_default
 returns-in_default c =
-    taken-short c.loop-rest.addresses.items (5 - length c.loop-rest.addresses.items) c.loop-rest.rest.now
-    (whole_addresses 5 c.args.data.now) c.in_default.ensures.cases c.loop-rest.invariant.kept
+    taken-short c.loop-rest.addresses.items (take 5 (addresses_in c.args.data.now))
+    (5 - length c.loop-rest.addresses.items) c.loop-rest.rest.now c.in_default.ensures.cases c.loop-rest.invariant.kept
 
 pub loop-rest-preserved : goal.loop-rest-preserved
 loop-rest-preserved c =
@@ -22,14 +21,14 @@ loop-rest-preserved c =
     let len : length c.push.new.self.items ≡ length items + 1 = c.push.ensures.len in
     record {
       few = omega (arith, len);
-      kept = ap (λ (n : ℕ). flat_map octets_of c.push.new.self.items ++ whole_addresses (5 - n) after) len
+      kept = ap (λ (n : ℕ). c.push.new.self.items ++ take (5 - n) (addresses_in after)) len
           ∙ taken-more items c.push.new.self.items c.from_octets.result c.loop-rest.rest.now after
-          (whole_addresses 5 c.args.data.now) room c.push.ensures.items long
+          (take 5 (addresses_in c.args.data.now)) room c.push.ensures.items long
           (c.from_octets.ensures.value ∙ c.in-Some.ensures.cases.0)
           c.in-Some.ensures.cases.1 c.loop-rest.invariant.kept;
     }
 
 pub returns : goal.returns
 returns c =
-    taken-full c.loop-rest.addresses.items c.loop-rest.rest.now (whole_addresses 5 c.args.data.now)
+    taken-full c.loop-rest.addresses.items (take 5 (addresses_in c.args.data.now)) c.loop-rest.rest.now
     (eqb-true (length c.loop-rest.addresses.items) 5 (sym c.loop-rest-test.ensures.value)) c.loop-rest.invariant.kept

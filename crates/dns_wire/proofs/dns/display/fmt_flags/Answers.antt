@@ -1,10 +1,8 @@
-use Rattle.std.proofs.Common.{rules, ◌≡◌, ◌<◌, ◌≤◌, ◌-◌, ℕ, List, [], ◌∷◌, ◌++◌, Bor, refl, sym, ap, ◌∙◌, subst, arith}
-use Rattle.std.proofs.Common.{append_assoc, bit_and, codes, map, length, take, drop, get_or}
-use Rattle.std.proofs.lemmas.Bool.{ne_eqb}
+use Rattle.dns_wire.proofs.Words.{◌≡◌, ◌<◌, ◌≤◌, ◌-◌, [], ◌∷◌, ◌++◌, ◌∙◌, Bor, List, ℕ, ap, append_assoc, arith, codes}
+use Rattle.dns_wire.proofs.Words.{drop, get_or, length, map, names_set, ne_eqb, refl, rules, subst, sym, take, take_all}
+use Rattle.std.proofs.Common.{bit_and}
 use Rattle.std.proofs.lemmas.Grind.{put_two}
-use Rattle.std.proofs.lemmas.List.{take_all}
 use native.Mathlib.Numerals.{unary_clauses}
-use Rattle.dns_wire.specs.DnsDisplay.{names_set}
 use Rattle.dns_wire.proofs.dns.display.fmt_flags.Goals as goal
 
 abbrev rows : List (Bor (List ℕ) × ℕ) → List (List ℕ × ℕ)

@@ -1,9 +1,8 @@
 -- The text printed so far, and the text that the flags still to come print after it.
-use Rattle.std.proofs.Common.{◌≡◌, ℕ, List, [], ◌++◌, codes, map, length}
+use Rattle.dns_wire.proofs.Words.{◌≡◌, [], ◌++◌, List, ℕ, codes, length, map, names_set}
 use denote.Text.{Utf8}
 use denote.Shadow.{shadow}
 use Rattle.std.specs.Fmt.{HasWritten, IsPlainFormatter}
-use Rattle.dns_wire.specs.DnsDisplay.{names_set}
 use Rattle.dns_wire.proofs.dns.display.fmt_flags.Given as goal
 
 abbrev pub invariant-loop-left : goal.invariant-loop-left

@@ -1,16 +1,10 @@
-use Rattle.std.proofs.Common.{◌≡◌, length}
-use Rattle.dns_wire.proofs.DnsPartLen.{begins_split, split_begins, split_at}
+use Rattle.dns_wire.proofs.DnsSplit.{split_one}
+use Rattle.dns_wire.proofs.DnsNameBreaks.{no_split}
 use Rattle.dns_wire.proofs.dns.part.split_name.Goals as goal
 
-pub returns-in_err-len-clause-complete : goal.returns-in_err-len-clause-complete
-returns-in_err-len-clause-complete c = λ name rest split.
-    let e = c.in_err-len.ensures.complete (length name) (split_begins c.args.text.now name rest split) in cc
+pub returns-in-Ok-clause-complete : goal.returns-in-Ok-clause-complete
+returns-in-Ok-clause-complete c name rest is = split_one c.args.text.now _ name _ rest c.in-Ok.ensures.sound is
 
-pub returns-clause-sound : goal.returns-clause-sound
-returns-clause-sound c = begins_split c.args.text.now c.in_ok-len.len c.in_ok-len.ensures.sound
-
-pub returns-clause-complete : goal.returns-clause-complete
-returns-clause-complete c = λ name rest split.
-    let e = c.in_ok-len.ensures.complete (length name) (split_begins c.args.text.now name rest split) in
-    let long : c.in_ok-len.len ≡ length name = cc in
-    split_at c.args.text.now name rest c.in_ok-len.len split long
+pub returns-in-Err-clause-complete : goal.returns-in-Err-clause-complete
+returns-in-Err-clause-complete c name rest is =
+    absurd (no_split c.args.text.now _ c.in-Err.ensures.told name rest is)

@@ -1,6 +1,6 @@
 -- The number that is written for two numbers has their bytes.
-use Rattle.std.proofs.Common.{◌≡◌, ℕ, ◌+◌, ◌*◌, ◌/◌, ◌%◌, ◌<◌, ◌^◌, [], ◌∷◌, sym, ap, ◌∙◌, arith}
-use Rattle.wirebase.specs.ByteWriter.{sheet, put, fields, be16, be32}
+use Rattle.dns_wire.proofs.Words.{◌≡◌, ◌+◌, ◌*◌, ◌/◌, ◌%◌, ◌<◌, ◌^◌, [], ◌∷◌, ◌∙◌, ℕ, ap, arith, be16, fields, sym}
+use Rattle.wirebase.specs.ByteWriter.{sheet, put, be32}
 use Rattle.wirebase.proofs.Chains.{put-fields}
 use Rattle.dns_wire.proofs.dns.question.put_pair.Goals as goal
 

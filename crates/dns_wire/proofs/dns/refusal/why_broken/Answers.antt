@@ -1,5 +1,4 @@
-use Rattle.std.proofs.Common.{refl}
-use Rattle.dns_wire.specs.declared.dns.refusal.NameRefusal.TheVariants.{Pointer}
+use Rattle.dns_wire.proofs.Words.{NameRefusal, refl}
 use Rattle.dns_wire.proofs.DnsNameRoutes.{Ends}
 use Rattle.dns_wire.proofs.DnsNameBreaks.{BreaksFor, breaks_label, ends_label, route_pointer, ends_here, breaks_torn}
 use Rattle.dns_wire.proofs.DnsNameBreaks.{breaks_far, route_breaks, route_names, breaks_unnamed}
@@ -33,7 +32,7 @@ loop-rest-preserved c =
 pub returns-in_default-clause-told : goal.returns-in_default-clause-told
 returns-in_default-clause-told c =
     let place = c.in-Pointer.place in
-    route_breaks c.args.text.now c.args.message.now (Pointer place) (c.loop-rest.invariant.breaks (Pointer place)
+    route_breaks c.args.text.now c.args.message.now (NameRefusal.Pointer place) (c.loop-rest.invariant.breaks (NameRefusal.Pointer place)
     (breaks_far c.loop-rest.left.now c.loop-rest.reach.now place c.in-Pointer.ensures
     (c.follow.ensures.none c.in_default.is)))
 
@@ -41,8 +40,8 @@ pub returns-in_default-clause-exact : goal.returns-in_default-clause-exact
 returns-in_default-clause-exact c =
     let place = c.in-Pointer.place in (
       λ e. cc,
-      λ named. absurd (breaks_unnamed c.args.text.now c.args.message.now (Pointer place)
-          (c.loop-rest.invariant.breaks (Pointer place)
+      λ named. absurd (breaks_unnamed c.args.text.now c.args.message.now (NameRefusal.Pointer place)
+          (c.loop-rest.invariant.breaks (NameRefusal.Pointer place)
           (breaks_far c.loop-rest.left.now c.loop-rest.reach.now place c.in-Pointer.ensures
           (c.follow.ensures.none c.in_default.is))) named),
     )

@@ -1,5 +1,4 @@
-use Rattle.std.proofs.Common.{◌+◌, length}
-use Rattle.dns_wire.specs.declared.dns.refusal.NameRefusal.{NameRefusal}
+use Rattle.dns_wire.proofs.Words.{◌+◌, NameRefusal, length}
 use Rattle.dns_wire.proofs.DnsNameRoutes.{Ends, Some_route}
 use Rattle.dns_wire.proofs.DnsNameBreaks.{BreaksFor}
 use Rattle.dns_wire.proofs.dns.refusal.why_broken.Given as goal

@@ -1,8 +1,6 @@
 -- A datagram that is cut lacks what its own length has more.
-use Rattle.std.proofs.Common.{◌≡◌, rules, refl, arith, subst}
-use Rattle.std.proofs.lemmas.Grind.{common_steps}
+use Rattle.frame_wire.proofs.Words.{◌≡◌, arith, common_steps, cut, refl, rules, subst}
 use Rattle.wirebase.specs.Ipv6.{payload_len_in}
-use Rattle.frame_wire.specs.Captured.{cut}
 use Rattle.frame_wire.specs.Datagram.{IsHeaded6, value_of}
 use Rattle.frame_wire.proofs.datagram.captured.cut_v6.Goals as goal
 

@@ -1,6 +1,5 @@
 -- A frame of each link is read.
-use Rattle.std.proofs.Common.{refl, sym, subst}
-use Rattle.frame_wire.specs.Link.{value_of}
+use Rattle.frame_wire.proofs.Words.{refl, subst, sym, value_of}
 use Rattle.frame_wire.specs.LinkRefusal.{IsRead}
 use Rattle.frame_wire.proofs.link.Link.refusal.Goals as goal
 

@@ -1,8 +1,6 @@
 -- The data of a session is read.
-use Rattle.std.proofs.Common.{◌≡◌, [], refl, rules, arith, subst}
-use Rattle.std.proofs.lemmas.Grind.{common_steps}
-use Rattle.wirebase.specs.Bytes.{field, number_of}
-use Rattle.frame_wire.specs.Link.{IsProtocol, value_of}
+use Rattle.frame_wire.proofs.Words.{◌≡◌, [], arith, common_steps, field, number_of, refl, rules, subst, value_of}
+use Rattle.frame_wire.specs.Link.{IsProtocol}
 use Rattle.frame_wire.proofs.link.refusal.why_no_session.Goals as goal
 
 pub returns-in-Ok-clause-exact : goal.returns-in-Ok-clause-exact

@@ -1,6 +1,5 @@
 -- A frame is read, or the protocol of its session is cut.
-use Rattle.std.proofs.Common.{refl}
-use Rattle.frame_wire.specs.Link.{typed_of, value_of}
+use Rattle.frame_wire.proofs.Words.{refl, typed_of, value_of}
 use Rattle.frame_wire.proofs.Witnesses.{number_of_two, typed_read, typed_cut}
 use Rattle.frame_wire.proofs.link.refusal.why_not_typed.Goals as goal
 

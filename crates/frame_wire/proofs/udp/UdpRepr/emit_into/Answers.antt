@@ -1,5 +1,5 @@
 -- The datagram is at the start, with its checksum or without.
-use Rattle.std.proofs.Common.{sym, ◌∙◌}
+use Rattle.frame_wire.proofs.Words.{◌∙◌, sym}
 use Rattle.frame_wire.proofs.UdpFormat.{sealed_emits, unsealed_emits}
 use Rattle.frame_wire.proofs.udp.UdpRepr.emit_into.Goals as goal
 

@@ -1,10 +1,7 @@
 -- What was read is written, and read again.
-use Rattle.wirebase.specs.Bytes.{bytes_of}
+use Rattle.frame_wire.proofs.Words.{UdpRepr, bytes_of, format, payload_field, refl, view_octets}
 use Rattle.wirebase.proofs.Format.{all_rewrites}
-use Rattle.std.proofs.Common.{refl}
-use Rattle.frame_wire.specs.Udp.{payload_field, view_octets}
-use Rattle.frame_wire.specs.UdpText.{value_of, format}
-use Rattle.frame_wire.specs.declared.udp.UdpRepr.{UdpRepr}
+use Rattle.frame_wire.specs.UdpText.{value_of}
 use Rattle.frame_wire.proofs.Tags.{if_ok}
 use Rattle.frame_wire.proofs.UdpFormat.{udp_format}
 use Rattle.frame_wire.proofs.udp.UdpRepr.parse.Goals as goal

@@ -1,8 +1,6 @@
 -- The ports are read where no checksum is verified, and where it holds.
-use Rattle.std.proofs.Common.{◌≢◌, refl, rules, arith}
-use Rattle.std.proofs.lemmas.Grind.{common_steps}
-use Rattle.wirebase.specs.Bytes.{number_of}
-use Rattle.frame_wire.specs.Udp.{BeginsWhole, dst_port_field, view_octets}
+use Rattle.frame_wire.proofs.Words.{◌≢◌, BeginsWhole, arith, common_steps, dst_port_field, number_of, refl, rules}
+use Rattle.frame_wire.proofs.Words.{view_octets}
 use Rattle.frame_wire.proofs.Tags.{told}
 use Rattle.frame_wire.proofs.Witnesses.{ports_read, unasked}
 use Rattle.frame_wire.proofs.udp.UdpRepr.refusal.Goals as goal

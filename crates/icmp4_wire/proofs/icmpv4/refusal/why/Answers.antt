@@ -1,20 +1,26 @@
-use Rattle.std.proofs.Common.{◌∙◌, sym, subst, rules}
-use Rattle.icmp4_wire.specs.Icmpv4.{view_octets}
-use Rattle.icmp4_wire.specs.Icmpv4Refusal.{IsWholeQuote}
-use Rattle.icmp4_wire.proofs.Icmpv4Refusals.{echo-code, no-quote}
+use Rattle.std.proofs.Common.{List, ℕ, inr, subst, rules}
+use Rattle.wirebase.specs.Checks.{Passes}
+use Rattle.icmp4_wire.specs.Icmpv4.{view_octets, quote_checks}
+use Rattle.icmp4_wire.proofs.Icmpv4Grammar.{passes_read, error_passes, echo_fails}
 use Rattle.icmp4_wire.proofs.icmpv4.refusal.why.Goals as goal
 
 pub why_no_quote-requires : goal.why_no_quote-requires
 why_no_quote-requires c = λ q.
-    no-quote c.args.checksum_caps.now (view_octets c.args.packet.now) c.requires (search rules) (search rules)
-    (subst IsWholeQuote c.data.ensures q)
+    let bytes = view_octets c.args.packet.now in
+    let quote = subst (λ (l : List ℕ). Passes (quote_checks l)) c.data.ensures q in
+    c.requires
+    (passes_read c.args.checksum_caps.now bytes
+    (search rules, (search rules, error_passes bytes (search rules) quote)))
 
 pub returns-in-EchoRequest : goal.returns-in-EchoRequest
-returns-in-EchoRequest c = (
-  search rules,
-  search rules,
-  c.msg_code.ensures,
-  λ zero.
-      echo-code c.args.checksum_caps.now (view_octets c.args.packet.now) c.requires (search rules) (search rules)
-      (sym c.msg_code.ensures ∙ zero),
-)
+returns-in-EchoRequest c =
+    let bytes = view_octets c.args.packet.now in
+    inr (
+      search rules,
+      inr (
+        search rules,
+        echo_fails bytes c.msg_code.result c.msg_code.ensures
+            (λ p. c.requires (passes_read c.args.checksum_caps.now bytes (search rules, (search rules, p))))
+            (search rules),
+      ),
+    )

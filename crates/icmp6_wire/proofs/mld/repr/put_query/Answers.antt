@@ -1,5 +1,5 @@
 use Rattle.std.proofs.Common.{rules, ◌≡◌, ◌+◌}
-use Rattle.wirebase.specs.ByteWriter.{be8, be16, fields}
+use Rattle.icmp6_wire.specs.Words.{be8, be16, fields}
 use Rattle.opt_wire.proofs.FieldsAtOnce.{puts-then, puts-fields}
 use Rattle.icmp6_wire.specs.Mld.{sqrv}
 use Rattle.icmp6_wire.proofs.mld.repr.put_query.Goals as goal

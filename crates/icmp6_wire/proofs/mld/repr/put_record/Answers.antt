@@ -1,5 +1,5 @@
 use Rattle.std.proofs.Common.{refl, sym, ap, ◌∙◌, length}
-use Rattle.wirebase.specs.ByteWriter.{sheet, put}
+use Rattle.icmp6_wire.specs.Words.{sheet, put}
 use Rattle.icmp6_wire.specs.MldRecord.{value_of}
 use Rattle.icmp6_wire.proofs.MldRecords.{length-text, over-record_whole}
 use Rattle.icmp6_wire.proofs.mld.repr.put_record.Goals as goal

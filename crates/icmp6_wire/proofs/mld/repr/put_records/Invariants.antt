@@ -1,5 +1,5 @@
 use Rattle.std.proofs.Common.{◌≡◌, ◌*◌, ◌≤◌, length, drop}
-use Rattle.wirebase.specs.ByteWriter.{sheet, free, put_all, the_slice}
+use Rattle.icmp6_wire.specs.Words.{sheet, free, put_all, the_slice}
 use Rattle.icmp6_wire.specs.Mld.{values_of, record_texts, AreGroups}
 use Rattle.icmp6_wire.proofs.mld.repr.put_records.Given as goal
 

@@ -1,6 +1,6 @@
 use Rattle.std.proofs.Common.{refl}
 use Rattle.icmp6_wire.specs.Icmpv6Packet.{view_octets}
-use Rattle.icmp6_wire.specs.declared.icmpv6.tables.Message.TheVariants as message
+use Rattle.icmp6_wire.specs.Words.{Message}
 use Rattle.icmp6_wire.proofs.NdiscTiling.{kind_read, said_target, said_packet, message_said}
 use Rattle.icmp6_wire.proofs.ndisc.reading.redirect.Goals as goal
 
@@ -8,7 +8,7 @@ pub returns : goal.returns
 returns c =
     let s = c.requires.says in
     message_said c.requires.whole refl s (
-      kind_read (view_octets c.args.packet.now) message.Redirect c.requires.kind,
+      kind_read (view_octets c.args.packet.now) Message.Redirect c.requires.kind,
       c.target_addr.ensures,
       c.dest_addr.ensures,
       said_target s,

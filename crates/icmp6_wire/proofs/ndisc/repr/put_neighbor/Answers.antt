@@ -1,4 +1,4 @@
-use Rattle.wirebase.specs.ByteWriter.{be8, be16, fields}
+use Rattle.icmp6_wire.specs.Words.{be8, be16, fields}
 use Rattle.opt_wire.proofs.FieldsAtOnce.{puts-fields}
 use Rattle.icmp6_wire.proofs.ndisc.repr.put_neighbor.Goals as goal
 

@@ -1,7 +1,5 @@
 -- The first address, and each turn a comma and one address more.
-use Rattle.std.proofs.Common.{◌-◌, length, take, drop, arith}
-use Rattle.std.proofs.lemmas.List.{take_all}
-use Rattle.wirebase.specs.declared.ipv4.Ipv4Address.{Ipv4Address}
+use Rattle.listing.proofs.Words.{◌-◌, Ipv4Address, arith, drop, length, take, take_all}
 use Rattle.listing.proofs.Addresses.{with_comma, addresses_text-some}
 use Rattle.listing.proofs.Printing.{◌then◌, gained, gains_both, one_more}
 use Rattle.listing.proofs.dhcp.RefSliceIpv4AddressValue.write_to.Goals as goal

@@ -1,7 +1,6 @@
 -- The addresses after the first so far, with a comma before each.
-use Rattle.std.proofs.Common.{take}
+use Rattle.listing.proofs.Words.{Gains, take}
 use Rattle.std.specs.Prelude.{flat_map}
-use Rattle.listing.specs.Output.{Gains}
 use Rattle.listing.proofs.Addresses.{with_comma}
 use Rattle.listing.proofs.dhcp.RefSliceIpv4AddressValue.write_to.Given as goal
 

@@ -1,4 +1,4 @@
-use Rattle.std.proofs.Common.{refl}
+use Rattle.listing.proofs.Words.{refl}
 use Rattle.listing.proofs.Printing.{◌then◌}
 use Rattle.listing.proofs.message.data.show_fields.Goals as goal
 

@@ -1,7 +1,5 @@
-use Rattle.std.proofs.Common.{[], refl}
-use Rattle.dns_wire.specs.DnsPacket.{view_octets}
+use Rattle.listing.proofs.Words.{[], record_of, refl, view_octets}
 use Rattle.record_wire.specs.Edns.{edns_of}
-use Rattle.record_wire.specs.Record.{record_of}
 use Rattle.listing.specs.ListingEdns.{says_for_no_name}
 use Rattle.listing.proofs.Options.{opt_printed}
 use Rattle.listing.proofs.Printing.{gains_none}

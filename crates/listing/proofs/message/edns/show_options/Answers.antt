@@ -1,8 +1,7 @@
 -- Each turn prints an option, or tells how they end.
-use Rattle.std.proofs.Common.{[], ◌++◌, refl, ap, sym, ◌∙◌, append_assoc, length, arith}
-use Rattle.std.proofs.lemmas.List.{append-nil}
+use Rattle.listing.proofs.Words.{[], ◌++◌, ◌∙◌, ap, append-nil, append_assoc, arith, length, options_listing, refl, sym}
+use Rattle.listing.proofs.Words.{unread_option}
 use Rattle.listing.proofs.Printing.{gains_none, gains_both}
-use Rattle.listing.specs.ListingEdns.{options_listing, unread_option}
 use Rattle.listing.proofs.message.edns.show_options.Goals as goal
 
 pub loop-option-init : goal.loop-option-init

@@ -1,7 +1,5 @@
 -- What is printed so far, and what the answers still to come print and tell; each option takes one of these.
-use Rattle.std.proofs.Common.{◌≡◌, ℕ, List, ◌++◌, length}
-use Rattle.listing.specs.ListingEdns.{options_listing, unread_option}
-use Rattle.listing.specs.Output.{Gains}
+use Rattle.listing.proofs.Words.{◌≡◌, ◌++◌, Gains, List, ℕ, length, options_listing, unread_option}
 use Rattle.listing.proofs.message.edns.show_options.Given as goal
 
 abbrev pub invariant-loop-option : goal.invariant-loop-option

@@ -1,4 +1,4 @@
-use Rattle.std.proofs.Common.{[], refl}
+use Rattle.listing.proofs.Words.{[], refl}
 use Rattle.listing.specs.ListingRecord.{asks, asks_of_no_name}
 use Rattle.listing.proofs.Printing.{gains_none, ◌then◌}
 use Rattle.listing.proofs.message.record.show_question.Goals as goal

@@ -1,7 +1,5 @@
-use Rattle.std.proofs.Common.{[], refl}
-use Rattle.dns_wire.specs.DnsPacket.{view_octets}
+use Rattle.listing.proofs.Words.{[], record_of, refl, view_octets}
 use Rattle.record_wire.specs.RData.{rdata_of}
-use Rattle.record_wire.specs.Record.{record_of}
 use Rattle.listing.specs.ListingParts.{text_of}
 use Rattle.listing.specs.ListingRecord.{has_no_name}
 use Rattle.listing.proofs.Printing.{gains_none}

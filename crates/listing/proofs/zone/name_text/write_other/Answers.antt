@@ -1,6 +1,5 @@
 -- The root, or a name and its last dot.
-use Rattle.std.proofs.Common.{◌≡◌, length, sym, ap, ◌∙◌}
-use Rattle.record_wire.specs.Labels.{wire}
+use Rattle.listing.proofs.Words.{◌≡◌, ◌∙◌, ap, length, sym, wire}
 use Rattle.record_wire.specs.Name.{labels_of}
 use Rattle.record_wire.proofs.RecordTexts.{root_name, longer_name}
 use Rattle.listing.proofs.Printing.{gained_on_ok}

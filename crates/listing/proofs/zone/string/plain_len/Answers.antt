@@ -1,4 +1,4 @@
-use Rattle.std.proofs.Common.{sym, ◌∙◌, arith}
+use Rattle.listing.proofs.Words.{◌∙◌, arith, sym}
 use Rattle.listing.proofs.ZoneTexts.{itself_more}
 use Rattle.listing.proofs.zone.string.plain_len.Goals as goal
 

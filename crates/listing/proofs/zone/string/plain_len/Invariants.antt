@@ -1,6 +1,5 @@
 -- The bytes so far are written as themselves.
-use Rattle.std.proofs.Common.{◌≡◌, ◌≤◌, ◌-◌, length, take, flat_map}
-use Rattle.record_wire.specs.ZoneText.{string_character}
+use Rattle.listing.proofs.Words.{◌≡◌, ◌≤◌, ◌-◌, flat_map, length, string_character, take}
 use Rattle.listing.proofs.zone.string.plain_len.Given as goal
 
 abbrev pub invariant-loop-len : goal.invariant-loop-len

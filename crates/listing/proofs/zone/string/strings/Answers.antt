@@ -1,6 +1,5 @@
 -- Each turn writes a string.
-use Rattle.std.proofs.Common.{sym}
-use Rattle.listing.specs.ListingRecord.{StringsRead}
+use Rattle.listing.proofs.Words.{StringsRead, sym}
 use Rattle.listing.proofs.Showing.{goes_on, goes_on_to_none}
 use Rattle.listing.proofs.ZoneTexts.{string_at_front, strings_more, no_strings}
 use Rattle.listing.proofs.zone.string.strings.Goals as goal

@@ -1,8 +1,5 @@
 -- What is written so far goes on to the whole by what the strings that are left are written as.
-use Rattle.std.proofs.Common.{length}
-use Rattle.record_wire.specs.RData.{AreStrings}
-use Rattle.listing.specs.ListingRecord.{StringsRead}
-use Rattle.listing.specs.Output.{GainsSome}
+use Rattle.listing.proofs.Words.{AreStrings, GainsSome, StringsRead, length}
 use Rattle.listing.proofs.Showing.{GoesOn}
 use Rattle.listing.proofs.zone.string.strings.Given as goal
 

@@ -1,5 +1,5 @@
 -- The byte itself or its number.
-use Rattle.std.proofs.Common.{sym, ◌∙◌}
+use Rattle.listing.proofs.Words.{◌∙◌, sym}
 use Rattle.listing.proofs.Printing.{gained_on_ok}
 use Rattle.record_wire.proofs.RecordTexts.{special_text}
 use Rattle.listing.proofs.ZoneTexts.{number_text}

@@ -1,7 +1,6 @@
 -- Each turn writes bytes as they are, and one that is not.
-use Rattle.std.proofs.Common.{◌≡◌, ◌<◌, ◌++◌, List, ℕ, codes, length, take, flat_map, arith}
-use Rattle.std.specs.Prelude.{slice_index}
-use Rattle.record_wire.specs.ZoneText.{word, string_text, string_character}
+use Rattle.listing.proofs.Words.{◌≡◌, ◌<◌, ◌++◌, List, ℕ, arith, codes, flat_map, length, slice_index, string_character}
+use Rattle.listing.proofs.Words.{string_text, take, word}
 use Rattle.listing.proofs.Printing.{gained, gained_on_ok, gains_both, gains_last}
 use Rattle.listing.proofs.Showing.{goes_on, goes_on_to_last, gains_that}
 use Rattle.listing.proofs.ZoneTexts.{string_opens, string_goes_on, string_closes}

@@ -1,7 +1,5 @@
 -- What is written so far goes on to the whole by the characters that are left and the last quote.
-use Rattle.std.proofs.Common.{◌≡◌, ◌++◌, codes, length, flat_map}
-use Rattle.record_wire.specs.ZoneText.{word, string_text, string_character}
-use Rattle.listing.specs.Output.{GainsSome}
+use Rattle.listing.proofs.Words.{◌≡◌, ◌++◌, GainsSome, codes, flat_map, length, string_character, string_text, word}
 use Rattle.listing.proofs.Showing.{GoesOn}
 use Rattle.listing.proofs.zone.string.write_string.Given as goal
 

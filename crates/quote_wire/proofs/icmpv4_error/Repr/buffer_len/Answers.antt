@@ -5,4 +5,4 @@ use Rattle.quote_wire.proofs.icmpv4_error.Repr.buffer_len.Goals as goal
 
 pub returns-clause-exact : goal.returns-clause-exact
 returns-clause-exact c = λ capabilities.
-    omega (arith, c.quotable.ensures.len, length-packet_text (protocol capabilities) (value_of c.args.self.now))
+    omega (arith, c.min.ensures, length-packet_text (protocol capabilities) (value_of c.args.self.now))

@@ -6,4 +6,4 @@ use Rattle.quote_wire.proofs.icmpv6_error.Repr.buffer_len.Goals as goal
 pub returns-clause-exact : goal.returns-clause-exact
 returns-clause-exact c = λ source destination capabilities.
     let p = protocol source destination capabilities in
-    omega (arith, c.quotable.ensures.len, length-packet_text p (value_of c.args.self.now))
+    omega (arith, c.min.ensures, length-packet_text p (value_of c.args.self.now))

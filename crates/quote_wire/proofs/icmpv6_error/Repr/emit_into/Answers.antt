@@ -1,12 +1,24 @@
-use Rattle.std.proofs.Common.{ℕ, List, ap, ◌∙◌}
-use Rattle.quote_wire.specs.Error.{seal}
-use Rattle.quote_wire.specs.Icmpv6Error.{protocol}
-use Rattle.quote_wire.proofs.ErrorFormat.{error_emits}
+use Rattle.std.proofs.Common.{ℕ, List, take, ap, ◌∙◌}
+use Rattle.wirebase.specs.Bytes.{over}
+use Rattle.wirebase.specs.ByteWriter.{fields}
+use Rattle.quote_wire.specs.Error.{error_fields, seal}
+use Rattle.quote_wire.specs.Icmpv6Error.{protocol, value_of}
+use Rattle.quote_wire.proofs.ErrorFormat.{error_emits, take_counted}
 use Rattle.quote_wire.proofs.Icmpv6Errors.{icmpv6_errors}
 use Rattle.quote_wire.proofs.icmpv6_error.Repr.emit_into.Goals as goal
 
 pub returns : goal.returns
 returns c =
-    let p = protocol c.args.src_addr.now c.args.dst_addr.now c.args.checksum_caps.now in
-    error_emits p (icmpv6_errors c.args.src_addr.now c.args.dst_addr.now c.args.checksum_caps.now) _ _ _ c.requires
-    (c.seal.ensures ∙ ap (λ (l : List ℕ). seal p l) c.write.ensures)
+    let caps = c.args.checksum_caps.now in
+    let p = protocol c.args.src_addr.now c.args.dst_addr.now caps in
+    let is = icmpv6_errors c.args.src_addr.now c.args.dst_addr.now caps in
+    let error = value_of c.args.self.now in
+    let text_of : ℕ → List ℕ = λ number.
+    fields (error_fields number error.code error.rest (take 1232 error.quoted)) in
+    error_emits p is error c.args.octets.now _ c.requires
+    (c.seal.ensures
+    ∙ ap (λ (l : List ℕ). seal p l) c.write_error.ensures
+    ∙ ap (λ (quoted : List ℕ). seal p (over c.args.octets.now
+    (fields (error_fields c.number.result error.code error.rest quoted))))
+    (take_counted 1232 error.quoted c.min.result c.min.ensures)
+    ∙ ap (λ (number : ℕ). seal p (over c.args.octets.now (text_of number))) c.number.ensures)

@@ -1,5 +1,4 @@
-use Rattle.std.proofs.Common.{length, refl, ap, arith}
-use Rattle.std.proofs.lemmas.List.{take_rest}
+use Rattle.record_wire.proofs.Words.{ap, arith, length, refl, take_rest}
 use Rattle.record_wire.proofs.EdnsTiles.{option_here}
 use Rattle.record_wire.proofs.edns.EdnsOption.refusal.Goals as goal
 

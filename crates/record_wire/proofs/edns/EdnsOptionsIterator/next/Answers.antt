@@ -1,8 +1,6 @@
-use Rattle.std.proofs.Common.{◌≤◌, ◌∷◌, List, Err, length, sym, ap, ◌∙◌, arith}
-use Rattle.std.proofs.lemmas.Bool.{eqb-true, eqb-false}
-use Rattle.std.proofs.lemmas.List.{nil_from_length}
+use Rattle.record_wire.proofs.Words.{◌≤◌, ◌∷◌, ◌∙◌, Answer, Err, List, answers_in, ap, arith, eqb-false, eqb-true}
+use Rattle.record_wire.proofs.Words.{length, nil_from_length, option_of, sym}
 use Rattle.wirebase.proofs.Answers.{answer-progress}
-use Rattle.record_wire.specs.Edns.{Answer, option_of, answers_in}
 use Rattle.record_wire.proofs.EdnsTiles.{answers_option, answers_broken, answers_nothing}
 use Rattle.record_wire.proofs.edns.EdnsOptionsIterator.next.Goals as goal
 

@@ -1,7 +1,5 @@
-use Rattle.std.proofs.Common.{◌≡◌, ◌<◌, [], ◌∷◌, ◌++◌, length, refl, sym, ap, ◌∙◌, subst}
-use Rattle.std.proofs.Common.{arith}
-use Rattle.record_wire.specs.Labels.{wire, labels_in}
-use Rattle.record_wire.specs.NameText.{IsNameText}
+use Rattle.record_wire.proofs.Words.{◌≡◌, ◌<◌, [], ◌∷◌, ◌++◌, ◌∙◌, IsNameText, ap, arith, labels_in, length, refl}
+use Rattle.record_wire.proofs.Words.{subst, sym, wire}
 use Rattle.record_wire.proofs.LabelLists.{written_in, whole_wire, ended, in_written, name_of, room_for_end}
 use Rattle.record_wire.proofs.NameLabels.{root_alone}
 use Rattle.record_wire.proofs.NameTexts.{text_reads}

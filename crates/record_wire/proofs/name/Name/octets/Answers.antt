@@ -1,4 +1,4 @@
-use Rattle.std.proofs.Common.{length, ap, arith}
+use Rattle.record_wire.proofs.Words.{ap, arith, length}
 use Rattle.record_wire.proofs.LabelLists.{each_in}
 use Rattle.record_wire.proofs.name.Name.octets.Goals as goal
 

@@ -1,7 +1,5 @@
 -- The octets that were put.
-use Rattle.std.proofs.Common.{sym, subst}
-use Rattle.dns_wire.specs.DnsPacket.{view_octets}
-use Rattle.record_wire.specs.Names.{Names}
+use Rattle.record_wire.proofs.Words.{Names, subst, sym, view_octets}
 use Rattle.record_wire.proofs.LabelLists.{in_wire, wire_in}
 use Rattle.record_wire.proofs.name.Name.read.Goals as goal
 

@@ -1,5 +1,4 @@
-use Rattle.std.proofs.Common.{subst}
-use Rattle.record_wire.specs.NameRefusal.{RefusesName}
+use Rattle.record_wire.proofs.Words.{RefusesName, subst}
 use Rattle.record_wire.proofs.name.Name.read_refusal.Goals as goal
 
 pub returns-in-Err-clause-told : goal.returns-in-Err-clause-told

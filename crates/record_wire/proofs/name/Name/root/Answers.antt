@@ -1,5 +1,4 @@
-use Rattle.std.proofs.Common.{◌≡◌, [], ◌∷◌, refl, sym, ap, ◌∙◌, subst, rules}
-use Rattle.record_wire.specs.Labels.{wire, written_all, labels_in}
+use Rattle.record_wire.proofs.Words.{◌≡◌, [], ◌∷◌, ◌∙◌, ap, labels_in, refl, rules, subst, sym, wire, written_all}
 use Rattle.record_wire.proofs.LabelLists.{in_nothing, labels-none, whole_wire}
 use Rattle.record_wire.proofs.name.Name.root.Goals as goal
 

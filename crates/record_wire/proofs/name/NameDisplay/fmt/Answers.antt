@@ -1,7 +1,4 @@
-use Rattle.std.proofs.Common.{sym, ap, ◌∙◌, subst}
-use Rattle.std.specs.Fmt.{HasWritten}
-use Rattle.record_wire.specs.Labels.{first_label}
-use Rattle.record_wire.specs.NameText.{name_text}
+use Rattle.record_wire.proofs.Words.{◌∙◌, HasWritten, ap, first_label, name_text, subst, sym}
 use Rattle.record_wire.proofs.LabelLists.{labels-none, none_in_one}
 use Rattle.record_wire.proofs.name.NameDisplay.fmt.Goals as goal
 

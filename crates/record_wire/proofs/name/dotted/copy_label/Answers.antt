@@ -1,5 +1,5 @@
 -- Sixteen bytes are copied, of which those of the label count.
-use Rattle.std.proofs.Common.{◌≡◌, ◌+◌, ◌-◌, arith}
+use Rattle.record_wire.proofs.Words.{◌≡◌, ◌+◌, ◌-◌, arith}
 use Rattle.record_wire.proofs.NameDottedTurns.{piece_copied}
 use Rattle.record_wire.proofs.name.dotted.copy_label.Goals as goal
 

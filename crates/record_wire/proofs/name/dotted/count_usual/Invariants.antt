@@ -1,7 +1,5 @@
 -- The bytes so far.
-use Rattle.std.proofs.Common.{◌≡◌, ◌≤◌, take}
-use Rattle.std.specs.List.{count_by}
-use Rattle.record_wire.specs.NameDotted.{is_usual}
+use Rattle.record_wire.proofs.Words.{◌≡◌, ◌≤◌, count_by, is_usual, take}
 use Rattle.record_wire.proofs.name.dotted.count_usual.Given as goal
 
 abbrev pub invariant-loop-byte : goal.invariant-loop-byte

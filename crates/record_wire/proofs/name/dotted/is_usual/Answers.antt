@@ -1,9 +1,6 @@
 -- The table is compared with the definition at each of the 256 bytes, by computation.
-use Rattle.std.proofs.Common.{◌≡◌, ℕ, zero, suc, Bool, true, false, ◌&&◌, slice_index_or, refl}
-use Rattle.std.proofs.lemmas.Bool.Decides.{Decides-below_and}
-use Rattle.std.specs.Bool.{beq}
-use Rattle.std.specs.Cmp.{booleans_Decides}
-use Rattle.record_wire.specs.NameDotted.{is_usual}
+use Rattle.record_wire.proofs.Words.{◌≡◌, ◌&&◌, Bool, Decides-below_and, ℕ, beq, booleans_Decides, false, is_usual}
+use Rattle.record_wire.proofs.Words.{refl, slice_index_or, suc, true, zero}
 use Rattle.record_wire.specs.declared.name.dotted.TheConstants.{USUAL}
 use Rattle.record_wire.proofs.name.dotted.is_usual.Goals as goal
 

@@ -1,9 +1,7 @@
 -- Each turn puts a label, or goes on where a pointer leads.
-use Rattle.std.proofs.Common.{refl, arith}
-use Rattle.std.proofs.lemmas.List.{take_more_set}
-use Rattle.record_wire.proofs.NameDottedTurns.{nothing_put, label_put, pointer_put, behind_length}
-use Rattle.record_wire.proofs.NameDottedTurns.{none_of, no_room, leads_nowhere, leads_on, is_torn, is_root, is_unusual}
-use Rattle.record_wire.proofs.NameDottedTurns.{is_text}
+use Rattle.record_wire.proofs.Words.{arith, refl, take_more_set}
+use Rattle.record_wire.proofs.NameDottedTurns.{nothing_put, label_put, pointer_put, behind_length, none_of, no_room}
+use Rattle.record_wire.proofs.NameDottedTurns.{leads_nowhere, leads_on, is_torn, is_root, is_unusual, is_text}
 use Rattle.record_wire.proofs.name.dotted.put_text.Goals as goal
 
 pub loop-label-init : goal.loop-label-init

@@ -1,4 +1,4 @@
-use Rattle.std.proofs.Common.{◌+◌, length}
+use Rattle.record_wire.proofs.Words.{◌+◌, length}
 use Rattle.record_wire.proofs.NameDottedTurns.{IsPutTo}
 use Rattle.record_wire.proofs.name.dotted.put_text.Given as goal
 

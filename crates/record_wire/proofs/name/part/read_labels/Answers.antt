@@ -1,7 +1,6 @@
-use Rattle.std.proofs.Common.{◌≡◌, ℕ, ◌+◌, ◌-◌, length, drop, sym, ap, ◌∙◌, subst, arith}
-use Rattle.dns_wire.specs.DnsNameAhead.{front_of}
-use Rattle.dns_wire.proofs.DnsNameTurns.{Whole-front, Whole-length}
-use Rattle.record_wire.specs.NameParts.{LabelsAtFront}
+use Rattle.record_wire.proofs.Words.{◌≡◌, ◌+◌, ◌-◌, ◌∙◌, LabelsAtFront, Whole-front, ℕ, ap, arith, drop, front_of}
+use Rattle.record_wire.proofs.Words.{length, subst, sym}
+use Rattle.dns_wire.proofs.DnsNameTurns.{Whole-length}
 use Rattle.record_wire.proofs.NameParts.{one_more_in_front, behind_one_more}
 use Rattle.record_wire.proofs.name.part.read_labels.Goals as goal
 

@@ -1,5 +1,4 @@
-use Rattle.std.proofs.Common.{◌≡◌, ◌-◌, ◌≤◌, length, drop}
-use Rattle.record_wire.specs.NameParts.{LabelsAtFront}
+use Rattle.record_wire.proofs.Words.{◌≡◌, ◌-◌, ◌≤◌, LabelsAtFront, drop, length}
 use Rattle.record_wire.proofs.name.part.read_labels.Given as goal
 
 abbrev pub invariant-loop-rest : goal.invariant-loop-rest

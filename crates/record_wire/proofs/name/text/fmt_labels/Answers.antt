@@ -1,9 +1,7 @@
-use Rattle.std.proofs.Common.{rules, ◌≡◌, [], ◌++◌, codes, refl, sym, ap, ◌∙◌, subst, append_assoc, arith}
-use Rattle.std.proofs.lemmas.List.{append-nil, length-set, take_more_set}
-use Rattle.std.proofs.lemmas.Str.Ascii.{IsAscii-nil}
-use Rattle.std.specs.Fmt.{HasWritten}
-use Rattle.record_wire.specs.Labels.{labels_in}
-use Rattle.record_wire.specs.NameText.{label_text, behind_dots, name_text}
+use Rattle.record_wire.proofs.Words.{◌≡◌, [], ◌++◌, ◌∙◌, HasWritten, IsAscii-nil, ap, append-nil, append_assoc, arith}
+use Rattle.record_wire.proofs.Words.{behind_dots, codes, label_text, labels_in, name_text, refl, rules, subst, sym}
+use Rattle.record_wire.proofs.Words.{take_more_set}
+use Rattle.std.proofs.lemmas.List.{length-set}
 use Rattle.record_wire.proofs.LabelLists.{labels-some, labels-none}
 use Rattle.record_wire.proofs.NamePieces.{takes_two, takes_more, takes_all, small_ascii}
 use Rattle.record_wire.proofs.name.text.fmt_labels.Goals as goal

@@ -1,9 +1,6 @@
 -- What is taken so far, and what the labels still to come are written as.
-use Rattle.std.proofs.Common.{◌≡◌, ◌≤◌, ℕ, List, [], ◌++◌, length, take}
-use Rattle.std.specs.Fmt.{IsPlainFormatter}
-use Rattle.record_wire.specs.Labels.{labels_in}
-use Rattle.record_wire.specs.NameText.{label_text, behind_dots, name_text}
-use Rattle.record_wire.specs.NamePieces.{Takes}
+use Rattle.record_wire.proofs.Words.{◌≡◌, ◌≤◌, [], ◌++◌, IsPlainFormatter, List, Takes, ℕ, behind_dots, label_text}
+use Rattle.record_wire.proofs.Words.{labels_in, length, name_text, take}
 use Rattle.record_wire.proofs.name.text.fmt_labels.Given as goal
 
 abbrev pub invariant-loop-len : goal.invariant-loop-len

@@ -1,11 +1,7 @@
 -- The bits of the table, each compared with its byte.
-use Rattle.std.proofs.Common.{◌≡◌, ℕ, zero, suc, ◌/◌, ◌%◌, ◌^◌, Bool, true, ◌&&◌, not, nat_eq}
-use Rattle.std.proofs.Common.{slice_index_or, bit_and, refl}
-use Rattle.std.proofs.lemmas.Bool.Decides.{Decides-below_and}
-use Rattle.std.specs.Bool.{beq}
-use Rattle.std.specs.Cmp.{booleans_Decides}
-use Rattle.std.specs.Char.{is_ascii_graphic}
-use Rattle.record_wire.specs.NameText.{is_special}
+use Rattle.record_wire.proofs.Words.{◌≡◌, ◌/◌, ◌%◌, ◌^◌, ◌&&◌, Bool, Decides-below_and, ℕ, beq, bit_and}
+use Rattle.record_wire.proofs.Words.{booleans_Decides, is_ascii_graphic, is_special, nat_eq, not, refl, slice_index_or}
+use Rattle.record_wire.proofs.Words.{suc, true, zero}
 use Rattle.record_wire.specs.declared.name.text.TheConstants.{PLAIN}
 use Rattle.record_wire.proofs.name.text.is_plain.Goals as goal
 

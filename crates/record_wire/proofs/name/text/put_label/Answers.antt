@@ -1,6 +1,6 @@
-use Rattle.std.proofs.Common.{rules, ◌≡◌, ◌≤◌, ℕ, [], ◌++◌, take, sym, ap, ◌∙◌, slice_index_or, arith}
-use Rattle.std.proofs.lemmas.List.{take_more, take_more_set, flat_map_more, append-nil}
-use Rattle.record_wire.specs.NameText.{character, label_text}
+use Rattle.record_wire.proofs.Words.{◌≡◌, ◌≤◌, [], ◌++◌, ◌∙◌, ℕ, ap, append-nil, arith, character, label_text, rules}
+use Rattle.record_wire.proofs.Words.{slice_index_or, sym, take, take_more_set}
+use Rattle.std.proofs.lemmas.List.{take_more, flat_map_more}
 use Rattle.record_wire.proofs.NamePieces.{character_ascii, plain_text, takes_two, takes_more}
 use Rattle.record_wire.proofs.name.text.put_label.Goals.{then-is_plain, else-is_plain}
 use Rattle.record_wire.proofs.name.text.put_label.Goals as goal

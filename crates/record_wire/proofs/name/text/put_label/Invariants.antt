@@ -1,8 +1,4 @@
-use Rattle.std.proofs.Common.{◌≤◌, take}
-use Rattle.std.specs.Fmt.{IsPlainFormatter}
-use Rattle.std.specs.Str.{IsAscii}
-use Rattle.record_wire.specs.NameText.{label_text}
-use Rattle.record_wire.specs.NamePieces.{Takes}
+use Rattle.record_wire.proofs.Words.{◌≤◌, IsAscii, IsPlainFormatter, Takes, label_text, take}
 use Rattle.record_wire.proofs.name.text.put_label.Given as goal
 
 abbrev pub invariant-loop-byte : goal.invariant-loop-byte

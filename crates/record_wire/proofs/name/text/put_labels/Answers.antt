@@ -1,7 +1,6 @@
-use Rattle.std.proofs.Common.{◌≤◌, ◌+◌, ◌++◌, length, refl, sym, ap, ◌∙◌, subst, arith}
-use Rattle.dns_wire.specs.DnsName.{written}
-use Rattle.record_wire.proofs.NameLabels.{one_more, all_read, all_same, next_label, next_fits, next_goes}
-use Rattle.record_wire.proofs.NameLabels.{end_behind, label_behind, spelled_shorter}
+use Rattle.record_wire.proofs.Words.{◌≤◌, ◌+◌, ◌++◌, ◌∙◌, ap, arith, length, refl, subst, sym, written}
+use Rattle.record_wire.proofs.NameLabels.{one_more, all_read, all_same, next_label, next_fits, next_goes, end_behind}
+use Rattle.record_wire.proofs.NameLabels.{label_behind, spelled_shorter}
 use Rattle.record_wire.proofs.name.text.put_labels.Goals as goal
 
 pub returns-in_err-label-clause-complete : goal.returns-in_err-label-clause-complete

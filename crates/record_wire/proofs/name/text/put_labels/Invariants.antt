@@ -1,4 +1,4 @@
-use Rattle.std.proofs.Common.{length}
+use Rattle.record_wire.proofs.Words.{length}
 use Rattle.record_wire.proofs.NameLabels.{SoFar}
 use Rattle.record_wire.proofs.name.text.put_labels.Given as goal
 

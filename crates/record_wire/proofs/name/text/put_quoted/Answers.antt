@@ -1,4 +1,4 @@
-use Rattle.std.proofs.Common.{take, sym, ap, ◌∙◌, ◌++◌, arith}
+use Rattle.record_wire.proofs.Words.{◌∙◌, ◌++◌, ap, arith, sym, take}
 use Rattle.record_wire.proofs.NamePieces.{number_text, four_set}
 use Rattle.record_wire.proofs.name.text.put_quoted.Goals as goal
 

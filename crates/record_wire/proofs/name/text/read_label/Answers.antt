@@ -1,6 +1,5 @@
-use Rattle.std.proofs.Common.{◌≡◌, ◌<◌, [], ◌∷◌, ◌++◌, length, ap, sym, subst, rules, arith}
-use Rattle.std.proofs.Common.{length-append}
-use Rattle.record_wire.specs.NameText.{Spells}
+use Rattle.record_wire.proofs.Words.{◌≡◌, ◌<◌, [], ◌∷◌, ◌++◌, Spells, ap, arith, length, length-append, rules, subst}
+use Rattle.record_wire.proofs.Words.{sym}
 use Rattle.record_wire.proofs.Spelling.{spells_more, spelling_one, spelling_longer}
 use Rattle.record_wire.proofs.Characters.{first_shorter}
 use Rattle.record_wire.proofs.name.text.read_label.Goals as goal

@@ -1,5 +1,4 @@
-use Rattle.std.proofs.Common.{◌≤◌, length}
-use Rattle.record_wire.specs.NameText.{Spells}
+use Rattle.record_wire.proofs.Words.{◌≤◌, Spells, length}
 use Rattle.record_wire.proofs.name.text.read_label.Given as goal
 
 abbrev pub invariant-loop-byte : goal.invariant-loop-byte

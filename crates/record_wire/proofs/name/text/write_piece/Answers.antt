@@ -1,5 +1,4 @@
-use Rattle.std.proofs.Common.{◌≡◌, ap, ◌∙◌, subst}
-use Rattle.std.specs.Fmt.{HasWritten}
+use Rattle.record_wire.proofs.Words.{◌≡◌, ◌∙◌, HasWritten, ap, subst}
 use Rattle.record_wire.proofs.NamePieces.{unwrapped}
 use Rattle.record_wire.proofs.name.text.write_piece.Goals as goal
 

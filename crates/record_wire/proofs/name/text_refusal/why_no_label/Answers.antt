@@ -1,4 +1,4 @@
-use Rattle.std.proofs.Common.{sym}
+use Rattle.record_wire.proofs.Words.{sym}
 use Rattle.record_wire.proofs.TextRefusals.{long_label}
 use Rattle.record_wire.proofs.name.text_refusal.why_no_label.Goals as goal
 

@@ -1,5 +1,4 @@
-use Rattle.std.proofs.Common.{◌≤◌, ◌+◌, ◌++◌, length, sym, ap, ◌∙◌, subst, arith}
-use Rattle.dns_wire.specs.DnsName.{written}
+use Rattle.record_wire.proofs.Words.{◌≤◌, ◌+◌, ◌++◌, ◌∙◌, ap, arith, length, subst, sym, written}
 use Rattle.record_wire.proofs.NameLabels.{one_more, end_behind, label_behind, spelled_shorter}
 use Rattle.record_wire.proofs.TextRefusals.{label_refused, rest_refused, no_room, no_name}
 use Rattle.record_wire.proofs.name.text_refusal.why_no_text.Goals as goal

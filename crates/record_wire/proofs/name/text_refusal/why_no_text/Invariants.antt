@@ -1,5 +1,5 @@
 -- The labels before what is left were read.
-use Rattle.std.proofs.Common.{length}
+use Rattle.record_wire.proofs.Words.{length}
 use Rattle.record_wire.proofs.NameLabels.{SoFar}
 use Rattle.record_wire.proofs.name.text_refusal.why_no_text.Given as goal
 

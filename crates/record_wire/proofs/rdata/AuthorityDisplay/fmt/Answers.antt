@@ -1,6 +1,5 @@
-use Rattle.std.proofs.Common.{List, ℕ, subst}
+use Rattle.record_wire.proofs.Words.{HasWritten, List, ℕ, subst}
 use Rattle.std.proofs.lemmas.List.{append_assoc}
-use Rattle.std.specs.Fmt.{HasWritten}
 use Rattle.record_wire.proofs.rdata.AuthorityDisplay.fmt.Goals as goal
 
 pub returns-clause-writes : goal.returns-clause-writes

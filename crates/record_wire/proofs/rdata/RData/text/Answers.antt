@@ -1,6 +1,5 @@
 -- The reason is that of the name.
-use Rattle.std.proofs.Common.{rules, ◌≡◌, Err, IfErr, sym, subst}
-use Rattle.dns_wire.specs.DnsPacket.{view_octets}
+use Rattle.record_wire.proofs.Words.{◌≡◌, Err, IfErr, rules, subst, sym, view_octets}
 use Rattle.record_wire.specs.RData.{rdata_of}
 use Rattle.record_wire.specs.RecordText.{RefusesNameIn}
 use Rattle.record_wire.proofs.rdata.RData.text.Goals as goal

@@ -1,6 +1,4 @@
-use Rattle.std.proofs.Common.{◌≤◌, length, sym, ◌∙◌, arith}
-use Rattle.std.proofs.lemmas.Bool.{eqb-false}
-use Rattle.record_wire.specs.Fields.{MapValue}
+use Rattle.record_wire.proofs.Words.{◌≤◌, ◌∙◌, MapValue, arith, eqb-false, length, sym}
 use Rattle.record_wire.proofs.FieldParts.{maps_behind, no_map_first}
 use Rattle.record_wire.proofs.rdata.fields.are_maps.Goals as goal
 

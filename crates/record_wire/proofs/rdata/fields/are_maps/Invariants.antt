@@ -1,5 +1,4 @@
-use Rattle.std.proofs.Common.{length}
-use Rattle.record_wire.specs.Fields.{AreMaps}
+use Rattle.record_wire.proofs.Words.{AreMaps, length}
 use Rattle.record_wire.proofs.rdata.fields.are_maps.Given as goal
 
 abbrev pub invariant-loop-left : goal.invariant-loop-left

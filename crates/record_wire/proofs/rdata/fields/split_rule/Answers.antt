@@ -1,6 +1,4 @@
-use Rattle.std.proofs.Common.{List, ℕ, sym, subst}
-use Rattle.std.proofs.lemmas.List.{take_rest}
-use Rattle.record_wire.specs.Fields.{AreThree}
+use Rattle.record_wire.proofs.Words.{AreThree, List, ℕ, subst, sym, take_rest}
 use Rattle.record_wire.proofs.rdata.fields.split_rule.Goals as goal
 
 pub returns-in_err-strings-clause-complete : goal.returns-in_err-strings-clause-complete

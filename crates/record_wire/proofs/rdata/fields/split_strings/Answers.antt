@@ -1,4 +1,4 @@
-use Rattle.std.proofs.Common.{sym}
+use Rattle.record_wire.proofs.Words.{sym}
 use Rattle.record_wire.proofs.FieldParts.{three_strings}
 use Rattle.record_wire.proofs.rdata.fields.split_strings.Goals as goal
 

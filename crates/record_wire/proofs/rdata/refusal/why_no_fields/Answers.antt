@@ -1,4 +1,5 @@
-use Rattle.record_wire.specs.Fields.{RestValue, IsRest, front_of, name_of}
+use Rattle.record_wire.proofs.Words.{IsRest, RestValue}
+use Rattle.record_wire.specs.Fields.{front_of, name_of}
 use Rattle.record_wire.proofs.FieldParts.{no_second, refused_types, refused_bytes}
 use Rattle.record_wire.proofs.rdata.refusal.why_no_fields.Goals as goal
 

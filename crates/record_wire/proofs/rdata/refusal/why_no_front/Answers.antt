@@ -1,4 +1,4 @@
-use Rattle.std.proofs.Common.{◌≤◌, length, arith}
+use Rattle.record_wire.proofs.Words.{◌≤◌, arith, length}
 use Rattle.record_wire.proofs.FieldParts.{refused_rule, refused_numbers}
 use Rattle.record_wire.proofs.rdata.refusal.why_no_front.Goals as goal
 

@@ -1,5 +1,4 @@
-use Rattle.std.proofs.Common.{◌≤◌, length, sym, ◌∙◌, arith}
-use Rattle.std.proofs.lemmas.Bool.{eqb-false}
+use Rattle.record_wire.proofs.Words.{◌≤◌, ◌∙◌, arith, eqb-false, length, sym}
 use Rattle.record_wire.proofs.RDataRefusals.{cut_string}
 use Rattle.record_wire.proofs.rdata.refusal.why_no_strings.Goals as goal
 

@@ -1,5 +1,4 @@
-use Rattle.std.proofs.Common.{List, ℕ, ◌≤◌, length, subst, arith}
-use Rattle.std.proofs.lemmas.List.{take_rest}
+use Rattle.record_wire.proofs.Words.{◌≤◌, List, ℕ, arith, length, subst, take_rest}
 use Rattle.record_wire.specs.RDataRefusal.{RefusesName}
 use Rattle.record_wire.proofs.RDataRefusals.{behind_refused}
 use Rattle.record_wire.proofs.rdata.refusal.why_not_behind.Goals as goal

@@ -1,6 +1,4 @@
-use Rattle.std.proofs.Common.{length, ap, ◌∙◌, arith}
-use Rattle.std.proofs.lemmas.List.{take_rest}
-use Rattle.dns_wire.specs.DnsTables.{type_of}
+use Rattle.record_wire.proofs.Words.{◌∙◌, ap, arith, length, take_rest, type_of}
 use Rattle.record_wire.proofs.RecordFormat.{question_one, question_split}
 use Rattle.record_wire.proofs.record.Question.parse.Goals as goal
 

@@ -1,4 +1,4 @@
-use Rattle.std.proofs.Common.{refl, arith}
+use Rattle.record_wire.proofs.Words.{arith, refl}
 use Rattle.record_wire.proofs.RecordFormat.{question_here}
 use Rattle.record_wire.proofs.record.Question.refusal.Goals as goal
 

@@ -1,5 +1,4 @@
-use Rattle.std.proofs.Common.{List, ℕ, subst, sym}
-use Rattle.record_wire.specs.Record.{IsBehindName}
+use Rattle.record_wire.proofs.Words.{IsBehindName, List, ℕ, subst, sym}
 use Rattle.record_wire.proofs.RecordFormat.{record_split}
 use Rattle.record_wire.proofs.record.Record.parse.Goals as goal
 

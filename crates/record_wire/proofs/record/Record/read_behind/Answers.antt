@@ -1,6 +1,4 @@
-use Rattle.std.proofs.Common.{length, ap, sym, ◌∙◌, arith}
-use Rattle.std.proofs.lemmas.List.{take_rest}
-use Rattle.dns_wire.specs.DnsTables.{type_of}
+use Rattle.record_wire.proofs.Words.{◌∙◌, ap, arith, length, sym, take_rest, type_of}
 use Rattle.dns_wire.proofs.DnsRecordData.{data_bytes, rest_bytes}
 use Rattle.record_wire.proofs.RecordFormat.{behind_one}
 use Rattle.record_wire.proofs.record.Record.read_behind.Goals as goal

@@ -1,5 +1,4 @@
-use Rattle.std.proofs.Common.{length, refl, ap, arith}
-use Rattle.std.proofs.lemmas.List.{take_rest}
+use Rattle.record_wire.proofs.Words.{ap, arith, length, refl, take_rest}
 use Rattle.record_wire.proofs.RecordFormat.{record_here}
 use Rattle.record_wire.proofs.record.Record.refusal.Goals as goal
 

@@ -1,4 +1,4 @@
-use Rattle.std.proofs.Common.{sym, ◌∙◌}
+use Rattle.record_wire.proofs.Words.{◌∙◌, sym}
 use Rattle.record_wire.proofs.Ahead.{bytes_progress}
 use Rattle.record_wire.proofs.StringLists.{strings_none, strings_some}
 use Rattle.record_wire.proofs.strings.TxtStringsIterator.next.Goals as goal

@@ -1,6 +1,4 @@
-use Rattle.std.proofs.Common.{sym, subst}
-use Rattle.dns_wire.specs.DnsPacket.{view_octets}
-use Rattle.record_wire.specs.Record.{record_of}
+use Rattle.record_wire.proofs.Words.{record_of, subst, sym, view_octets}
 use Rattle.record_wire.specs.RecordText.{IsRecordText}
 use Rattle.record_wire.proofs.text.entry.read_record.Goals as goal
 

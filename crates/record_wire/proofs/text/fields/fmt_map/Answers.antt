@@ -1,9 +1,6 @@
 -- Each turn writes the types of a byte.
-use Rattle.std.proofs.Common.{ℕ, List, ◌++◌, IsOk, refl, sym, ap, ◌∙◌, subst, rules}
-use Rattle.std.proofs.lemmas.Grind.{put_two}
-use Rattle.std.proofs.lemmas.List.{append-nil}
-use Rattle.std.specs.Fmt.{HasWritten}
-use Rattle.record_wire.specs.FieldsText.{byte_text, map_text, number_at}
+use Rattle.record_wire.proofs.Words.{◌++◌, ◌∙◌, HasWritten, IsOk, List, ℕ, ap, append-nil, byte_text, map_text}
+use Rattle.record_wire.proofs.Words.{number_at, put_two, refl, rules, subst, sym}
 use Rattle.record_wire.proofs.FieldTexts.{map_more, map_none}
 use Rattle.record_wire.proofs.RecordTexts.{one_text}
 use Rattle.record_wire.proofs.text.fields.fmt_map.Goals as goal

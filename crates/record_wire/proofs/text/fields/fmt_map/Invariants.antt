@@ -1,7 +1,5 @@
 -- What is written so far, and the types that are left.
-use Rattle.std.proofs.Common.{◌≡◌, ℕ, List, ◌++◌, length}
-use Rattle.std.specs.Fmt.{HasWritten, IsPlainFormatter}
-use Rattle.record_wire.specs.FieldsText.{map_text}
+use Rattle.record_wire.proofs.Words.{◌≡◌, ◌++◌, HasWritten, IsPlainFormatter, List, ℕ, length, map_text}
 use Rattle.record_wire.proofs.text.fields.fmt_map.Given as goal
 
 abbrev pub invariant-loop-byte : goal.invariant-loop-byte

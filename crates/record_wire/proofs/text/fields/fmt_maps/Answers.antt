@@ -1,10 +1,6 @@
 -- Each turn writes the types of a map.
-use Rattle.std.proofs.Common.{ℕ, ◌*◌, List, ◌++◌, IsOk, refl, sym, ap, ◌∙◌, subst, rules}
-use Rattle.std.proofs.lemmas.Grind.{put_two}
-use Rattle.std.proofs.lemmas.List.{append-nil}
-use Rattle.std.specs.Fmt.{HasWritten}
-use Rattle.record_wire.specs.Fields.{MapValue}
-use Rattle.record_wire.specs.FieldsText.{map_text, types_text, maps_text}
+use Rattle.record_wire.proofs.Words.{◌*◌, ◌++◌, ◌∙◌, HasWritten, IsOk, List, MapValue, ℕ, ap, append-nil, map_text}
+use Rattle.record_wire.proofs.Words.{maps_text, put_two, refl, rules, subst, sym, types_text}
 use Rattle.record_wire.proofs.FieldTexts.{maps_more, maps_none}
 use Rattle.record_wire.proofs.RecordTexts.{one_text}
 use Rattle.record_wire.proofs.text.fields.fmt_maps.Goals as goal

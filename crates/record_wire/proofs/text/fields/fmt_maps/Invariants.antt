@@ -1,7 +1,5 @@
 -- What is written so far, and the types that are left.
-use Rattle.std.proofs.Common.{◌≡◌, ℕ, List, ◌++◌, length}
-use Rattle.std.specs.Fmt.{HasWritten, IsPlainFormatter}
-use Rattle.record_wire.specs.FieldsText.{maps_text}
+use Rattle.record_wire.proofs.Words.{◌≡◌, ◌++◌, HasWritten, IsPlainFormatter, List, ℕ, length, maps_text}
 use Rattle.record_wire.proofs.text.fields.fmt_maps.Given as goal
 
 abbrev pub invariant-loop-upper : goal.invariant-loop-upper

@@ -1,11 +1,8 @@
 -- Each turn writes an answer.
-use Rattle.std.proofs.Common.{ℕ, List, [], ◌++◌, IsOk, codes, refl, sym, ap, ◌∙◌, subst, rules}
-use Rattle.std.proofs.lemmas.Grind.{put_two}
-use Rattle.std.proofs.lemmas.List.{append-nil}
-use Rattle.std.specs.Fmt.{HasWritten}
+use Rattle.record_wire.proofs.Words.{[], ◌++◌, ◌∙◌, HasWritten, IsOk, List, ℕ, ap, append-nil, codes, option_of}
+use Rattle.record_wire.proofs.Words.{options_text, put_two, refl, rules, subst, sym}
 use Rattle.wirebase.specs.Answers.{seen}
-use Rattle.record_wire.specs.Edns.{option_of}
-use Rattle.record_wire.specs.OptText.{answer_text, options_text}
+use Rattle.record_wire.specs.OptText.{answer_text}
 use Rattle.record_wire.proofs.RecordTexts.{one_text}
 use Rattle.record_wire.proofs.text.opt.fmt_options.Goals as goal
 

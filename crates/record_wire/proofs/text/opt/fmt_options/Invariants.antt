@@ -1,7 +1,5 @@
 -- What is written so far, and the texts of the answers that are left.
-use Rattle.std.proofs.Common.{◌≡◌, ℕ, List, ◌++◌, length}
-use Rattle.std.specs.Fmt.{HasWritten, IsPlainFormatter}
-use Rattle.record_wire.specs.OptText.{options_text}
+use Rattle.record_wire.proofs.Words.{◌≡◌, ◌++◌, HasWritten, IsPlainFormatter, List, ℕ, length, options_text}
 use Rattle.record_wire.proofs.text.opt.fmt_options.Given as goal
 
 abbrev pub invariant-loop-answer : goal.invariant-loop-answer

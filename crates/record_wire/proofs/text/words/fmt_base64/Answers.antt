@@ -1,7 +1,5 @@
 -- Each turn writes three bytes.
-use Rattle.std.proofs.Common.{◌/◌, ◌%◌, ◌*◌, ◌+◌, ◌++◌, IsOk, refl, rules}
-use Rattle.std.proofs.lemmas.Grind.{put_two}
-use Rattle.record_wire.specs.ZoneText.{base64}
+use Rattle.record_wire.proofs.Words.{◌/◌, ◌%◌, ◌*◌, ◌+◌, ◌++◌, IsOk, base64, put_two, refl, rules}
 use Rattle.record_wire.proofs.FieldTexts.{four, base64_more}
 use Rattle.record_wire.proofs.RecordTexts.{one_text}
 use Rattle.record_wire.proofs.text.words.fmt_base64.Goals as goal

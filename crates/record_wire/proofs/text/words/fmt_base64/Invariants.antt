@@ -1,7 +1,5 @@
 -- What is written so far, and the bytes that are left.
-use Rattle.std.proofs.Common.{◌≡◌, ℕ, List, ◌++◌, length}
-use Rattle.std.specs.Fmt.{HasWritten, IsPlainFormatter}
-use Rattle.record_wire.specs.ZoneText.{base64}
+use Rattle.record_wire.proofs.Words.{◌≡◌, ◌++◌, HasWritten, IsPlainFormatter, List, ℕ, base64, length}
 use Rattle.record_wire.proofs.text.words.fmt_base64.Given as goal
 
 abbrev pub invariant-loop-a : goal.invariant-loop-a

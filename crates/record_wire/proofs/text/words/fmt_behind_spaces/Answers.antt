@@ -1,9 +1,7 @@
 -- Each turn writes a string after a space.
-use Rattle.std.proofs.Common.{ℕ, List, [], ◌∷◌, ◌++◌, IsOk, refl, sym, ap, ◌∙◌, subst, rules}
-use Rattle.std.proofs.lemmas.Grind.{put_two}
-use Rattle.std.proofs.lemmas.List.{append-nil}
-use Rattle.std.specs.Fmt.{HasWritten}
-use Rattle.record_wire.specs.ZoneText.{word, string_text, string_words}
+use Rattle.record_wire.proofs.Words.{[], ◌∷◌, ◌++◌, ◌∙◌, HasWritten, IsOk, List, ℕ, ap, append-nil, put_two, refl}
+use Rattle.record_wire.proofs.Words.{rules, string_text, string_words, subst, sym}
+use Rattle.record_wire.specs.ZoneText.{word}
 use Rattle.record_wire.proofs.RecordTexts.{one_text}
 use Rattle.record_wire.proofs.text.words.fmt_behind_spaces.Goals as goal
 

@@ -1,7 +1,5 @@
 -- What is written so far, and the words that are left.
-use Rattle.std.proofs.Common.{◌≡◌, ℕ, List, ◌++◌, length}
-use Rattle.std.specs.Fmt.{HasWritten, IsPlainFormatter}
-use Rattle.record_wire.specs.ZoneText.{string_words}
+use Rattle.record_wire.proofs.Words.{◌≡◌, ◌++◌, HasWritten, IsPlainFormatter, List, ℕ, length, string_words}
 use Rattle.record_wire.proofs.text.words.fmt_behind_spaces.Given as goal
 
 abbrev pub invariant-loop-string : goal.invariant-loop-string

@@ -1,7 +1,5 @@
 -- Each turn writes a byte.
-use Rattle.std.proofs.Common.{IsOk, rules}
-use Rattle.std.proofs.lemmas.Grind.{put_two}
-use Rattle.record_wire.specs.ZoneText.{string_character}
+use Rattle.record_wire.proofs.Words.{IsOk, put_two, rules, string_character}
 use Rattle.record_wire.proofs.RecordTexts.{one_more}
 use Rattle.record_wire.proofs.text.words.fmt_characters.Goals as goal
 

@@ -1,7 +1,5 @@
 -- The bytes so far are written.
-use Rattle.std.proofs.Common.{flat_map, take}
-use Rattle.std.specs.Fmt.{HasWritten, IsPlainFormatter}
-use Rattle.record_wire.specs.ZoneText.{string_character}
+use Rattle.record_wire.proofs.Words.{HasWritten, IsPlainFormatter, flat_map, string_character, take}
 use Rattle.record_wire.proofs.text.words.fmt_characters.Given as goal
 
 abbrev pub invariant-loop-byte : goal.invariant-loop-byte

@@ -1,5 +1,4 @@
-use Rattle.std.proofs.Common.{[], sym, subst, rules}
-use Rattle.std.specs.Fmt.{HasWritten}
+use Rattle.record_wire.proofs.Words.{[], HasWritten, rules, subst, sym}
 use Rattle.record_wire.proofs.FieldTexts.{base64_none, base64_one, base64_two}
 use Rattle.record_wire.proofs.text.words.fmt_last.Goals as goal
 

@@ -1,6 +1,4 @@
-use Rattle.std.proofs.Common.{◌≡◌, List, ℕ, [], ◌∷◌, subst, refl}
-use Rattle.std.specs.Fmt.{HasWritten}
-use Rattle.std.specs.Str.{IsAscii}
+use Rattle.record_wire.proofs.Words.{◌≡◌, [], ◌∷◌, HasWritten, IsAscii, List, ℕ, refl, subst}
 use Rattle.record_wire.proofs.FieldTexts.{four, four_ascii}
 use Rattle.record_wire.proofs.text.words.write_digits.Goals as goal
 

@@ -1,10 +1,6 @@
 -- The part begins at the place of the next byte, or where the bytes end if that is past them and nothing is asked for.
-use Rattle.std.proofs.Common.{◌≡◌, ℕ, ◌+◌, ◌-◌, ◌≤◌, min, List, ◌++◌, length, take, drop, refl, sym, ap, ◌∙◌, inl, inr}
-use Rattle.std.proofs.Common.{arith, length-drop}
-use Rattle.std.proofs.lemmas.List.{take_all, drop_all}
-use Rattle.std.proofs.lemmas.Bool.{cases_lt}
-use Rattle.wirebase.specs.Bytes.{part, splice}
-use Rattle.wirebase.specs.ByteWriter.{sheet_of}
+use Rattle.wirebase.proofs.Words.{◌≡◌, ◌+◌, ◌-◌, ◌≤◌, ◌++◌, ◌∙◌, List, ℕ, ap, arith, cases_lt, drop, drop_all, inl, inr}
+use Rattle.wirebase.proofs.Words.{length, length-drop, min, part, refl, sheet_of, splice, sym, take, take_all}
 use Rattle.wirebase.proofs.Chains.{sheet_of-part, room-part}
 use Rattle.wirebase.proofs.byte_writer.Cursor.part.Goals as goal
 

@@ -1,6 +1,4 @@
-use Rattle.std.proofs.Common.{length, refl, ap, ◌∙◌}
-use Rattle.std.proofs.lemmas.List.{take_at}
-use Rattle.wirebase.specs.HardwareAddress.{raw_bytes}
+use Rattle.wirebase.proofs.Words.{◌∙◌, ap, length, raw_bytes, refl, take_at}
 use Rattle.wirebase.proofs.HardwareAddresses.{same_raw, same_front}
 use Rattle.wirebase.proofs.ethernet.RawHardwareAddress.from_bytes.Goals as goal
 

@@ -1,6 +1,5 @@
-use Rattle.std.proofs.Common.{sym, arith}
+use Rattle.wirebase.proofs.Words.{Emits, arith, sym}
 use Rattle.wirebase.proofs.Chains.{lent}
-use Rattle.wirebase.specs.Ipv4.{Emits}
 use Rattle.wirebase.proofs.ipv4.Ipv4Repr.emit.Goals as goal
 
 pub emit_into-requires-clause-room : goal.emit_into-requires-clause-room

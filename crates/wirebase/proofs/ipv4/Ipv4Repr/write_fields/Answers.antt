@@ -1,10 +1,6 @@
 -- The numbers that are written for adjacent fields have the bytes of these fields.
-use Rattle.std.proofs.Common.{rules, ◌≡◌, ◌+◌, ℕ, List, [], ◌∷◌, refl, ap, ◌∙◌}
-use Rattle.wirebase.specs.Bytes.{over}
-use Rattle.wirebase.specs.ByteWriter.{Puts, fields, be8, be16, be32}
-use Rattle.wirebase.specs.Ip.{protocol_number}
-use Rattle.wirebase.specs.Ipv4.{header_fields, octets_of}
-use Rattle.wirebase.specs.declared.ipv4.Ipv4Repr.{Ipv4Repr}
+use Rattle.wirebase.proofs.Words.{◌≡◌, ◌+◌, [], ◌∷◌, ◌∙◌, Ipv4Repr, List, Puts, ℕ, ap, be16, be32, be8, fields}
+use Rattle.wirebase.proofs.Words.{header_fields, octets_of, over, protocol_number, refl, rules}
 use Rattle.wirebase.proofs.Chains.{over-puts}
 use Rattle.wirebase.proofs.ipv4.Ipv4Repr.write_fields.Goals as goal
 

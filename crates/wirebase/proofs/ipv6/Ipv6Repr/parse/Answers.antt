@@ -1,5 +1,5 @@
-use Rattle.std.proofs.Common.{Ok, ap}
-use Rattle.wirebase.specs.Ipv6.{view_octets, IsHeader}
+use Rattle.wirebase.proofs.Words.{IsHeader, Ok, ap}
+use Rattle.wirebase.specs.Ipv6.{view_octets}
 use Rattle.wirebase.proofs.Ipv6Header.{one_header}
 use Rattle.wirebase.proofs.ipv6.Ipv6Repr.parse.Goals as goal
 

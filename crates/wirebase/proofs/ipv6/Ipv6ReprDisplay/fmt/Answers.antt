@@ -1,6 +1,5 @@
-use Rattle.std.proofs.Common.{List, ℕ, subst}
+use Rattle.wirebase.proofs.Words.{HasWritten, List, ℕ, subst}
 use Rattle.std.proofs.lemmas.List.{append_assoc}
-use Rattle.std.specs.Fmt.{HasWritten}
 use Rattle.wirebase.proofs.ipv6.Ipv6ReprDisplay.fmt.Goals as goal
 
 pub returns-clause-writes : goal.returns-clause-writes

@@ -1,4 +1,4 @@
-use Rattle.std.proofs.Common.{◌≡◌, ℕ, List, length, refl, ap, ◌∙◌}
+use Rattle.wirebase.proofs.Words.{◌≡◌, ◌∙◌, List, ℕ, ap, length, refl}
 use Rattle.wirebase.proofs.Pieces.{splice-whole, part-whole}
 use Rattle.wirebase.proofs.octets.OctetsMut.octets_mut.Goals as goal
 

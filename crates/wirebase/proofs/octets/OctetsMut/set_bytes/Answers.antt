@@ -1,5 +1,4 @@
-use Rattle.std.proofs.Common.{ℕ, List, ap, ◌∙◌, sym}
-use Rattle.wirebase.specs.Bytes.{splice}
+use Rattle.wirebase.proofs.Words.{◌∙◌, List, ℕ, ap, splice, sym}
 use Rattle.wirebase.proofs.Setters.{length-put}
 use Rattle.wirebase.proofs.octets.OctetsMut.set_bytes.Goals as goal
 

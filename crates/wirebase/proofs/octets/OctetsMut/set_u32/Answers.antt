@@ -1,5 +1,4 @@
-use Rattle.std.proofs.Common.{ℕ, List, ap, ◌∙◌, arith}
-use Rattle.wirebase.specs.Bytes.{splice}
+use Rattle.wirebase.proofs.Words.{◌∙◌, List, ℕ, ap, arith, splice}
 use Rattle.wirebase.proofs.Pieces.{append-drop_whole}
 use Rattle.wirebase.proofs.Setters.{length-put}
 use Rattle.wirebase.proofs.octets.OctetsMut.set_u32.Goals as goal

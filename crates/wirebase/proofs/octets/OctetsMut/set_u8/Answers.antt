@@ -1,5 +1,4 @@
-use Rattle.std.proofs.Common.{ℕ, List, length, ap, ◌∙◌, arith}
-use Rattle.wirebase.specs.Bytes.{splice}
+use Rattle.wirebase.proofs.Words.{◌∙◌, List, ℕ, ap, arith, length, splice}
 use Rattle.wirebase.proofs.Pieces.{slice_set-one}
 use Rattle.wirebase.proofs.Setters.{length-put}
 use Rattle.wirebase.proofs.octets.OctetsMut.set_u8.Goals as goal

@@ -2,14 +2,18 @@
 //! Addresses and ports as text.
 
 use crate::testing::{holds_of, same_of};
+use control_wire::inside::text::{put_v4, put_v6};
 use control_wire::{Ipv4Address, Ipv6Address};
-use listing::endpoint::{write_v4, write_v6};
+use listing::output::ToWriter;
 #[allow(unused_imports)]
 use rattle_std::prelude::*;
 
 fn check_v4(address: Ipv4Address, port: Option<u16>, want: &str) {
     let mut output = Vec::new();
-    holds_of(want, write_v4(&mut output, address, port).is_ok());
+    holds_of(
+        want,
+        put_v4::<_, ToWriter>(&mut output, address, port).is_ok(),
+    );
     same_of(want, output.as_slice(), want.as_bytes());
 }
 
@@ -17,7 +21,10 @@ fn check_v6(groups: [u16; 8], port: Option<u16>, want: &str) {
     let [a, b, c, d, e, f, g, h] = groups;
     let address = Ipv6Address::new(a, b, c, d, e, f, g, h);
     let mut output = Vec::new();
-    holds_of(want, write_v6(&mut output, address, port).is_ok());
+    holds_of(
+        want,
+        put_v6::<_, ToWriter>(&mut output, address, port).is_ok(),
+    );
     same_of(want, output.as_slice(), want.as_bytes());
 }
 

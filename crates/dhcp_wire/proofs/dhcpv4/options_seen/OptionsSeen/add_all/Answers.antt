@@ -1,14 +1,14 @@
-use Rattle.std.proofs.Common.{◌≡◌, ℕ, true, false, List, refl, sym, ap, subst, ◌∙◌}
+use Rattle.std.proofs.Common.{◌≡◌, ℕ, true, false, List, [], ◌∷◌, Option, sym, ap, subst, ◌∙◌}
+use Rattle.std.specs.Option.{option_or}
 use Rattle.wirebase.specs.Bytes.{byte_of}
-use Rattle.wirebase.specs.LastOf.{keep_all}
-use Rattle.wirebase.proofs.LastOf.{keep_all-none, keep_all-more}
-use Rattle.dhcp_wire.specs.Dhcpv4.{AreOfEthernet}
-use Rattle.dhcp_wire.specs.Dhcpv4OptionsSeen.{Kept, kept_of, nothing, keep}
+use Rattle.wirebase.proofs.LastOf.{or-assoc}
+use Rattle.dhcp_wire.specs.declared.dhcpv4.tables.MessageType.{MessageType}
+use Rattle.dhcp_wire.specs.Dhcpv4.{AreOfEthernet, Value, value_of, type_among, with_options}
 use Rattle.dhcp_wire.specs.Dhcpv4Options.{OptionValue, value_of_option}
 use Rattle.dhcp_wire.specs.Dhcpv4OptionsAhead.{list_of}
 use Rattle.dhcp_wire.specs.Dhcpv4Packet.{inner, op_field, options_in}
 use Rattle.dhcp_wire.specs.Dhcpv4Tables.{opcode_number}
-use Rattle.dhcp_wire.proofs.Dhcpv4Kept.{opcode_back}
+use Rattle.dhcp_wire.proofs.Dhcpv4Kept.{with-none, with-more, opcode_back}
 use Rattle.dhcp_wire.proofs.Dhcpv4Lists.{list-options}
 use Rattle.dhcp_wire.proofs.dhcpv4.options_seen.OptionsSeen.add_all.Goals as goal
 
@@ -17,15 +17,14 @@ loop-option-init c =
     let bytes = (inner c.args.packet.now).now in
     let op = byte_of op_field bytes in
     let whole : List OptionValue = list_of (options_in bytes) in
-    let same : whole ≡ c.into_iter-option-iterator.result =
-    c.into_options-option-items.ensures.unique whole (list-options (options_in bytes))
-    ∙ sym c.into_iter-option-iterator.ensures.into_iter_gives in
+    let same : c.into_iter-option-iterator.result ≡ whole =
+    c.into_iter-option-iterator.ensures.into_iter_gives
+    ∙ sym (c.into_options-option-items.ensures.unique whole (list-options (options_in bytes))) in
     record {
-      header = refl;
-      kept = ap (λ (k : Kept). keep_all (keep op) k c.into_iter-option-iterator.result) c.requires.fresh
-          ∙ ap (λ (os : List OptionValue). keep_all (keep op) nothing os) (sym same);
-      good = λ h. subst (λ (os : List OptionValue). AreOfEthernet os) (sym same) h;
-      all_good = λ h. subst (λ (os : List OptionValue). AreOfEthernet os) same h;
+      typed = ap (λ (os : List OptionValue). option_or (type_among op os) c.args.self.now.message_type) same;
+      value = ap (λ (os : List OptionValue). with_options os (value_of c.args.self.now.repr)) same;
+      good = λ h. subst (λ (os : List OptionValue). AreOfEthernet os) same h;
+      all_good = λ h. subst (λ (os : List OptionValue). AreOfEthernet os) (sym same) h;
     }
 
 pub returns-then-not-is_of_ethernet-clause-refused : goal.returns-then-not-is_of_ethernet-clause-refused
@@ -38,16 +37,21 @@ returns-then-not-is_of_ethernet-clause-refused c = λ all.
 pub loop-option-preserved : goal.loop-option-preserved
 loop-option-preserved c =
     let op = byte_of op_field (inner c.args.packet.now).now in
-    let k = kept_of c.loop-option.self in
+    let seen = c.loop-option.self in
     let o = value_of_option c.in-Some.option in
     let rest = c.next.new.self in
     let steps = c.in-Some.ensures.steps in
     let same : c.into-op.result ≡ op = c.into-op.ensures ∙ ap opcode_number c.opcode.ensures ∙ opcode_back op in
     record {
-      header = c.add.ensures.header ∙ c.loop-option.invariant.header;
-      kept = ap (λ (l : Kept). keep_all (keep op) l rest) (c.add.ensures.kept ∙ ap (λ (n : ℕ). keep n k o) same)
-          ∙ sym (keep_all-more (keep op) k o rest) ∙ ap (λ (os : List OptionValue). keep_all (keep op) k os) (sym steps)
-          ∙ c.loop-option.invariant.kept;
+      typed = ap (λ (t : Option MessageType). option_or (type_among op rest) t)
+          (c.add.ensures.typed ∙ ap (λ (n : ℕ). option_or (type_among n (o ∷ [])) seen.message_type) same)
+          ∙ or-assoc (type_among op rest) (type_among op (o ∷ [])) seen.message_type
+          ∙ ap (λ (os : List OptionValue). option_or (type_among op os) seen.message_type) (sym steps)
+          ∙ c.loop-option.invariant.typed;
+      value = ap (λ (v : Value). with_options rest v) c.add.ensures.value
+          ∙ sym (with-more o rest (value_of seen.repr))
+          ∙ ap (λ (os : List OptionValue). with_options os (value_of seen.repr)) (sym steps)
+          ∙ c.loop-option.invariant.value;
       good = λ h. c.loop-option.invariant.good
           (subst (λ (os : List OptionValue). AreOfEthernet os) (sym steps)
           (c.is_of_ethernet.ensures.0 c.if-not-is_of_ethernet.false, h));
@@ -55,13 +59,18 @@ loop-option-preserved c =
           (subst (λ (os : List OptionValue). AreOfEthernet os) steps (c.loop-option.invariant.all_good h)).1;
     }
 
-pub returns-clause-found : goal.returns-clause-found
-returns-clause-found c =
+pub returns-clause-typed : goal.returns-clause-typed
+returns-clause-typed c =
     let op = byte_of op_field (inner c.args.packet.now).now in
-    let k = kept_of c.loop-option.self in
-    sym (keep_all-none (keep op) k)
-    ∙ ap (λ (os : List OptionValue). keep_all (keep op) k os) (sym c.in-None.ensures.steps.0)
-    ∙ c.loop-option.invariant.kept
+    ap (λ (os : List OptionValue). option_or (type_among op os) c.loop-option.self.message_type)
+    (sym c.in-None.ensures.steps.0)
+    ∙ c.loop-option.invariant.typed
+
+pub returns-clause-value : goal.returns-clause-value
+returns-clause-value c =
+    sym (with-none (value_of c.loop-option.self.repr))
+    ∙ ap (λ (os : List OptionValue). with_options os (value_of c.loop-option.self.repr)) (sym c.in-None.ensures.steps.0)
+    ∙ c.loop-option.invariant.value
 
 pub returns-clause-accepted : goal.returns-clause-accepted
 returns-clause-accepted c =

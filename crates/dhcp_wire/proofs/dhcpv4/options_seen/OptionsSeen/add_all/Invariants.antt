@@ -1,8 +1,7 @@
 use Rattle.std.proofs.Common.{◌≡◌}
+use Rattle.std.specs.Option.{option_or}
 use Rattle.wirebase.specs.Bytes.{byte_of}
-use Rattle.wirebase.specs.LastOf.{keep_all}
-use Rattle.dhcp_wire.specs.Dhcpv4.{AreOfEthernet, value_of}
-use Rattle.dhcp_wire.specs.Dhcpv4OptionsSeen.{kept_of, bare, nothing, keep}
+use Rattle.dhcp_wire.specs.Dhcpv4.{AreOfEthernet, value_of, type_among, with_options}
 use Rattle.dhcp_wire.specs.Dhcpv4OptionsAhead.{list_of}
 use Rattle.dhcp_wire.specs.Dhcpv4Packet.{inner, op_field, options_in}
 use Rattle.dhcp_wire.proofs.dhcpv4.options_seen.OptionsSeen.add_all.Given as goal
@@ -10,9 +9,11 @@ use Rattle.dhcp_wire.proofs.dhcpv4.options_seen.OptionsSeen.add_all.Given as goa
 -- doing the rest gives the result of doing the whole
 abbrev pub invariant-loop-option : goal.invariant-loop-option
 invariant-loop-option l = record {
-  kept : keep_all (keep (byte_of op_field (inner l.packet).now)) (kept_of l.self) l.option-iterator
-      ≡ keep_all (keep (byte_of op_field (inner l.packet).now)) nothing (list_of (options_in (inner l.packet).now));
-  header : bare (value_of l.self.repr) ≡ bare (value_of l.initial.self.repr);
+  typed : option_or (type_among (byte_of op_field (inner l.packet).now) l.option-iterator) l.self.message_type
+      ≡ option_or (type_among (byte_of op_field (inner l.packet).now) (list_of (options_in (inner l.packet).now)))
+      l.initial.self.message_type;
+  value : with_options l.option-iterator (value_of l.self.repr)
+      ≡ with_options (list_of (options_in (inner l.packet).now)) (value_of l.initial.self.repr);
   good : AreOfEthernet l.option-iterator → AreOfEthernet (list_of (options_in (inner l.packet).now));
   all_good : AreOfEthernet (list_of (options_in (inner l.packet).now)) → AreOfEthernet l.option-iterator;
 }

@@ -1,16 +1,16 @@
 use Rattle.std.proofs.Common.{◌≡◌, ℕ, ◌+◌, length, map, sym, ap, ◌∙◌, arith}
 use Rattle.dhcp_wire.specs.Dhcpv4.{value_of, options_text, text}
 use Rattle.dhcp_wire.specs.Dhcpv4Options.{value_of_option}
-use Rattle.dhcp_wire.proofs.Dhcpv4Lengths.{lengths, counted_len-fields, text_len-fields, text_len-whole}
+use Rattle.dhcp_wire.proofs.Dhcpv4Lengths.{lengths, text_len-fields, text_len-whole}
 use Rattle.dhcp_wire.proofs.dhcpv4.repr.Repr.buffer_len.Goals as goal
 
 pub fields_len-len-requires : goal.fields_len-len-requires
-fields_len-len-requires c = omega (arith, counted_len-fields (value_of c.args.self.now), c.requires)
+fields_len-len-requires c = omega (arith, c.requires)
 
 pub loop-option-init : goal.loop-option-init
 loop-option-init c =
     ap (λ (n : ℕ). n + length (options_text (map value_of_option c.args.self.now.additional_options.now)))
-    (c.fields_len-len.ensures ∙ counted_len-fields (value_of c.args.self.now))
+    c.fields_len-len.ensures
     ∙ sym (text_len-fields (value_of c.args.self.now))
 
 pub overflow_add-len-in-loop-option : goal.overflow_add-len-in-loop-option

@@ -1,10 +1,9 @@
-use Rattle.std.proofs.Common.{refl, sym, ap, subst, ◌∙◌}
+use Rattle.std.proofs.Common.{refl, sym, ◌∙◌}
 use Rattle.wirebase.proofs.Format.{rewrites}
-use Rattle.dhcp_wire.specs.Dhcpv4.{Value, value_of}
+use Rattle.dhcp_wire.specs.Dhcpv4.{value_of}
 use Rattle.dhcp_wire.specs.Dhcpv4Format.{format}
-use Rattle.dhcp_wire.specs.Dhcpv4OptionsSeen.{Kept, IsMadeOf}
 use Rattle.dhcp_wire.specs.Dhcpv4Packet.{inner}
-use Rattle.dhcp_wire.proofs.Dhcpv4Kept.{made-of-found, packet-made, packet-typed, packet-unique, good_options}
+use Rattle.dhcp_wire.proofs.Dhcpv4Kept.{packet-made, packet-typed, packet-unique, good_options, given-last}
 use Rattle.dhcp_wire.proofs.Dhcpv4Laws.{dhcp_format}
 use Rattle.dhcp_wire.proofs.dhcpv4.repr.Repr.parse.Goals as goal
 
@@ -14,20 +13,15 @@ returns-in_err-add_all-clause-complete c value p =
 
 pub returns-in_default-clause-complete : goal.returns-in_default-clause-complete
 returns-in_default-clause-complete c value p =
-    let none = sym c.in_default.is ∙ ap (λ (k : Kept). k.message_type) c.in_ok-add_all.ensures.found
+    let none = sym c.in_default.is ∙ given-last c.in_ok-add_all.ensures.typed
     ∙ packet-typed (inner c.args.packet.now).now value p in
     cc
 
 pub returns-clause-sound : goal.returns-clause-sound
 returns-clause-sound c =
-    let bytes = (inner c.args.packet.now).now in
-    let t = c.in-Some.message_type in
-    let v : Value = record (value_of c.add_all.new.self.repr) { message_type = t } in
-    let found = c.in_ok-add_all.ensures.found in
-    packet-made bytes t v (c.in_ok-check_header.ensures.0 refl) c.in_ok-add_all.ensures.accepted
-    (sym (ap (λ (k : Kept). k.message_type) found) ∙ c.in-Some.is)
-    (subst (λ (k : Kept). IsMadeOf bytes t k v) found
-    (made-of-found bytes t (value_of c.of.result) c.add_all.new.self c.of.ensures.header c.add_all.ensures.header))
+    packet-made (inner c.args.packet.now).now c.in-Some.message_type (value_of c.add_all.new.self.repr)
+    (value_of c.of.result) (c.in_ok-check_header.ensures.0 refl) c.in_ok-add_all.ensures.accepted
+    (sym (given-last c.in_ok-add_all.ensures.typed) ∙ c.in-Some.is) c.of.ensures c.in_ok-add_all.ensures.value
 
 pub returns-clause-complete : goal.returns-clause-complete
 returns-clause-complete c value p = packet-unique (inner c.args.packet.now).now _ value (returns-clause-sound c) p

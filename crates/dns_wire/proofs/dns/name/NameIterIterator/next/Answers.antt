@@ -1,6 +1,4 @@
-use Rattle.std.proofs.Common.{◌≡◌, ◌+◌, [], Some, Ok, Err, refl, sym, ◌∙◌, arith}
-use Rattle.dns_wire.specs.DnsNameAhead.{ahead_of}
-use Rattle.dns_wire.specs.DnsNameWalk.{at_fault}
+use Rattle.dns_wire.proofs.Words.{◌≡◌, ◌+◌, [], ◌∙◌, Err, Ok, Some, ahead_of, arith, at_fault, refl, sym}
 use Rattle.dns_wire.proofs.DnsNameTurns.{ahead_label, ahead_pointer, ahead_far, ahead_stop, ahead_torn, ahead_ended}
 use Rattle.dns_wire.proofs.DnsNameTurns.{Points-length, Points-front, parts_length}
 use Rattle.dns_wire.proofs.DnsNameGiving.{gives_item, gives_end, progress_given}

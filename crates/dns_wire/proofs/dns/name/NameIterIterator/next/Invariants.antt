@@ -1,5 +1,4 @@
-use Rattle.std.proofs.Common.{◌≡◌, ◌+◌, ◌*◌, ◌<◌, ◌^◌, length}
-use Rattle.dns_wire.specs.DnsNameAhead.{ahead_of}
+use Rattle.dns_wire.proofs.Words.{◌≡◌, ◌+◌, ◌*◌, ◌<◌, ◌^◌, ahead_of, length}
 use Rattle.dns_wire.proofs.dns.name.NameIterIterator.next.Given as goal
 
 abbrev pub invariant-loop-label : goal.invariant-loop-label

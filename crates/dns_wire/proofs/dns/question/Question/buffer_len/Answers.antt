@@ -1,4 +1,4 @@
-use Rattle.std.proofs.Common.{sym}
+use Rattle.dns_wire.proofs.Words.{sym}
 use Rattle.dns_wire.specs.DnsQuestion.{value_of}
 use Rattle.dns_wire.proofs.DnsQuestionFormat.{length-question_text}
 use Rattle.dns_wire.proofs.dns.question.Question.buffer_len.Goals as goal

@@ -1,5 +1,4 @@
-use Rattle.std.proofs.Common.{◌∙◌, ℕ, ◌+◌, sym, ap}
-use Rattle.dns_wire.specs.DnsRepr.{value_of}
+use Rattle.dns_wire.proofs.Words.{◌∙◌, ◌+◌, ℕ, ap, sym, value_of}
 use Rattle.dns_wire.proofs.DnsReprFormat.{length-query_text}
 use Rattle.dns_wire.proofs.dns.repr.Repr.buffer_len.Goals as goal
 

@@ -1,6 +1,5 @@
-use Rattle.std.proofs.Common.{ℕ, List, sym, ap}
+use Rattle.dns_wire.proofs.Words.{Emits, List, ℕ, ap, sym, value_of}
 use Rattle.wirebase.proofs.Chains.{lent}
-use Rattle.dns_wire.specs.DnsRepr.{value_of, Emits}
 use Rattle.dns_wire.proofs.dns.repr.Repr.emit.Goals as goal
 
 pub returns-clause-place : goal.returns-clause-place

@@ -1,4 +1,4 @@
-use Rattle.dns_wire.specs.DnsRepr.{value_of}
+use Rattle.dns_wire.proofs.Words.{value_of}
 use Rattle.dns_wire.proofs.DnsReprFormat.{query_emits}
 use Rattle.dns_wire.proofs.dns.repr.Repr.emit_into.Goals as goal
 

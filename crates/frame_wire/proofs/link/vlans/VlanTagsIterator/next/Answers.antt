@@ -1,7 +1,5 @@
 -- The tag at the start is given.
-use Rattle.std.proofs.Common.{ℕ, ◌∷◌, List, drop, ap, sym, ◌∙◌}
-use Rattle.frame_wire.specs.LinkVlans.{tags_in}
-use Rattle.frame_wire.specs.declared.link.vlans.VlanTag.{VlanTag}
+use Rattle.frame_wire.proofs.Words.{◌∷◌, ◌∙◌, List, VlanTag, ℕ, ap, drop, sym, tags_in}
 use Rattle.frame_wire.proofs.TagLists.{tags_short, tags_more, tag_progress}
 use Rattle.frame_wire.proofs.link.vlans.VlanTagsIterator.next.Goals as goal
 

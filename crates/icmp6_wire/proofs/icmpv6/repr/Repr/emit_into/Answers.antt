@@ -1,6 +1,5 @@
 use Rattle.std.proofs.Common.{◌≡◌, ◌≤◌, ℕ, List, length, refl, sym, ap, ◌∙◌, arith}
-use Rattle.wirebase.specs.Bytes.{over}
-use Rattle.wirebase.specs.Icmp.{checksum_field}
+use Rattle.icmp6_wire.specs.Words.{over, checksum_field}
 use Rattle.wirebase.proofs.CapabilitySeals.{length-sealed_where}
 use Rattle.wirebase.proofs.Format.{round_trips}
 use Rattle.wirebase.proofs.Pieces.{length-over, over-exact}

@@ -1,6 +1,5 @@
 use Rattle.std.proofs.Common.{List, length}
-use Rattle.wirebase.specs.LastOf.{keep_all}
-use Rattle.opt_wire.specs.NdiscOptionRepr.{OptionValue}
+use Rattle.icmp6_wire.specs.Words.{keep_all, OptionValue}
 use Rattle.icmp6_wire.specs.NdiscBlocks.{AreBlocks}
 use Rattle.icmp6_wire.specs.NdiscOptionsSeen.{kept_of, keep, Says, HasBlocks}
 use Rattle.icmp6_wire.proofs.ndisc.options_seen.OptionsSeen.add_all.Given as goal

@@ -1,5 +1,5 @@
 -- None, or all but the last comma.
-use Rattle.std.proofs.Common.{sym, arith}
+use Rattle.listing.proofs.Words.{arith, sym}
 use Rattle.listing.proofs.FlagNames.{no_flags, some_flags}
 use Rattle.listing.proofs.Printing.{gained_on_ok}
 use Rattle.listing.proofs.message.header.FlagNamesValue.write_to.Goals as goal

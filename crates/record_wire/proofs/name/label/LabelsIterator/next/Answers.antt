@@ -1,4 +1,4 @@
-use Rattle.std.proofs.Common.{sym, ◌∙◌}
+use Rattle.record_wire.proofs.Words.{◌∙◌, sym}
 use Rattle.record_wire.proofs.Ahead.{bytes_progress}
 use Rattle.record_wire.proofs.LabelLists.{labels-none, labels-some}
 use Rattle.record_wire.proofs.name.label.LabelsIterator.next.Goals as goal

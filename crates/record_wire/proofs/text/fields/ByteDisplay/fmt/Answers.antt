@@ -1,4 +1,4 @@
-use Rattle.record_wire.specs.FieldsText.{byte_text}
+use Rattle.record_wire.proofs.Words.{byte_text}
 use Rattle.record_wire.proofs.text.fields.ByteDisplay.fmt.Goals as goal
 
 pub returns-clause-writes : goal.returns-clause-writes

@@ -1,4 +1,4 @@
-use Rattle.record_wire.specs.Edns.{answers_in}
+use Rattle.record_wire.proofs.Words.{answers_in}
 use Rattle.record_wire.proofs.EdnsTiles.{tile_of}
 use Rattle.record_wire.proofs.text.opt.OptionsDisplay.fmt.Goals as goal
 

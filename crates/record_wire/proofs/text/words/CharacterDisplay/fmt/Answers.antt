@@ -1,5 +1,5 @@
 -- The byte itself, the byte after a backslash, or its number.
-use Rattle.std.proofs.Common.{sym, ◌∙◌}
+use Rattle.record_wire.proofs.Words.{◌∙◌, sym}
 use Rattle.record_wire.proofs.RecordTexts.{special_text, special_ascii, itself_text, itself_ascii, number_text}
 use Rattle.record_wire.proofs.text.words.CharacterDisplay.fmt.Goals as goal
 

@@ -1,7 +1,5 @@
 -- A quote, the bytes, a quote.
-use Rattle.std.proofs.Common.{IsOk, refl, rules}
-use Rattle.std.proofs.lemmas.Grind.{put_two}
-use Rattle.record_wire.specs.ZoneText.{string_text}
+use Rattle.record_wire.proofs.Words.{IsOk, put_two, refl, rules, string_text}
 use Rattle.record_wire.proofs.text.words.QuotedDisplay.fmt.Goals as goal
 
 pub returns-clause-writes : goal.returns-clause-writes

@@ -1,8 +1,5 @@
 -- The first string, and those after it.
-use Rattle.std.proofs.Common.{IsOk, sym, ap, ◌∙◌, subst, rules, []}
-use Rattle.std.proofs.lemmas.Grind.{put_two}
-use Rattle.std.specs.Fmt.{HasWritten}
-use Rattle.record_wire.specs.Strings.{strings_in}
+use Rattle.record_wire.proofs.Words.{◌∙◌, [], HasWritten, IsOk, ap, put_two, rules, strings_in, subst, sym}
 use Rattle.record_wire.specs.ZoneText.{strings_text}
 use Rattle.record_wire.proofs.StringLists.{strings_ahead}
 use Rattle.record_wire.proofs.text.words.StringsDisplay.fmt.Goals as goal

@@ -1,0 +1,19 @@
+-- The types that definitions and proofs speak of; a constructor is written behind its type, as `Type.Constructor`.
+pub use Rattle.capture.specs.declared.capture.Capture.{Capture}
+pub use Rattle.capture.specs.declared.calendar.Date.{Date}
+pub use Rattle.capture.specs.declared.ending.Ending.{Ending}
+pub use Rattle.capture.specs.declared.ending.Fault.{Fault}
+pub use Rattle.capture.specs.declared.pcap.FileHeader.{FileHeader}
+pub use Rattle.capture.specs.declared.pcapng.Head.{Head}
+pub use Rattle.capture.specs.declared.pcapng.Interface.{Interface}
+pub use Rattle.capture.specs.declared.capture.Next.{Next}
+pub use Rattle.capture.specs.declared.order.Order.{Order}
+pub use Rattle.capture.specs.declared.packet.Packet.{Packet}
+pub use Rattle.capture.specs.declared.pcap.Precision.{Precision}
+pub use Rattle.capture.specs.declared.capture.Record.{Record}
+pub use Rattle.capture.specs.declared.pcap.RecordHeader.{RecordHeader}
+pub use Rattle.capture.specs.declared.ending.Refusal.{Refusal}
+pub use Rattle.capture.specs.declared.capture.Stage.{Stage}
+pub use Rattle.capture.specs.declared.capture.Step.{Step}
+pub use Rattle.capture.specs.declared.unit.Taken.{Taken}
+pub use Rattle.capture.specs.declared.time.Time.{Time}
