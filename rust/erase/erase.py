@@ -254,12 +254,21 @@ def text_of(unit, kinds, target, file):
     if has_std_beside(unit) and target.name == "main.rs":
         return made + text[:at] + STD_BESIDE + text[at:]
     if not unit.is_library() or target.name != "lib.rs":
-        return made + text
+        return made + hide_inside(kinds, file, text)
     public = kinds["module"]
     modules = "".join(f"pub mod {public[crate][0]};\n" if crate in public else f"mod {crate};\n"
                       for crate in sorted(unit.crates) if crate != unit.root)
-    inside = "\n".join(f"pub use crate::{crate}::{module};" for crate, [module] in kinds["inside"].items())
+    inside = "\n".join(f"pub use crate::{public[crate][0] if crate in public else crate}::{module};"
+                       for crate, [module] in kinds["inside"].items())
     return made + LIB_HEAD.format(modules=modules.strip(), inside=inside) + text[at:]
+
+
+def hide_inside(kinds, file, text):
+    """The text of a public module whose own module is named as `inside`: that one has no documentation."""
+    if file.path.name == "lib.rt" and file.crate in kinds["module"] and file.crate in kinds["inside"]:
+        [module] = kinds["inside"][file.crate]
+        return text.replace(f"pub mod {module};", f"#[doc(hidden)]\npub mod {module};")
+    return text
 
 
 STD_BESIDE = """

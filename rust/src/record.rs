@@ -26,6 +26,9 @@
 pub mod classes;
 pub mod edns;
 pub mod entries;
+mod escapes;
+#[doc(hidden)]
+pub mod line;
 pub mod multicast;
 pub mod name;
 pub mod rdata;

@@ -6,8 +6,6 @@ pub mod Lines
 pub mod OneLine
 pub mod Options
 pub mod Printing
-pub mod Reading
-pub mod Showing
+pub mod Records
 pub mod Walking
 pub mod Words
-pub mod ZoneTexts

@@ -17,13 +17,9 @@ pub use Rattle.listing.specs.Layout.{IsListingOrRefused}
 unfoldable pub use Rattle.listing.specs.Layout.{field, line, part_field}
 pub use Rattle.listing.specs.ListingDns.{answers_listing}
 pub use Rattle.listing.specs.ListingEdns.{options_listing, unread_option}
-pub use Rattle.listing.specs.ListingRecord.{NameReads, StringsRead}
 pub use Rattle.listing.specs.Output.{Gains, GainsSome}
 pub use Rattle.record_wire.specs.Entries.{all_of}
-pub use Rattle.record_wire.specs.Labels.{wire}
-pub use Rattle.record_wire.specs.RData.{AreStrings}
 pub use Rattle.record_wire.specs.Record.{RecordValue, record_of}
-unfoldable pub use Rattle.record_wire.specs.ZoneText.{string_character, string_text, word}
 pub use Rattle.wirebase.specs.Hexadecimal.{octets_text}
 pub use Rattle.wirebase.specs.Ipv4.{address_text, octets_of}
 pub use Rattle.listing.specs.declared.message.unread.Unread.{Unread}

@@ -1,5 +1,5 @@
 -- How the program lays out what it prints: lines and fields, and the values after a field's name.
-use Rattle.std.specs.Prelude.{◌≡◌, ◌⊎◌, [], ◌∷◌, ◌++◌, List, None, Option, Some, ℕ, codes, decimal}
+use Rattle.std.specs.Prelude.{◌≡◌, ◌⊎◌, ◌++◌, List, None, Option, Some, ℕ, codes, decimal}
 use Rattle.listing.specs.Words.{Duration}
 use Rattle.wirebase.specs.Duration.{millis_of}
 

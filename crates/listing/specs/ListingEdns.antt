@@ -1,9 +1,9 @@
 -- What an OPT record prints (RFC 6891 section 6.1): what it says of its sender, and options.
 use Rattle.std.specs.Prelude.{[], ◌∷◌, ◌++◌, Err, List, None, Ok, Option, Some, ℕ, codes, decimal}
-use Rattle.listing.specs.Words.{NameRefusal, RecordValue, RefusesName, TextRefusal, Unread, octets_text, word}
+use Rattle.listing.specs.Words.{NameRefusal, RecordValue, RefusesName, TextRefusal, Unread, octets_text}
 use Rattle.record_wire.specs.Edns.{EdnsValue, IsEdns, OptionValue, Answer, Tile}
+use Rattle.record_wire.specs.NameRefusal.{HasName}
 use Rattle.listing.specs.Layout.{part_field}
-use Rattle.listing.specs.ListingRecord.{NameReads}
 
 -- ---- lines
 
@@ -11,7 +11,7 @@ unfoldable pub opt_field : List ℕ → List ℕ → List ℕ → List ℕ
 opt_field margin name value = margin ++ part_field (codes "opt.") name value
 
 abbrev pub option_text : OptionValue → List ℕ
-option_text option = decimal option.code ++ word (octets_text option.«data»)
+option_text option = decimal option.code ++ codes " " ++ octets_text option.«data»
 
 abbrev pub option_line : List ℕ → OptionValue → List ℕ
 option_line margin option = opt_field margin (codes "option") (option_text option)
@@ -40,9 +40,9 @@ unread_option (Err why ∷ answers) = Some (Unread.Option why)
 
 -- An OPT record, which says this, prints its lines where its name reads, up to an option that is cut, and else nothing.
 pub data OptPrints (margin message : List ℕ) (r : RecordValue) : List ℕ → Option Unread → Type 0 where
-  says : (edns : EdnsValue) (owner : List ℕ) (answers : List Answer) → IsEdns r edns
-      → NameReads message r.name owner → Tile edns.options answers
+  says : (edns : EdnsValue) (answers : List Answer) → IsEdns r edns → HasName r.name message
+      → Tile edns.options answers
       → OptPrints margin message r (sender_listing margin edns ++ options_listing margin answers)
       (unread_option answers)
-  says_for_no_name : (why : NameRefusal) → ((owner : List ℕ) → NameReads message r.name owner → ⊥)
+  says_for_no_name : (why : NameRefusal) → (HasName r.name message → ⊥)
       → RefusesName r.name message why → OptPrints margin message r [] (Some (Unread.Record (TextRefusal.Owner why)))

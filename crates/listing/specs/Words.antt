@@ -2,14 +2,8 @@
 pub use Rattle.dns_wire.specs.DnsTables.{type_number}
 pub use Rattle.quote_wire.specs.Error.{ErrorValue}
 pub use Rattle.record_wire.specs.Entries.{Left, RefusesEntry, section_at}
-unfoldable pub use Rattle.record_wire.specs.Mnemonics.{class_text, type_text}
 pub use Rattle.record_wire.specs.NameRefusal.{RefusesName}
-pub use Rattle.record_wire.specs.RData.{RDataValue, strings}
-pub use Rattle.record_wire.specs.RDataRefusal.{RefusesLayout}
 pub use Rattle.record_wire.specs.Record.{RecordValue}
-pub use Rattle.record_wire.specs.RecordText.{RefusesNameIn}
-pub use Rattle.record_wire.specs.Update.{data_layout}
-unfoldable pub use Rattle.record_wire.specs.ZoneText.{whole_name, word}
 pub use Rattle.wirebase.specs.Bytes.{number_of}
 pub use Rattle.wirebase.specs.Capabilities.{all_of}
 pub use Rattle.wirebase.specs.Display.{truth_text}
@@ -23,7 +17,6 @@ pub use Rattle.quote_wire.specs.declared.quote.Ipv4Quote.{Ipv4Quote}
 pub use Rattle.quote_wire.specs.declared.quote.Ipv6Quote.{Ipv6Quote}
 pub use Rattle.record_wire.specs.declared.entries.Section.{Section}
 pub use Rattle.record_wire.specs.declared.name.refusal.NameRefusal.{NameRefusal}
-pub use Rattle.record_wire.specs.declared.rdata.refusal.DataRefusal.{DataRefusal}
 pub use Rattle.record_wire.specs.declared.refusal.Refusal.{Refusal}
 pub use Rattle.record_wire.specs.declared.text.refusal.TextRefusal.{TextRefusal}
 pub use Rattle.wirebase.specs.declared.capabilities.Checksum.{Checksum}

@@ -2,7 +2,6 @@
 
 #![tactic(auto, using(crate::proofs::Printing::gains_both))]
 
-mod data;
 mod edns;
 mod header;
 mod record;

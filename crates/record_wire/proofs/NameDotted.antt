@@ -7,7 +7,8 @@ use Rattle.record_wire.proofs.Words.{true}
 use Rattle.std.proofs.lemmas.List.Sums.{count_by-le-length, sum_by-append}
 use Rattle.std.specs.List.{list_all}
 use Rattle.record_wire.specs.NameDotted.{is_usual_label}
-use Rattle.record_wire.proofs.NamePieces.{plain_text}
+use Rattle.record_wire.proofs.Pieces.{plain_text}
+use Rattle.record_wire.specs.declared.escapes.Escaping.{Escaping}
 
 -- ---- bytes that are written as themselves
 
@@ -40,7 +41,7 @@ visible byte usual = search rules
 
 usual_character : (byte : ℕ) → is_usual byte ≡ true → character byte ≡ byte ∷ []
 usual_character byte usual =
-    plain_text byte (rw (visible byte usual, no_special specials byte refl usual) refl)
+    plain_text Escaping.Label byte (rw (visible byte usual, no_special specials byte refl usual) refl)
 
 usual_label : (label : List ℕ) → is_usual_label label ≡ true → label_text label ≡ label
 usual_label [] usual = refl

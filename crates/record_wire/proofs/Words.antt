@@ -1,6 +1,6 @@
 -- The words that the proofs of this crate are said in: those of std, of the crates below and of the definitions.
 pub use Rattle.std.proofs.Common.{◌≡◌, ◌<◌, ◌≤◌, [], ◌∷◌, ◌∙◌, ◌+◌, ◌-◌, ◌*◌, ◌⊎◌, ◌&&◌, ◌++◌, ◌≢◌, ◌/◌, ◌%◌, ◌↔◌, ◌||◌}
-pub use Rattle.std.proofs.Common.{◌==◌, ◌^◌, Bool, Err, IfErr, IfSome, IsOk, IsSome, List, None, Ok, Option, Result}
+pub use Rattle.std.proofs.Common.{◌==◌, ◌^◌, Bool, Err, IfErr, IfOk, IfSome, IsOk, IsSome, List, None, Ok, OnOk, Option, Result}
 pub use Rattle.std.proofs.Common.{Some, ℕ, ap, append_assoc, arith, bit_and, codes, cond, decimal, drop, eq-eqb, eqb}
 pub use Rattle.std.proofs.Common.{false, flat_map, get_or, inl, inr, leb, length, length-append, length-drop, ltb, map}
 pub use Rattle.std.proofs.Common.{nat_eq, not, refl, rules, slice_index_or, slice_set, subst, suc, sym, take, true}
@@ -16,7 +16,7 @@ pub use Rattle.std.proofs.lemmas.Str.Ascii.{IsAscii-cons, IsAscii-nil}
 pub use Rattle.std.specs.Bool.{beq}
 pub use Rattle.std.specs.Char.{is_ascii_digit, is_ascii_graphic}
 pub use Rattle.std.specs.Cmp.{booleans_Decides}
-pub use Rattle.std.specs.Fmt.{HasWritten, IsPlainFormatter}
+pub use Rattle.std.specs.Fmt.{HasWritten, IsPlainFormatter, WritesInCalls}
 pub use Rattle.std.specs.List.{AllByRecursion, count_by}
 pub use Rattle.std.specs.Str.{IsAscii}
 pub use Rattle.dns_wire.proofs.DnsNameTurns.{Points-front, Whole-front}
@@ -33,7 +33,7 @@ unfoldable pub use Rattle.record_wire.specs.FieldsText.{byte_text, map_text}
 pub use Rattle.record_wire.specs.Labels.{AreOfName, first_label, labels_in, wire, written_all}
 pub use Rattle.record_wire.specs.NameDotted.{are_usual, dotted, is_usual}
 pub use Rattle.record_wire.specs.NameParts.{LabelsAtFront}
-pub use Rattle.record_wire.specs.NamePieces.{Takes}
+pub use Rattle.record_wire.specs.Pieces.{Takes}
 pub use Rattle.record_wire.specs.NameReading.{at_other, behind_in, first_byte}
 pub use Rattle.record_wire.specs.NameRefusal.{RefusesName}
 pub use Rattle.record_wire.specs.NameText.{GoesOn, IsCharacter, IsNameText, IsTextOf, Spells, behind_dots, character}
@@ -45,7 +45,7 @@ pub use Rattle.record_wire.specs.Record.{IsBehindName, IsQuestion, IsRecord, Que
 pub use Rattle.record_wire.specs.RecordRefusal.{Behind, HasQuestion, HasRecord, IsNoPart}
 pub use Rattle.record_wire.specs.Strings.{strings_in}
 pub use Rattle.record_wire.specs.ZoneText.{string_words}
-unfoldable pub use Rattle.record_wire.specs.ZoneText.{base64, string_character, string_text}
+unfoldable pub use Rattle.record_wire.specs.ZoneText.{base64, string_text}
 pub use Rattle.wirebase.specs.Bytes.{number_of}
 pub use Rattle.record_wire.specs.declared.entries.Section.{Section}
 pub use Rattle.record_wire.specs.declared.rdata.Layout.{Layout}

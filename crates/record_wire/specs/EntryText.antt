@@ -5,7 +5,7 @@ use Rattle.record_wire.specs.Words.{Section, TextRefusal, pieces}
 use Rattle.record_wire.specs.declared.text.question.QuestionText.{QuestionText}
 use Rattle.dns_wire.specs.declared.dns.tables.Type.{«Type» as RecordType}
 use Rattle.record_wire.specs.Entries as entries
-use Rattle.record_wire.specs.Multicast.{class_of, has_top_bit, record_class_of, flushes}
+use Rattle.record_wire.specs.Multicast.{has_top_bit, flushes, question_class, record_class}
 use Rattle.record_wire.specs.Name.{labels_of}
 use Rattle.record_wire.specs.NameRefusal.{RefusesName}
 use Rattle.record_wire.specs.Record.{QuestionValue}
@@ -35,13 +35,6 @@ entry_text_of (EntryText.Question read wants_unicast) = question (question_text_
 entry_text_of (EntryText.Record section read flushes_cache) = record_in section (record_text_of read) flushes_cache
 
 -- ---- what is read, in a message
-
--- In multicast DNS the class is without its top bit.
-abbrev pub question_class : Bool → ℕ → ℕ
-question_class is_multicast class = if is_multicast then class_of class else class
-
-abbrev pub record_class : Bool → RecordType → ℕ → ℕ
-record_class is_multicast kind class = if is_multicast then record_class_of kind class else class
 
 -- this question, taken as one of a class, with its name read
 pub record ReadsQuestion (message : List ℕ) (class : ℕ) (q : QuestionValue) (value : QuestionTextValue) : Type 0 where

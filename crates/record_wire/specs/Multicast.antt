@@ -22,3 +22,10 @@ record_class_of t class = if is_opt t then class else class_of class
 
 abbrev pub flushes : RecordType → ℕ → Bool
 flushes t class = not (is_opt t) && has_top_bit class
+
+-- In multicast DNS the class is without its top bit.
+abbrev pub question_class : Bool → ℕ → ℕ
+question_class is_multicast class = if is_multicast then class_of class else class
+
+abbrev pub record_class : Bool → RecordType → ℕ → ℕ
+record_class is_multicast kind class = if is_multicast then record_class_of kind class else class

@@ -1,21 +1,11 @@
 -- The text of a name (RFC 1035 section 5.1): its labels with dots between them, and a dot alone for the root.
-use Rattle.std.specs.Prelude.{◌≡◌, ◌+◌, ◌*◌, ◌/◌, ◌%◌, ◌<◌, ◌==◌, ◌⊎◌, ◌||◌, [], ◌∷◌, ◌++◌, Bool, IsFalse, IsTrue, List}
-use Rattle.std.specs.Prelude.{ℕ, codes, decimal, false, flat_map, if◌then◌else◌}
+use Rattle.std.specs.Prelude.{◌≡◌, ◌+◌, ◌*◌, ◌<◌, ◌⊎◌, [], ◌∷◌, ◌++◌, IsFalse, IsTrue, List, ℕ, codes, flat_map}
 use Rattle.std.specs.Char.{is_ascii_digit, is_ascii_graphic}
+pub use Rattle.record_wire.specs.Escapes.{specials, is_in, is_special, escaped}
 use Rattle.record_wire.specs.Labels.{AreOfName}
+use Rattle.record_wire.specs.declared.escapes.Escaping.{Escaping}
 
 -- ---- characters
-
--- "  $  (  )  .  ;  @  \   have a meaning of their own in a zone file
-abbrev pub specials : List ℕ
-specials = 34 ∷ 36 ∷ 40 ∷ 41 ∷ 46 ∷ 59 ∷ 64 ∷ 92 ∷ []
-
-abbrev pub is_in : List ℕ → ℕ → Bool
-is_in [] byte = false
-is_in (x ∷ xs) byte = (byte == x) || is_in xs byte
-
-abbrev pub is_special : ℕ → Bool
-is_special byte = is_in specials byte
 
 -- A character denotes a byte: a visible one itself, unless it has a meaning of its own; any visible one but a digit,
 -- after a backslash, itself; and three digits after a backslash the byte of that number.
@@ -53,12 +43,8 @@ pub record IsNameText (text : List ℕ) (labels : List (List ℕ)) : Type 0 wher
 
 -- ---- the text that is written
 
--- a byte is written as the first of these that it can be: itself, after a backslash, by its number
 abbrev pub character : ℕ → List ℕ
-character byte =
-    if is_special byte then codes "\\" ++ byte ∷ []
-    else if is_ascii_graphic byte then byte ∷ []
-    else codes "\\" ++ decimal (byte / 100) ++ decimal (byte / 10 % 10) ++ decimal (byte % 10)
+character byte = escaped Escaping.Label byte
 
 abbrev pub label_text : List ℕ → List ℕ
 label_text label = flat_map character label

@@ -1,6 +1,6 @@
 -- What questions, records and their data print. Names and data are printed by their lengths, since a name may go on
 -- elsewhere in its message.
-use Rattle.std.specs.Prelude.{[], ◌∷◌, List, ℕ, codes, decimal, flat_map, length}
+use Rattle.std.specs.Prelude.{[], ◌∷◌, List, ℕ, codes, decimal, length}
 use Rattle.record_wire.specs.Words.{OptionRefusal, Section, encode_lower, name_in, name_or, pieces, type_display}
 use Rattle.wirebase.specs.Display.{truth_text}
 use Rattle.wirebase.specs.Ipv4 as ipv4

@@ -1,8 +1,10 @@
 -- The parts of a record in a zone file (RFC 1035 section 5.1, RFC 3597 section 5, RFC 4648 section 4).
-use Rattle.std.specs.Prelude.{◌+◌, ◌-◌, ◌*◌, ◌/◌, ◌%◌, ◌==◌, ◌||◌, ◌&&◌, [], ◌∷◌, ◌++◌, Bool, List, ℕ, codes, decimal}
-use Rattle.std.specs.Prelude.{flat_map, if◌then◌else◌, length, map, nat_le, not}
+use Rattle.std.specs.Prelude.{◌+◌, ◌-◌, ◌*◌, ◌/◌, ◌%◌, ◌==◌, [], ◌∷◌, ◌++◌, List, ℕ, codes, decimal, flat_map}
+use Rattle.std.specs.Prelude.{if◌then◌else◌, length, map, nat_le}
 use Rattle.record_wire.specs.Words.{encode_lower}
+use Rattle.record_wire.specs.Escapes.{escaped}
 use Rattle.record_wire.specs.NameText.{name_text}
+use Rattle.record_wire.specs.declared.escapes.Escaping.{Escaping}
 
 -- a word after a space
 unfoldable pub word : List ℕ → List ℕ
@@ -15,23 +17,9 @@ whole_name (label ∷ labels) = name_text (label ∷ labels) ++ codes "."
 
 -- ---- strings
 
-abbrev pub has_meaning : ℕ → Bool
-has_meaning byte = byte == 34 || byte == 92
-
--- a byte of a string: `"` and `\` after a backslash, and a byte that is not 32 to 126 by its number
-unfoldable pub string_character : ℕ → List ℕ
-string_character byte =
-    if has_meaning byte then codes "\\" ++ byte ∷ []
-    else if nat_le 32 byte && nat_le byte 126 then byte ∷ []
-    else codes "\\" ++ decimal (byte / 100) ++ decimal (byte / 10 % 10) ++ decimal (byte % 10)
-
--- a byte that is written as itself
-abbrev pub is_itself : ℕ → Bool
-is_itself byte = nat_le 32 byte && nat_le byte 126 && not (has_meaning byte)
-
 -- a string in quotes
 unfoldable pub string_text : List ℕ → List ℕ
-string_text string = codes "\"" ++ flat_map string_character string ++ codes "\""
+string_text string = codes "\"" ++ flat_map (escaped Escaping.String) string ++ codes "\""
 
 -- strings, each after a space
 abbrev pub string_words : List (List ℕ) → List ℕ

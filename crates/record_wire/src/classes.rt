@@ -1,11 +1,13 @@
 //! Classes of records, by IANA's registry of DNS parameters, and the text of a class.
 
-ghost use Rattle.std.specs.Prelude.{◌≡◌};
+ghost use Rattle.std.specs.Prelude.{◌≡◌, Some, OnOk};
+ghost use Rattle.std.specs.Fmt.{WritesInCalls};
 ghost use Rattle.std.specs.Option.{option_map};
 ghost use Rattle.dns_wire.specs.DnsDisplay.{name_in};
-ghost use Rattle.record_wire.specs.Mnemonics.{class_names};
+ghost use Rattle.record_wire.specs.Mnemonics.{class_names, class_text};
 
-use std::fmt;
+use std::{fmt, result};
+use wirebase::text::{Sink, ToFormatter, put_number};
 
 /// The internet (RFC 1035 section 3.2.4).
 pub const IN: u16 = 1;
@@ -28,15 +30,23 @@ pub const ANY: u16 = 255;
 pub struct ClassName(pub u16);
 
 impl fmt::Display for ClassName {
-    ghost use Rattle.std.specs.Prelude.{Some};
-    ghost use Rattle.record_wire.specs.Mnemonics.{class_text};
-
     ghost output = { λ name. Some (class_text name.0) };
 
     fn fmt<W: fmt::Write>(&self, f: &mut fmt::Formatter<W>) -> fmt::Result {
-        match mnemonic(self.0) {
-            Some(mnemonic) => f.write_str(mnemonic),
-            None => write!(f, "CLASS{}", self.0),
+        put_class::<_, ToFormatter>(f, self.0)
+    }
+}
+
+/// Puts the text of a class.
+#[inline(always)]
+pub(crate) fn put_class<O, S: Sink<O>>(output: &mut O, number: u16) -> result::Result<(), S::Error>
+    ensures { OnOk result (WritesInCalls S.took output.old (class_text number) output.new) }
+{
+    match mnemonic(number) {
+        Some(mnemonic) => S::put_str(output, mnemonic),
+        None => {
+            S::put_str(output, "CLASS")?;
+            put_number::<O, S>(output, u64::from(number))
         }
     }
 }

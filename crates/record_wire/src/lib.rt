@@ -26,6 +26,8 @@
 pub mod classes;
 pub mod edns;
 pub mod entries;
+mod escapes;
+pub mod line;
 pub mod multicast;
 pub mod name;
 pub mod rdata;

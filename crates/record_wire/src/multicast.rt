@@ -13,9 +13,10 @@
 //! # Ok::<(), control_wire::Error>(())
 //! ```
 
-ghost use Rattle.std.specs.Prelude.{◌≡◌};
+ghost use Rattle.std.specs.Prelude.{◌≡◌, ◌&&◌};
 ghost use Rattle.record_wire.specs.Multicast as multicast;
 
+use crate::record::{Question, Record};
 use crate::types;
 use dns_wire::dns::Type;
 
@@ -43,4 +44,38 @@ pub(crate) fn is_opt(type_: Type) -> bool
     ensures { result ≡ multicast.is_opt type_ }
 {
     matches!(type_, types::OPT)
+}
+
+/// The class of a question, which in multicast DNS is without its top bit.
+pub fn question_class(is_multicast: bool, question: &Question<'_>) -> u16
+    ensures { result ≡ multicast.question_class is_multicast question.now.class }
+{
+    if is_multicast {
+        return question.multicast_class();
+    }
+    question.class
+}
+
+/// The class of a record, which in multicast DNS is without its top bit.
+pub fn record_class(is_multicast: bool, record: &Record<'_>) -> u16
+    ensures { result ≡ multicast.record_class is_multicast «record».now.type_ «record».now.class }
+{
+    if is_multicast {
+        return record.multicast_class();
+    }
+    record.class
+}
+
+/// Whether a question of multicast DNS wants its answer sent to the asker alone.
+pub fn wants_unicast(is_multicast: bool, question: &Question<'_>) -> bool
+    ensures { result ≡ (is_multicast && multicast.has_top_bit question.now.class) }
+{
+    is_multicast && question.wants_unicast()
+}
+
+/// Whether a record of multicast DNS tells caches to drop what they have.
+pub fn flushes_cache(is_multicast: bool, record: &Record<'_>) -> bool
+    ensures { result ≡ (is_multicast && multicast.flushes «record».now.type_ «record».now.class) }
+{
+    is_multicast && record.flushes_cache()
 }

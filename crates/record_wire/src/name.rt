@@ -2,6 +2,7 @@
 
 pub mod dotted;
 mod label;
+pub(crate) mod name_text;
 mod part;
 pub mod refusal;
 pub(crate) mod text;
@@ -19,9 +20,10 @@ ghost use Rattle.record_wire.specs.TextRefusal.{RefusesText, IsText};
 
 pub use crate::name::label::Labels;
 use crate::name::label::{push_end, push_labels};
+use crate::name::name_text::put_name as put_name_text;
 use crate::name::part::read_labels;
 use crate::name::refusal::NameRefusal;
-use crate::name::text::{fmt_labels, is_root, put_labels};
+use crate::name::text::{is_root, put_labels};
 use crate::name::text_refusal::{NameTextRefusal, why_no_text};
 use crate::refusal::why_torn;
 use arrayvec::ArrayVec;
@@ -29,6 +31,7 @@ use dns_wire::dns::Packet;
 use dns_wire::octets::{NamePart, follow, octets_of};
 use std::alloc::AllocError;
 use std::{fmt, result};
+use wirebase::text::ToFormatter;
 use wirebase::{Error, Result};
 
 /// The most octets that a name has (RFC 1035 section 2.3.4).
@@ -274,11 +277,6 @@ impl fmt::Display for Name {
     ghost output = { λ name. Some (name_text (labels_of name)) };
 
     fn fmt<W: fmt::Write>(&self, f: &mut fmt::Formatter<W>) -> fmt::Result {
-        let octets = self.octets.as_slice();
-        // Byte 0 alone is the root.
-        if octets.len() == 1 {
-            return write!(f, ".");
-        }
-        fmt_labels(f, octets)
+        put_name_text::<_, ToFormatter>(f, self)
     }
 }

@@ -23,33 +23,36 @@ mod question;
 pub mod refusal;
 pub(crate) mod words;
 
-ghost use Rattle.std.specs.Prelude.{◌≡◌, IfOk, IsOkAnd, IfErr};
+ghost use Rattle.std.specs.Prelude.{◌≡◌, ◌++◌, [], IfOk, IsOkAnd, IfErr, OnOk};
+ghost use Rattle.std.specs.Fmt.{WritesInCalls};
 ghost use Rattle.std.specs.Option.{option_map};
 ghost use Rattle.dns_wire.specs.DnsPacket.{view_octets};
 ghost use Rattle.record_wire.specs.Edns.{edns_of};
+ghost use Rattle.record_wire.specs.Lines.{front_of};
 ghost use Rattle.record_wire.specs.Multicast.{record_class_of};
 ghost use Rattle.record_wire.specs.RData.{rdata_of, authority_of};
 ghost use Rattle.record_wire.specs.Record.{record_of};
 ghost use Rattle.record_wire.specs.RecordText.{AuthorityTextValue, DataTextValue, RecordTextValue};
 ghost use Rattle.record_wire.specs.RecordText.{authority_text_of, data_text_of, record_text_of};
 ghost use Rattle.record_wire.specs.RecordText.{IsAuthorityText, IsDataText, IsRecordText, edns_in};
-ghost use Rattle.record_wire.specs.RecordText.{RefusesNamesOf, RefusesNameIn, RefusesText};
+ghost use Rattle.record_wire.specs.RecordText.{RefusesNamesOf, RefusesNameIn, RefusesText, data_text};
 
-use crate::classes::ClassName;
 use crate::edns::Edns;
+use crate::line::{Line, put_authority, put_data};
 use crate::multicast;
 use crate::name::Name;
+use crate::name::name_text::NameText;
 use crate::name::refusal::NameRefusal;
 use crate::rdata::{Authority, RData};
 use crate::record::Record;
 use crate::text::opt::Comment;
 use crate::text::refusal::TextRefusal;
-use crate::text::words::{Generic, Strings, Whole};
 use dns_wire::dns::{Packet, Type};
 pub use entry::EntryText;
 pub use fields::FieldsText;
 pub use question::QuestionText;
 use std::{fmt, result};
+use wirebase::text::{Sink, ToFormatter};
 use wirebase::{Ipv4Address, Ipv6Address};
 
 /// A record whose names are read, which prints its line of a zone file: the name with its last dot, the time to live,
@@ -157,10 +160,15 @@ impl fmt::Display for RecordText<'_> {
         if let Some(edns) = self.edns() {
             return write!(f, "{}", Comment(edns));
         }
-        let name = Whole(&self.name);
-        let class = ClassName(self.class);
-        let type_ = self.type_;
-        write!(f, "{name} {} {class} {type_} {}", self.ttl, self.data)
+        let owner = NameText::of(&self.name);
+        let line = Line {
+            before: None,
+            owner: &owner,
+            ttl: self.ttl,
+            class: self.class,
+            type_: self.type_,
+        };
+        put_own::<_, ToFormatter>(f, Some(&line), &self.data)
     }
 }
 
@@ -183,35 +191,59 @@ impl RecordText<'_> {
 /// base64, and data of other types as `\#`, the number of bytes, and these in hexadecimal.
 impl fmt::Display for DataText<'_> {
     ghost use Rattle.std.specs.Prelude.{Some};
-    ghost use Rattle.record_wire.specs.RecordText.{data_text};
 
     ghost output = { λ read. Some (data_text (data_text_of read)) };
 
     fn fmt<W: fmt::Write>(&self, f: &mut fmt::Formatter<W>) -> fmt::Result {
+        put_own::<_, ToFormatter>(f, None, self)
+    }
+}
+
+// Puts the line of a record up to its data, where there is one, and the data.
+fn put_own<O, S: Sink<O>>(
+    output: &mut O,
+    line: Option<&Line<'_, '_>>,
+    data: &DataText<'_>,
+) -> result::Result<(), S::Error>
+    ensures { OnOk result (WritesInCalls S.took output.old
+        (front_of line.entry ++ data_text (data_text_of «data».now)) output.new) }
+{
+    // Whole names have no pointers, so that they read in any message.
+    put_data::<O, S>(output, &[], line, &data.octets())?;
+    Ok(())
+}
+
+impl DataText<'_> {
+    // The data with the octets of its names, which are whole.
+    fn octets(&self) -> RData<'_>
+        ensures { IsDataText [] (rdata_of result) (data_text_of self.now) }
+    {
         match self {
-            DataText::A(address) => write!(f, "{address}"),
-            DataText::Aaaa(address) => write!(f, "{address}"),
-            DataText::Name(name) => write!(f, "{}", Whole(name)),
+            DataText::A(address) => RData::A(*address),
+            DataText::Aaaa(address) => RData::Aaaa(*address),
+            DataText::Name(name) => RData::Name(name.octets()),
             DataText::Mx {
                 preference,
                 exchange,
-            } => {
-                let exchange = Whole(exchange);
-                write!(f, "{preference} {exchange}")
-            }
+            } => RData::Mx {
+                preference: *preference,
+                exchange: exchange.octets(),
+            },
             DataText::Srv {
                 priority,
                 weight,
                 port,
                 target,
-            } => {
-                let target = Whole(target);
-                write!(f, "{priority} {weight} {port} {target}")
-            }
-            DataText::Soa(authority) => write!(f, "{authority}"),
-            DataText::Txt(octets) => write!(f, "{}", Strings(octets)),
-            DataText::Fields(fields) => write!(f, "{fields}"),
-            DataText::Other(octets) => write!(f, "{}", Generic(octets)),
+            } => RData::Srv {
+                priority: *priority,
+                weight: *weight,
+                port: *port,
+                target: target.octets(),
+            },
+            DataText::Soa(authority) => RData::Soa(authority.octets()),
+            DataText::Txt(octets) => RData::Txt(octets),
+            DataText::Fields(fields) => RData::Fields(fields.octets()),
+            DataText::Other(octets) => RData::Other(octets),
         }
     }
 }
@@ -224,13 +256,25 @@ impl fmt::Display for AuthorityText {
     ghost output = { λ soa. Some (authority_text (authority_text_of soa)) };
 
     fn fmt<W: fmt::Write>(&self, f: &mut fmt::Formatter<W>) -> fmt::Result {
-        let primary = Whole(&self.primary);
-        let mailbox = Whole(&self.mailbox);
-        write!(
-            f,
-            "{primary} {mailbox} {} {} {} {} {}",
-            self.serial, self.refresh, self.retry, self.expire, self.minimum
-        )
+        put_authority::<_, ToFormatter>(f, &[], None, &self.octets())?;
+        Ok(())
+    }
+}
+
+impl AuthorityText {
+    // The same with the octets of the names, which are whole.
+    fn octets(&self) -> Authority<'_>
+        ensures { IsAuthorityText [] (authority_of result) (authority_text_of self.now) }
+    {
+        Authority {
+            primary: self.primary.octets(),
+            mailbox: self.mailbox.octets(),
+            serial: self.serial,
+            refresh: self.refresh,
+            retry: self.retry,
+            expire: self.expire,
+            minimum: self.minimum,
+        }
     }
 }
 

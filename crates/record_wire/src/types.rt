@@ -8,7 +8,13 @@
 //! assert_eq!(types::MX.to_string(), "MX");
 //! ```
 
+ghost use Rattle.std.specs.Prelude.{OnOk};
+ghost use Rattle.std.specs.Fmt.{WritesInCalls};
+ghost use Rattle.dns_wire.specs.DnsDisplay.{type_display};
+
 use dns_wire::dns::Type;
+use std::result;
+use wirebase::text::{Sink, put_number};
 
 /// An IPv4 address (RFC 1035 section 3.4.1).
 pub const A: Type = Type::A;
@@ -129,3 +135,17 @@ pub const ANY: Type = Type::Unknown(255);
 
 /// Who may certify a name (RFC 8659 section 4).
 pub const CAA: Type = Type::Unknown(257);
+
+/// Puts the text of a type.
+#[inline(always)]
+pub(crate) fn put_type<O, S: Sink<O>>(output: &mut O, type_: Type) -> result::Result<(), S::Error>
+    ensures { OnOk result (WritesInCalls S.took output.old (type_display type_) output.new) }
+{
+    match type_.mnemonic() {
+        Some(mnemonic) => S::put_str(output, mnemonic),
+        None => {
+            S::put_str(output, "TYPE")?;
+            put_number::<O, S>(output, u64::from(u16::from(type_)))
+        }
+    }
+}

@@ -1,7 +1,8 @@
 // Made from crates/record_wire/src/classes.rt by rust/erase.
 //! Classes of records, by IANA's registry of DNS parameters, and the text of a class.
 
-use core::fmt;
+use crate::wirebase::text::{Sink, ToFormatter, put_number};
+use core::{fmt, result};
 
 /// The internet (RFC 1035 section 3.2.4).
 pub const IN: u16 = 1;
@@ -25,9 +26,21 @@ pub struct ClassName(pub u16);
 
 impl fmt::Display for ClassName {
     fn fmt(&self, f: &mut fmt::Formatter<'_>) -> fmt::Result {
-        match mnemonic(self.0) {
-            Some(mnemonic) => f.write_str(mnemonic),
-            None => write!(f, "CLASS{}", self.0),
+        put_class::<_, ToFormatter>(f, self.0)
+    }
+}
+
+/// Puts the text of a class.
+#[inline(always)]
+pub(crate) fn put_class<O, S: Sink<O>>(
+    output: &mut O,
+    number: u16,
+) -> result::Result<(), S::Error> {
+    match mnemonic(number) {
+        Some(mnemonic) => S::put_str(output, mnemonic),
+        None => {
+            S::put_str(output, "CLASS")?;
+            put_number::<O, S>(output, u64::from(number))
         }
     }
 }

@@ -15,6 +15,7 @@
 //! ```
 
 use crate::dns_wire::dns::Type;
+use crate::record::record::{Question, Record};
 use crate::record::types;
 
 // The bit of a class that is a flag in multicast DNS.
@@ -35,4 +36,30 @@ pub fn has_top_bit(class: u16) -> bool {
 // Whether this is the type OPT, whose class is a payload size (RFC 6891 section 6.1.2).
 pub(crate) fn is_opt(type_: Type) -> bool {
     matches!(type_, types::OPT)
+}
+
+/// The class of a question, which in multicast DNS is without its top bit.
+pub fn question_class(is_multicast: bool, question: &Question<'_>) -> u16 {
+    if is_multicast {
+        return question.multicast_class();
+    }
+    question.class
+}
+
+/// The class of a record, which in multicast DNS is without its top bit.
+pub fn record_class(is_multicast: bool, record: &Record<'_>) -> u16 {
+    if is_multicast {
+        return record.multicast_class();
+    }
+    record.class
+}
+
+/// Whether a question of multicast DNS wants its answer sent to the asker alone.
+pub fn wants_unicast(is_multicast: bool, question: &Question<'_>) -> bool {
+    is_multicast && question.wants_unicast()
+}
+
+/// Whether a record of multicast DNS tells caches to drop what they have.
+pub fn flushes_cache(is_multicast: bool, record: &Record<'_>) -> bool {
+    is_multicast && record.flushes_cache()
 }

@@ -3,6 +3,7 @@
 
 pub mod dotted;
 mod label;
+pub(crate) mod name_text;
 mod part;
 pub mod refusal;
 pub(crate) mod text;
@@ -12,11 +13,13 @@ use crate::dns_wire::dns::Packet;
 use crate::dns_wire::octets::{NamePart, follow, octets_of};
 pub use crate::record::name::label::Labels;
 use crate::record::name::label::{push_end, push_labels};
+use crate::record::name::name_text::put_name as put_name_text;
 use crate::record::name::part::read_labels;
 use crate::record::name::refusal::NameRefusal;
-use crate::record::name::text::{fmt_labels, is_root, put_labels};
+use crate::record::name::text::{is_root, put_labels};
 use crate::record::name::text_refusal::{NameTextRefusal, why_no_text};
 use crate::record::refusal::why_torn;
+use crate::wirebase::text::ToFormatter;
 use crate::wirebase::{Error, Result};
 use arrayvec::ArrayVec;
 use core::{fmt, result};
@@ -178,11 +181,6 @@ impl Eq for Name {}
 /// Labels with dots between them, and a dot alone for the root.
 impl fmt::Display for Name {
     fn fmt(&self, f: &mut fmt::Formatter<'_>) -> fmt::Result {
-        let octets = self.octets.as_slice();
-        // Byte 0 alone is the root.
-        if octets.len() == 1 {
-            return write!(f, ".");
-        }
-        fmt_labels(f, octets)
+        put_name_text::<_, ToFormatter>(f, self)
     }
 }

@@ -25,16 +25,17 @@ pub mod refusal;
 pub(crate) mod words;
 
 use crate::dns_wire::dns::{Packet, Type};
-use crate::record::classes::ClassName;
 use crate::record::edns::Edns;
+use crate::record::line::{Line, put_authority, put_data};
 use crate::record::multicast;
 use crate::record::name::Name;
+use crate::record::name::name_text::NameText;
 use crate::record::name::refusal::NameRefusal;
 use crate::record::rdata::{Authority, RData};
 use crate::record::record::Record;
 use crate::record::text::opt::Comment;
 use crate::record::text::refusal::TextRefusal;
-use crate::record::text::words::{Generic, Strings, Whole};
+use crate::wirebase::text::{Sink, ToFormatter};
 use crate::wirebase::{Ipv4Address, Ipv6Address};
 use core::{fmt, result};
 pub use entry::EntryText;
@@ -141,10 +142,15 @@ impl fmt::Display for RecordText<'_> {
         if let Some(edns) = self.edns() {
             return write!(f, "{}", Comment(edns));
         }
-        let name = Whole(&self.name);
-        let class = ClassName(self.class);
-        let type_ = self.type_;
-        write!(f, "{name} {} {class} {type_} {}", self.ttl, self.data)
+        let owner = NameText::of(&self.name);
+        let line = Line {
+            before: None,
+            owner: &owner,
+            ttl: self.ttl,
+            class: self.class,
+            type_: self.type_,
+        };
+        put_own::<_, ToFormatter>(f, Some(&line), &self.data)
     }
 }
 
@@ -165,30 +171,50 @@ impl RecordText<'_> {
 /// base64, and data of other types as `\#`, the number of bytes, and these in hexadecimal.
 impl fmt::Display for DataText<'_> {
     fn fmt(&self, f: &mut fmt::Formatter<'_>) -> fmt::Result {
+        put_own::<_, ToFormatter>(f, None, self)
+    }
+}
+
+// Puts the line of a record up to its data, where there is one, and the data.
+fn put_own<O, S: Sink<O>>(
+    output: &mut O,
+    line: Option<&Line<'_, '_>>,
+    data: &DataText<'_>,
+) -> result::Result<(), S::Error> {
+    // Whole names have no pointers, so that they read in any message.
+    put_data::<O, S>(output, &[], line, &data.octets())?;
+    Ok(())
+}
+
+impl DataText<'_> {
+    // The data with the octets of its names, which are whole.
+    fn octets(&self) -> RData<'_> {
         match self {
-            DataText::A(address) => write!(f, "{address}"),
-            DataText::Aaaa(address) => write!(f, "{address}"),
-            DataText::Name(name) => write!(f, "{}", Whole(name)),
+            DataText::A(address) => RData::A(*address),
+            DataText::Aaaa(address) => RData::Aaaa(*address),
+            DataText::Name(name) => RData::Name(name.octets()),
             DataText::Mx {
                 preference,
                 exchange,
-            } => {
-                let exchange = Whole(exchange);
-                write!(f, "{preference} {exchange}")
-            }
+            } => RData::Mx {
+                preference: *preference,
+                exchange: exchange.octets(),
+            },
             DataText::Srv {
                 priority,
                 weight,
                 port,
                 target,
-            } => {
-                let target = Whole(target);
-                write!(f, "{priority} {weight} {port} {target}")
-            }
-            DataText::Soa(authority) => write!(f, "{authority}"),
-            DataText::Txt(octets) => write!(f, "{}", Strings(octets)),
-            DataText::Fields(fields) => write!(f, "{fields}"),
-            DataText::Other(octets) => write!(f, "{}", Generic(octets)),
+            } => RData::Srv {
+                priority: *priority,
+                weight: *weight,
+                port: *port,
+                target: target.octets(),
+            },
+            DataText::Soa(authority) => RData::Soa(authority.octets()),
+            DataText::Txt(octets) => RData::Txt(octets),
+            DataText::Fields(fields) => RData::Fields(fields.octets()),
+            DataText::Other(octets) => RData::Other(octets),
         }
     }
 }
@@ -196,13 +222,23 @@ impl fmt::Display for DataText<'_> {
 /// The names with their last dot, and the numbers.
 impl fmt::Display for AuthorityText {
     fn fmt(&self, f: &mut fmt::Formatter<'_>) -> fmt::Result {
-        let primary = Whole(&self.primary);
-        let mailbox = Whole(&self.mailbox);
-        write!(
-            f,
-            "{primary} {mailbox} {} {} {} {} {}",
-            self.serial, self.refresh, self.retry, self.expire, self.minimum
-        )
+        put_authority::<_, ToFormatter>(f, &[], None, &self.octets())?;
+        Ok(())
+    }
+}
+
+impl AuthorityText {
+    // The same with the octets of the names, which are whole.
+    fn octets(&self) -> Authority<'_> {
+        Authority {
+            primary: self.primary.octets(),
+            mailbox: self.mailbox.octets(),
+            serial: self.serial,
+            refresh: self.refresh,
+            retry: self.retry,
+            expire: self.expire,
+            minimum: self.minimum,
+        }
     }
 }
 

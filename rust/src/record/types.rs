@@ -10,6 +10,8 @@
 //! ```
 
 use crate::dns_wire::dns::Type;
+use crate::wirebase::text::{Sink, put_number};
+use core::result;
 
 /// An IPv4 address (RFC 1035 section 3.4.1).
 pub const A: Type = Type::A;
@@ -130,3 +132,15 @@ pub const ANY: Type = Type::Unknown(255);
 
 /// Who may certify a name (RFC 8659 section 4).
 pub const CAA: Type = Type::Unknown(257);
+
+/// Puts the text of a type.
+#[inline(always)]
+pub(crate) fn put_type<O, S: Sink<O>>(output: &mut O, type_: Type) -> result::Result<(), S::Error> {
+    match type_.mnemonic() {
+        Some(mnemonic) => S::put_str(output, mnemonic),
+        None => {
+            S::put_str(output, "TYPE")?;
+            put_number::<O, S>(output, u64::from(u16::from(type_)))
+        }
+    }
+}

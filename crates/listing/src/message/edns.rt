@@ -12,9 +12,8 @@ ghost use Rattle.listing.specs.Output.{Gains, GainsSome};
 
 use crate::message::Unread;
 use crate::printer::{Value, part_field};
-use crate::zone::{NameText, word};
 use dns_wire::dns::Packet;
-use record_wire::{Edns, EdnsOption, EdnsOptions, Record, TextRefusal};
+use record_wire::{Edns, EdnsOption, EdnsOptions, Name, Record, TextRefusal};
 use std::io;
 use std::io::Write;
 
@@ -31,8 +30,7 @@ pub fn show_opt<'a, W: Write>(
         (λ text. OptPrints margin.now (view_octets packet.now) (record_of «record».now) text
         unread)) }
 {
-    let mut owner = NameText::new();
-    if let Err(refusal) = owner.read(packet, record.name) {
+    if let Some(refusal) = Name::read_refusal(packet, record.name) {
         return Ok(Some(Unread::Record(TextRefusal::Owner(refusal))));
     }
     show_sender(output, margin, edns)?;
@@ -71,7 +69,8 @@ impl Value for EdnsOption<'_> {
 
     fn write_to<W: Write>(self, output: &mut W) -> io::Result<()> {
         self.code.write_to(output)?;
-        word(output, self.data)
+        output.write_all(b" ")?;
+        self.data.write_to(output)
     }
 }
 

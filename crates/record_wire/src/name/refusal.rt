@@ -2,7 +2,9 @@
 
 ghost use Rattle.std.specs.Prelude.{◌≡◌, List, ℕ, IfOk, IfErr, IsOkAnd};
 ghost use Rattle.dns_wire.specs.DnsPacket.{view_octets};
+ghost use Rattle.record_wire.specs.Name.{labels_of};
 ghost use Rattle.record_wire.specs.NameRefusal.{RefusesName};
+ghost use Rattle.record_wire.specs.Names.{Names};
 
 use crate::name::{Name, put_name};
 use crate::refusal::PartRefusal;
@@ -45,9 +47,6 @@ impl fmt::Display for NameRefusal {
 }
 
 impl Name {
-    ghost use Rattle.record_wire.specs.Name.{labels_of};
-    ghost use Rattle.record_wire.specs.Names.{Names};
-
     /// The name, as [`Name::read`] reads it, or why it is refused, as [`Name::read_refusal`] tells: the check that
     /// fails first.
     pub fn read_or_refusal<'a>(
@@ -62,10 +61,22 @@ impl Name {
         ensures told { IfErr result (λ refusal.
             RefusesName bytes.entry.now (view_octets packet.entry.now) refusal) }
     {
-        let mut octets = ArrayVec::new();
-        match put_name(&mut octets, octets_of(packet), bytes) {
-            Ok(()) => Ok(Name { octets }),
-            Err(refusal) => Err(refusal),
-        }
+        read_name(octets_of(packet), bytes)
+    }
+}
+
+/// The name that begins in `bytes` and goes on in a message, or why it is refused. Inlined: a name is large, and would be
+/// copied.
+#[inline(always)]
+pub(super) fn read_name(message: &[u8], bytes: &[u8]) -> result::Result<Name, NameRefusal>
+    ensures sound { IfOk result (λ name. Names message.now bytes.now (labels_of name)) }
+    ensures complete { (labels : List (List ℕ)) → Names message.now bytes.now labels
+        → IsOkAnd result (λ name. labels_of name ≡ labels) }
+    ensures told { IfErr result (λ refusal. RefusesName bytes.now message.now refusal) }
+{
+    let mut octets = ArrayVec::new();
+    match put_name(&mut octets, message, bytes) {
+        Ok(()) => Ok(Name { octets }),
+        Err(refusal) => Err(refusal),
     }
 }

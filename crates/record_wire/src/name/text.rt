@@ -1,22 +1,18 @@
 //! The characters and the labels of a name's text (RFC 1035 section 5.1).
 
-ghost use Rattle.std.specs.Prelude.{◌≡◌, ◌↔◌, ◌≤◌, ◌<◌, ◌+◌, ◌-◌, ◌∷◌, [], ◌++◌, ℕ, List, length, codes, false};
-ghost use Rattle.std.specs.Prelude.{IfOk, IsOk, OnOk, IsTrue, take};
-ghost use Rattle.std.specs.Prelude.{◌&&◌, not};
-ghost use Rattle.std.specs.Char.{is_ascii_digit, is_ascii_graphic};
-ghost use Rattle.std.specs.Fmt.{WritesOnOk};
-ghost use Rattle.std.specs.Str.{IsAscii};
+ghost use Rattle.std.specs.Prelude.{◌≡◌, ◌↔◌, ◌≤◌, ◌<◌, ◌-◌, ◌∷◌, [], ℕ, List, length, codes};
+ghost use Rattle.std.specs.Prelude.{IfOk, IsOk, OnOk, IsTrue};
+ghost use Rattle.std.specs.Char.{is_ascii_digit};
 ghost use Rattle.arrayvec.specs.ArrayVec.{array_vec_len};
 ghost use Rattle.record_wire.specs.NameReading.{first_byte, quoted_in, numbered_at, seen_byte, IsSpelling};
 ghost use Rattle.record_wire.specs.NameReading.{HasLabelsOfText, seen_behind, behind_in};
-ghost use Rattle.record_wire.specs.Labels.{written_all, labels_in};
-ghost use Rattle.record_wire.specs.NameText.{is_special, IsNameText, character, label_text, name_text};
-ghost use Rattle.record_wire.specs.NamePieces.{TakesOnOk};
+ghost use Rattle.record_wire.specs.Labels.{written_all};
+ghost use Rattle.record_wire.specs.NameText.{IsNameText};
 
+use crate::escapes::{Escaping, is_plain};
 use crate::name::MAX_NAME_LEN;
-use crate::name::label::{MAX_LABEL_LEN, push_label, split_label};
+use crate::name::label::{MAX_LABEL_LEN, push_label};
 use arrayvec::ArrayVec;
-use std::{fmt, result};
 use wirebase::{Error, Result};
 
 /// Whether this is the text of the root, a dot alone.
@@ -100,7 +96,7 @@ pub(super) fn read_byte(text: &[u8]) -> Option<(u8, &[u8])>
 {
     match text {
         [b'\\', rest @ ..] => read_quoted(rest),
-        [byte, rest @ ..] if is_plain(*byte) => Some((*byte, rest)),
+        [byte, rest @ ..] if is_plain(*byte, Escaping::Label) => Some((*byte, rest)),
         _ => None,
     }
 }
@@ -140,125 +136,4 @@ fn digit_value(digit: u8) -> u16
     ensures small { result < 10 }
 {
     (digit - b'0') as u16
-}
-
-// A bit for each byte, the first word's lowest for byte 0: whether it is visible and has no meaning of its own.
-const PLAIN: [u64; 4] = [0xf7ff_bcea_0000_0000, 0x7fff_ffff_efff_fffe, 0, 0];
-
-// Whether a byte is written as itself. A table: a branch for each byte would be mispredicted.
-fn is_plain(byte: u8) -> bool
-    ensures { result ≡ (is_ascii_graphic byte && not (is_special byte)) }
-{
-    PLAIN[(byte / 64) as usize] >> (byte % 64) & 1 == 1
-}
-
-// Whether a byte has a special meaning in a zone file.
-fn is_special(byte: u8) -> bool
-    ensures { result ≡ is_special byte }
-{
-    matches!(byte, b'"' | b'$' | b'(' | b')' | b'.' | b';' | b'@' | b'\\')
-}
-
-// The most octets of text that are written at once, since each write costs a call, and the most octets that a character
-// has.
-const PIECE_LEN: usize = 64;
-
-const CHARACTER_LEN: usize = 4;
-
-/// Writes the labels in octets with dots between them, and a dot alone where there are none. A function of its own, so
-/// that the root is written without the buffer for a piece.
-#[inline(never)]
-pub(super) fn fmt_labels<W: fmt::Write>(f: &mut fmt::Formatter<W>, octets: &[u8]) -> fmt::Result
-    ensures { WritesOnOk W.write_str_gives f.old result (name_text (labels_in octets.now)) f.new }
-{
-    let Some((first, rest)) = split_label(octets) else {
-        return f.write_str(".");
-    };
-    let mut piece = [0; PIECE_LEN];
-    let mut len = 0;
-    let mut label = first;
-    let mut left = rest;
-    loop {
-        len = put_label(f, &mut piece, len, label)?;
-        let Some((next, rest)) = split_label(left) else {
-            return write_piece(f, &piece[..len]);
-        };
-        len = make_room(f, &piece, len)?;
-        piece[len] = b'.';
-        len += 1;
-        label = next;
-        left = rest;
-    }
-}
-
-// Puts the text of a label after the bytes that wait, `len` of them, and returns how many then wait. That number is not
-// a field of the piece, so that it stays in a register.
-fn put_label<W: fmt::Write>(
-    f: &mut fmt::Formatter<W>,
-    piece: &mut [u8; PIECE_LEN],
-    waiting: usize,
-    label: &[u8],
-) -> result::Result<usize, fmt::Error>
-    requires { waiting ≤ 64 }
-    ensures fits { IfOk result (λ len. len ≤ 64) }
-    ensures takes { TakesOnOk W.write_str_gives f.old (take waiting piece.old) result (label_text «label».now)
-        f.new piece.new }
-{
-    let mut len = waiting;
-    for byte in label {
-        len = make_room(f, piece, len)?;
-        if is_plain(*byte) {
-            piece[len] = *byte;
-            len += 1;
-        } else {
-            len = put_quoted(piece, len, *byte);
-        }
-    }
-    Ok(len)
-}
-
-// Writes the bytes that wait, where the longest character does not fit after them.
-fn make_room<W: fmt::Write>(
-    f: &mut fmt::Formatter<W>,
-    piece: &[u8; PIECE_LEN],
-    waiting: usize,
-) -> result::Result<usize, fmt::Error>
-    requires { waiting ≤ 64 }
-    ensures room { IfOk result (λ len. len + 4 ≤ 64) }
-    ensures takes { TakesOnOk W.write_str_gives f.old (take waiting piece.now) result [] f.new piece.now }
-{
-    if waiting <= PIECE_LEN - CHARACTER_LEN {
-        return Ok(waiting);
-    }
-    write_piece(f, &piece[..waiting])?;
-    Ok(0)
-}
-
-/// Writes the bytes that wait.
-pub(crate) fn write_piece<W: fmt::Write>(f: &mut fmt::Formatter<W>, text: &[u8]) -> fmt::Result
-    ensures { IsAscii text.now → WritesOnOk W.write_str_gives f.old result text.now f.new }
-{
-    // ASCII is UTF-8.
-    f.write_str(std::str::from_utf8(text).unwrap_or(""))
-}
-
-// Puts a byte after a backslash: itself where it has a meaning of its own, and else its number. Returns the number of
-// bytes that then wait in the piece. A function of its own, so that the loop over plain characters stays small.
-#[inline(never)]
-#[tactic(auto, using(std::proofs::lemmas::List::take_more_set))]
-fn put_quoted(piece: &mut [u8; PIECE_LEN], waiting: usize, byte: u8) -> usize
-    requires room { waiting + 4 ≤ 64 }
-    requires quoted { is_ascii_graphic byte && not (is_special byte) ≡ false }
-    ensures fits { result ≤ 64 }
-    ensures puts { take result piece.new ≡ take waiting piece.old ++ character byte }
-{
-    piece[waiting] = b'\\';
-    if is_special(byte) {
-        piece[waiting + 1] = byte;
-        return waiting + 2;
-    }
-    piece[waiting + 1] = b'0' + byte / 100;
-    piece[waiting + 2] = b'0' + byte / 10 % 10;
-    piece[waiting + 3] = b'0' + byte % 10;
-    waiting + 4
 }

@@ -1,15 +1,15 @@
 //! Entries of a message with their names read, a line each.
 
-ghost use Rattle.std.specs.Prelude.{◌≡◌, ◌&&◌, IfOk, IsOkAnd, IfErr};
+ghost use Rattle.std.specs.Prelude.{◌≡◌, IfOk, IsOkAnd, IfErr};
 ghost use Rattle.dns_wire.specs.DnsPacket.{view_octets};
 ghost use Rattle.record_wire.specs.Entries as entries;
 ghost use Rattle.record_wire.specs.Entries.{entry_of};
-ghost use Rattle.record_wire.specs.EntryText.{EntryTextValue, entry_text_of, question_class, record_class};
+ghost use Rattle.record_wire.specs.EntryText.{EntryTextValue, entry_text_of};
 ghost use Rattle.record_wire.specs.EntryText.{IsEntryText, RefusesEntryText};
-ghost use Rattle.record_wire.specs.Multicast.{has_top_bit, flushes};
 ghost use Rattle.record_wire.specs.Record.{question_of, record_of};
 
 use crate::entries::{Entry, Section};
+use crate::multicast;
 use crate::record::{Question, Record};
 use crate::text::RecordText;
 use crate::text::question::QuestionText;
@@ -102,8 +102,8 @@ fn read_question<'a>(
     ensures told { IfErr result (λ refusal. RefusesEntryText is_multicast (view_octets packet.now)
         (entries.question (question_of question.now)) refusal) }
 {
-    let wants_unicast = wants_unicast(question, is_multicast);
-    match question.text_of_class(packet, question_class(question, is_multicast)) {
+    let wants_unicast = multicast::wants_unicast(is_multicast, question);
+    match question.text_of_class(packet, multicast::question_class(is_multicast, question)) {
         Ok(text) => Ok(EntryText::Question {
             text,
             wants_unicast,
@@ -127,8 +127,8 @@ fn read_record<'a>(
     ensures told { IfErr result (λ refusal. RefusesEntryText is_multicast (view_octets packet.now)
         (entries.record_in section (record_of «record».now)) refusal) }
 {
-    let flushes_cache = flushes_cache(record, is_multicast);
-    match record.text_of_class(packet, record_class(record, is_multicast)) {
+    let flushes_cache = multicast::flushes_cache(is_multicast, record);
+    match record.text_of_class(packet, multicast::record_class(is_multicast, record)) {
         Ok(text) => Ok(EntryText::Record {
             section,
             text,
@@ -136,40 +136,6 @@ fn read_record<'a>(
         }),
         Err(refusal) => Err(refusal),
     }
-}
-
-// The class of a question, which in multicast DNS is without its top bit.
-fn question_class(question: &Question<'_>, is_multicast: bool) -> u16
-    ensures { result ≡ question_class is_multicast question.now.class }
-{
-    if is_multicast {
-        return question.multicast_class();
-    }
-    question.class
-}
-
-// The class of a record, which in multicast DNS is without its top bit.
-fn record_class(record: &Record<'_>, is_multicast: bool) -> u16
-    ensures { result ≡ record_class is_multicast «record».now.type_ «record».now.class }
-{
-    if is_multicast {
-        return record.multicast_class();
-    }
-    record.class
-}
-
-// Whether a question of multicast DNS wants its answer sent to the asker alone.
-fn wants_unicast(question: &Question<'_>, is_multicast: bool) -> bool
-    ensures { result ≡ (is_multicast && has_top_bit question.now.class) }
-{
-    is_multicast && question.wants_unicast()
-}
-
-// Whether a record of multicast DNS tells caches to drop what they have.
-fn flushes_cache(record: &Record<'_>, is_multicast: bool) -> bool
-    ensures { result ≡ (is_multicast && flushes «record».now.type_ «record».now.class) }
-{
-    is_multicast && record.flushes_cache()
 }
 
 /// The section, the question or the record as a zone file has it, and after it ` ; unicast-response` or ` ;

@@ -1,10 +1,8 @@
 //! Data with fields before one name or two and after them, as a zone file has it (RFC 1035 section 5.1, RFC 1183, RFC
 //! 2163, RFC 2230, RFC 2535 section 7.2, RFC 3403 section 4.1, RFC 4034 sections 3.2 and 4.2).
 
-#![tactic(auto, unfolding(crate::specs::ZoneText::word))]
-
-ghost use Rattle.std.specs.Prelude.{◌≡◌, Some, List, ℕ, Option, IfOk, IsOkAnd, IfErr};
-ghost use Rattle.std.specs.Fmt.{WritesOnOk};
+ghost use Rattle.std.specs.Prelude.{◌≡◌, ◌++◌, [], Some, List, ℕ, Option, IfOk, IsOkAnd, IfErr, OnOk, codes, decimal};
+ghost use Rattle.std.specs.Fmt.{WritesInCalls};
 ghost use Rattle.dns_wire.specs.DnsPacket.{view_octets};
 ghost use Rattle.record_wire.specs.Fields.{front_of, rest_of, name_of, fields_of};
 ghost use Rattle.record_wire.specs.FieldsText.{FieldsTextValue, fields_text_of, labels_in, IsFieldsText, IsSecondText};
@@ -13,11 +11,14 @@ ghost use Rattle.record_wire.specs.FieldsText.{fields_display, fields_text, fron
 ghost use Rattle.record_wire.specs.FieldsText.{second_text, bit_text, byte_text, map_text, maps_text};
 
 use crate::name::Name;
+use crate::name::name_text::NameText;
 use crate::name::refusal::NameRefusal;
 use crate::rdata::fields::{Fields, Front, Rest, Signed, split_map};
-use crate::text::words::{Base64, Strings, Whole, split_byte};
+use crate::text::words::{put_base64, put_strings, split_byte};
+use crate::types::put_type;
 use dns_wire::dns::{Packet, Type};
 use std::{fmt, result};
+use wirebase::text::{Sink, ToFormatter, put_number};
 
 /// The fields of data with one name or two, with each name read.
 #[derive(PartialEq, Eq, Clone, Drop)]
@@ -40,9 +41,41 @@ impl fmt::Display for FieldsText<'_> {
     ghost output = { λ read. Some (fields_text (fields_text_of read)) };
 
     fn fmt<W: fmt::Write>(&self, f: &mut fmt::Formatter<W>) -> fmt::Result {
-        let first = Whole(&self.first);
-        let second = Second(&self.second);
-        write!(f, "{}{first}{second}{}", self.front, self.rest)
+        self.put::<_, ToFormatter>(f)
+    }
+}
+
+impl<'a> FieldsText<'a> {
+    /// Puts the fields.
+    pub(crate) fn put<O, S: Sink<O>>(&self, output: &mut O) -> result::Result<(), S::Error>
+        ensures { OnOk result (WritesInCalls S.took output.old (fields_text (fields_text_of self.now)) output.new) }
+    {
+        put_front::<O, S>(output, &self.front)?;
+        NameText::of(&self.first).put::<O, S>(output)?;
+        put_second::<O, S>(output, &self.second)?;
+        put_rest::<O, S>(output, &self.rest)
+    }
+
+    /// The fields with the octets of their names, which are whole.
+    pub(crate) fn octets(&self) -> Fields<'_>
+        ensures { IsFieldsText [] (fields_of result) (fields_text_of self.now) }
+    {
+        Fields {
+            front: self.front,
+            first: self.first.octets(),
+            second: second_octets(&self.second),
+            rest: self.rest,
+        }
+    }
+}
+
+// The octets of a second name, where there is one.
+fn second_octets(second: &Option<Name>) -> Option<&[u8]>
+    ensures { IsSecondText [] (name_of result) (labels_in second.now) }
+{
+    match second {
+        Some(name) => Some(name.octets()),
+        None => None,
     }
 }
 
@@ -71,20 +104,39 @@ impl fmt::Display for Front<'_> {
     ghost output = { λ front. Some (front_text (front_of front)) };
 
     fn fmt<W: fmt::Write>(&self, f: &mut fmt::Formatter<W>) -> fmt::Result {
-        match self {
-            Front::Nothing => Ok(()),
-            Front::Number(number) => write!(f, "{number} "),
-            Front::Rule {
-                order,
-                preference,
-                strings,
-            } => {
-                let strings = Strings(strings);
-                write!(f, "{order} {preference} {strings} ")
-            }
-            Front::Signed(signature) => write!(f, "{signature} "),
+        put_front::<_, ToFormatter>(f, self)
+    }
+}
+
+fn put_front<O, S: Sink<O>>(output: &mut O, front: &Front<'_>) -> result::Result<(), S::Error>
+    ensures { OnOk result (WritesInCalls S.took output.old (front_text (front_of front.now)) output.new) }
+{
+    match front {
+        Front::Nothing => Ok(()),
+        Front::Number(number) => put_before::<O, S>(output, u32::from(*number)),
+        Front::Rule {
+            order,
+            preference,
+            strings,
+        } => {
+            put_before::<O, S>(output, u32::from(*order))?;
+            put_before::<O, S>(output, u32::from(*preference))?;
+            put_strings::<O, S>(output, strings)?;
+            S::put_str(output, " ")
+        }
+        Front::Signed(signature) => {
+            put_signed::<O, S>(output, signature)?;
+            S::put_str(output, " ")
         }
     }
+}
+
+// Puts a number before a space.
+fn put_before<O, S: Sink<O>>(output: &mut O, number: u32) -> result::Result<(), S::Error>
+    ensures { OnOk result (WritesInCalls S.took output.old (decimal number ++ codes " ") output.new) }
+{
+    put_number::<O, S>(output, u64::from(number))?;
+    S::put_str(output, " ")
 }
 
 /// The fields in their order, the times in seconds since 1970 began (RFC 4034 section 3.2).
@@ -92,18 +144,21 @@ impl fmt::Display for Signed {
     ghost output = { λ signature. Some (signature_text signature) };
 
     fn fmt<W: fmt::Write>(&self, f: &mut fmt::Formatter<W>) -> fmt::Result {
-        let covered = self.covered;
-        write!(
-            f,
-            "{covered} {} {} {} {} {} {}",
-            self.algorithm,
-            self.labels,
-            self.original_ttl,
-            self.expiration,
-            self.inception,
-            self.key_tag
-        )
+        put_signed::<_, ToFormatter>(f, self)
     }
+}
+
+fn put_signed<O, S: Sink<O>>(output: &mut O, signature: &Signed) -> result::Result<(), S::Error>
+    ensures { OnOk result (WritesInCalls S.took output.old (signature_text signature.now) output.new) }
+{
+    put_type::<O, S>(output, signature.covered)?;
+    S::put_str(output, " ")?;
+    put_before::<O, S>(output, u32::from(signature.algorithm))?;
+    put_before::<O, S>(output, u32::from(signature.labels))?;
+    put_before::<O, S>(output, signature.original_ttl)?;
+    put_before::<O, S>(output, signature.expiration)?;
+    put_before::<O, S>(output, signature.inception)?;
+    put_number::<O, S>(output, u64::from(signature.key_tag))
 }
 
 /// A space, and the signature in base64; or each type after a space.
@@ -111,94 +166,86 @@ impl fmt::Display for Rest<'_> {
     ghost output = { λ behind. Some (rest_text (rest_of behind)) };
 
     fn fmt<W: fmt::Write>(&self, f: &mut fmt::Formatter<W>) -> fmt::Result {
-        match self {
-            Rest::Nothing => Ok(()),
-            Rest::Signature(octets) => write!(f, " {}", Base64(octets)),
-            Rest::Bits(octets) => fmt_map(f, 0, octets),
-            Rest::Types(octets) => fmt_maps(f, octets),
-        }
+        put_rest::<_, ToFormatter>(f, self)
     }
 }
 
-// A second name after a space, where there is one.
-#[derive(Clone, Copy)]
-struct Second<'a>(&'a Option<Name>);
-
-impl fmt::Display for Second<'_> {
-    ghost output = { λ second. Some (second_text (labels_in second.0.now)) };
-
-    fn fmt<W: fmt::Write>(&self, f: &mut fmt::Formatter<W>) -> fmt::Result {
-        match self.0 {
-            Some(name) => write!(f, " {}", Whole(name)),
-            None => Ok(()),
+fn put_rest<O, S: Sink<O>>(output: &mut O, behind: &Rest<'_>) -> result::Result<(), S::Error>
+    ensures { OnOk result (WritesInCalls S.took output.old (rest_text (rest_of behind.now)) output.new) }
+{
+    match behind {
+        Rest::Nothing => Ok(()),
+        Rest::Signature(octets) => {
+            S::put_str(output, " ")?;
+            put_base64::<O, S>(output, octets)
         }
+        Rest::Bits(octets) => put_map::<O, S>(output, 0, octets),
+        Rest::Types(octets) => put_maps::<O, S>(output, octets),
     }
 }
 
-// Writes each type of the maps after a space, up to where there is no whole map.
-fn fmt_maps<W: fmt::Write>(f: &mut fmt::Formatter<W>, octets: &[u8]) -> fmt::Result
-    ensures { WritesOnOk W.write_str_gives f.old result (maps_text octets.now) f.new }
+// Puts a second name after a space, where there is one.
+fn put_second<O, S: Sink<O>>(output: &mut O, second: &Option<Name>) -> result::Result<(), S::Error>
+    ensures { OnOk result (WritesInCalls S.took output.old (second_text (labels_in second.now)) output.new) }
+{
+    match second {
+        Some(name) => {
+            S::put_str(output, " ")?;
+            NameText::of(name).put::<O, S>(output)
+        }
+        None => Ok(()),
+    }
+}
+
+// Puts each type of the maps after a space, up to where there is no whole map.
+fn put_maps<O, S: Sink<O>>(output: &mut O, octets: &[u8]) -> result::Result<(), S::Error>
+    ensures { OnOk result (WritesInCalls S.took output.old (maps_text octets.now) output.new) }
 {
     let mut left = octets;
     while let Some((upper, map, rest)) = split_map(left) {
-        fmt_map(f, u16::from(upper) * 256, map)?;
+        put_map::<O, S>(output, u16::from(upper) * 256, map)?;
         left = rest;
     }
     Ok(())
 }
 
-// Writes each type of a map after a space. The first bit is of this type.
-fn fmt_map<W: fmt::Write>(f: &mut fmt::Formatter<W>, first: u16, map: &[u8]) -> fmt::Result
-    ensures { WritesOnOk W.write_str_gives f.old result (map_text first map.now) f.new }
+// Puts each type of a map after a space. The first bit is of this type.
+fn put_map<O, S: Sink<O>>(output: &mut O, first: u16, map: &[u8]) -> result::Result<(), S::Error>
+    ensures { OnOk result (WritesInCalls S.took output.old (map_text first map.now) output.new) }
 {
     let mut number = first;
     let mut left = map;
     while let Some((byte, rest)) = split_byte(left) {
-        write!(f, "{}", Byte(number, byte))?;
+        put_byte::<O, S>(output, number, byte)?;
         number = number.wrapping_add(8);
         left = rest;
     }
     Ok(())
 }
 
-// The types of a byte of a map. Its most significant bit is of this type.
-#[derive(Clone, Copy)]
-struct Byte(u16, u8);
-
-impl fmt::Display for Byte {
-    ghost output = { λ byte. Some (byte_text byte.0 byte.1) };
-
-    fn fmt<W: fmt::Write>(&self, f: &mut fmt::Formatter<W>) -> fmt::Result {
-        let Byte(first, byte) = *self;
-        write!(
-            f,
-            "{}{}{}{}{}{}{}{}",
-            Bit(byte / 128, first),
-            Bit(byte / 64, first.wrapping_add(1)),
-            Bit(byte / 32, first.wrapping_add(2)),
-            Bit(byte / 16, first.wrapping_add(3)),
-            Bit(byte / 8, first.wrapping_add(4)),
-            Bit(byte / 4, first.wrapping_add(5)),
-            Bit(byte / 2, first.wrapping_add(6)),
-            Bit(byte, first.wrapping_add(7))
-        )
-    }
+// Puts the types of a byte of a map. Its most significant bit is of this type.
+fn put_byte<O, S: Sink<O>>(output: &mut O, first: u16, byte: u8) -> result::Result<(), S::Error>
+    ensures { OnOk result (WritesInCalls S.took output.old (byte_text first byte) output.new) }
+{
+    put_bit::<O, S>(output, byte / 128, first)?;
+    put_bit::<O, S>(output, byte / 64, first.wrapping_add(1))?;
+    put_bit::<O, S>(output, byte / 32, first.wrapping_add(2))?;
+    put_bit::<O, S>(output, byte / 16, first.wrapping_add(3))?;
+    put_bit::<O, S>(output, byte / 8, first.wrapping_add(4))?;
+    put_bit::<O, S>(output, byte / 4, first.wrapping_add(5))?;
+    put_bit::<O, S>(output, byte / 2, first.wrapping_add(6))?;
+    put_bit::<O, S>(output, byte, first.wrapping_add(7))
 }
 
-// A type after a space, where the least significant bit is set.
-#[derive(Clone, Copy)]
-struct Bit(u8, u16);
-
-impl fmt::Display for Bit {
-    ghost output = { λ bit. Some (bit_text bit.0 bit.1) };
-
-    fn fmt<W: fmt::Write>(&self, f: &mut fmt::Formatter<W>) -> fmt::Result {
-        let Bit(bits, number) = *self;
-        if bits % 2 == 0 {
-            return Ok(());
-        }
-        write!(f, " {}", Type::from(number))
+// Puts a type after a space, where the least significant bit is set.
+fn put_bit<O, S: Sink<O>>(output: &mut O, bits: u8, number: u16) -> result::Result<(), S::Error>
+    ensures { OnOk result (WritesInCalls S.took output.old (bit_text bits number) output.new) }
+{
+    if bits % 2 == 0 {
+        return Ok(());
     }
+    S::put_str(output, " ")?;
+    put_type::<O, S>(output, Type::from(number))
 }
 
 impl<'a> Fields<'a> {

@@ -9,13 +9,14 @@ ghost use Rattle.record_wire.specs.Record.{question_of};
 ghost use Rattle.record_wire.specs.Names.{Names};
 ghost use Rattle.record_wire.specs.RecordText.{IsQuestionText, question_text};
 
-use crate::classes::ClassName;
+use crate::line::put_asked;
 use crate::name::Name;
+use crate::name::name_text::NameText;
 use crate::name::refusal::NameRefusal;
 use crate::record::Question;
-use crate::text::words::Whole;
 use dns_wire::dns::{Packet, Type};
 use std::{fmt, result};
+use wirebase::text::ToFormatter;
 
 /// A question whose name is read, which prints as a record of a zone file without its time to live and its data.
 ///
@@ -89,9 +90,7 @@ impl fmt::Display for QuestionText {
     ghost output = { λ question. Some (question_text (labels_of question.name) question.class question.type_) };
 
     fn fmt<W: fmt::Write>(&self, f: &mut fmt::Formatter<W>) -> fmt::Result {
-        let name = Whole(&self.name);
-        let class = ClassName(self.class);
-        let type_ = self.type_;
-        write!(f, "{name} {class} {type_}")
+        let name = NameText::of(&self.name);
+        put_asked::<_, ToFormatter>(f, &name, self.class, self.type_, None)
     }
 }

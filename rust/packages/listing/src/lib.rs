@@ -22,4 +22,3 @@ pub mod ports;
 pub mod printer;
 pub mod question;
 pub mod quote;
-mod zone;

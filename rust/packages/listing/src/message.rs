@@ -1,7 +1,6 @@
 // Made from crates/listing/src/message.rt by rust/erase.
 //! Whole messages of DNS (RFC 1035 section 4.1).
 
-mod data;
 mod edns;
 mod header;
 mod record;

@@ -26,9 +26,9 @@ pub fn put_dotted<'a, B: AsRef<[u8]> + ?Sized>(
     put_text(room, octets_of(packet), bytes)
 }
 
-// Puts the text of a name into the buffer, over the octets of the message. A pointer leads to one of the bytes that are
-// open, and leaves only those below that place open, so this ends.
-fn put_text(room: &mut [u8; ROOM_LEN], message: &[u8], bytes: &[u8]) -> Option<usize> {
+/// Puts the text of a name into the buffer, over the octets of the message, as [`put_dotted`] does. A pointer leads to
+/// one of the bytes that are open, and leaves only those below that place open, so this ends.
+pub(super) fn put_text(room: &mut [u8; ROOM_LEN], message: &[u8], bytes: &[u8]) -> Option<usize> {
     let mut at = 0;
     let mut dots = 0;
     let mut pointers = 0;

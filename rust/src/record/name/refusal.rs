@@ -44,10 +44,17 @@ impl Name {
         packet: &Packet<&'a B>,
         bytes: &'a [u8],
     ) -> result::Result<Name, NameRefusal> {
-        let mut octets = ArrayVec::new();
-        match put_name(&mut octets, octets_of(packet), bytes) {
-            Ok(()) => Ok(Name { octets }),
-            Err(refusal) => Err(refusal),
-        }
+        read_name(octets_of(packet), bytes)
+    }
+}
+
+/// The name that begins in `bytes` and goes on in a message, or why it is refused. Inlined: a name is large, and would be
+/// copied.
+#[inline(always)]
+pub(super) fn read_name(message: &[u8], bytes: &[u8]) -> result::Result<Name, NameRefusal> {
+    let mut octets = ArrayVec::new();
+    match put_name(&mut octets, message, bytes) {
+        Ok(()) => Ok(Name { octets }),
+        Err(refusal) => Err(refusal),
     }
 }

@@ -3,6 +3,7 @@
 
 use crate::dns_wire::dns::Packet;
 use crate::record::entries::{Entry, Section};
+use crate::record::multicast;
 use crate::record::record::{Question, Record};
 use crate::record::text::RecordText;
 use crate::record::text::question::QuestionText;
@@ -78,8 +79,8 @@ fn read_question<'a, B: AsRef<[u8]> + ?Sized>(
     question: &Question<'a>,
     is_multicast: bool,
 ) -> result::Result<EntryText<'a>, TextRefusal> {
-    let wants_unicast = wants_unicast(question, is_multicast);
-    match question.text_of_class(packet, question_class(question, is_multicast)) {
+    let wants_unicast = multicast::wants_unicast(is_multicast, question);
+    match question.text_of_class(packet, multicast::question_class(is_multicast, question)) {
         Ok(text) => Ok(EntryText::Question {
             text,
             wants_unicast,
@@ -95,8 +96,8 @@ fn read_record<'a, B: AsRef<[u8]> + ?Sized>(
     record: &Record<'a>,
     is_multicast: bool,
 ) -> result::Result<EntryText<'a>, TextRefusal> {
-    let flushes_cache = flushes_cache(record, is_multicast);
-    match record.text_of_class(packet, record_class(record, is_multicast)) {
+    let flushes_cache = multicast::flushes_cache(is_multicast, record);
+    match record.text_of_class(packet, multicast::record_class(is_multicast, record)) {
         Ok(text) => Ok(EntryText::Record {
             section,
             text,
@@ -104,32 +105,6 @@ fn read_record<'a, B: AsRef<[u8]> + ?Sized>(
         }),
         Err(refusal) => Err(refusal),
     }
-}
-
-// The class of a question, which in multicast DNS is without its top bit.
-fn question_class(question: &Question<'_>, is_multicast: bool) -> u16 {
-    if is_multicast {
-        return question.multicast_class();
-    }
-    question.class
-}
-
-// The class of a record, which in multicast DNS is without its top bit.
-fn record_class(record: &Record<'_>, is_multicast: bool) -> u16 {
-    if is_multicast {
-        return record.multicast_class();
-    }
-    record.class
-}
-
-// Whether a question of multicast DNS wants its answer sent to the asker alone.
-fn wants_unicast(question: &Question<'_>, is_multicast: bool) -> bool {
-    is_multicast && question.wants_unicast()
-}
-
-// Whether a record of multicast DNS tells caches to drop what they have.
-fn flushes_cache(record: &Record<'_>, is_multicast: bool) -> bool {
-    is_multicast && record.flushes_cache()
 }
 
 /// The section, the question or the record as a zone file has it, and after it ` ; unicast-response` or ` ;

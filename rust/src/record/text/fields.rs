@@ -4,9 +4,12 @@
 
 use crate::dns_wire::dns::{Packet, Type};
 use crate::record::name::Name;
+use crate::record::name::name_text::NameText;
 use crate::record::name::refusal::NameRefusal;
 use crate::record::rdata::fields::{Fields, Front, Rest, Signed, split_map};
-use crate::record::text::words::{Base64, Strings, Whole, split_byte};
+use crate::record::text::words::{put_base64, put_strings, split_byte};
+use crate::record::types::put_type;
+use crate::wirebase::text::{Sink, ToFormatter, put_number};
 use core::{fmt, result};
 
 /// The fields of data with one name or two, with each name read.
@@ -28,9 +31,35 @@ pub struct FieldsText<'a> {
 /// The fields in their order with spaces between them, names with their last dot.
 impl fmt::Display for FieldsText<'_> {
     fn fmt(&self, f: &mut fmt::Formatter<'_>) -> fmt::Result {
-        let first = Whole(&self.first);
-        let second = Second(&self.second);
-        write!(f, "{}{first}{second}{}", self.front, self.rest)
+        self.put::<_, ToFormatter>(f)
+    }
+}
+
+impl<'a> FieldsText<'a> {
+    /// Puts the fields.
+    pub(crate) fn put<O, S: Sink<O>>(&self, output: &mut O) -> result::Result<(), S::Error> {
+        put_front::<O, S>(output, &self.front)?;
+        NameText::of(&self.first).put::<O, S>(output)?;
+        put_second::<O, S>(output, &self.second)?;
+        put_rest::<O, S>(output, &self.rest)
+    }
+
+    /// The fields with the octets of their names, which are whole.
+    pub(crate) fn octets(&self) -> Fields<'_> {
+        Fields {
+            front: self.front,
+            first: self.first.octets(),
+            second: second_octets(&self.second),
+            rest: self.rest,
+        }
+    }
+}
+
+// The octets of a second name, where there is one.
+fn second_octets(second: &Option<Name>) -> Option<&[u8]> {
+    match second {
+        Some(name) => Some(name.octets()),
+        None => None,
     }
 }
 
@@ -55,120 +84,129 @@ impl fmt::Display for Fields<'_> {
 /// Each field, and a space after it.
 impl fmt::Display for Front<'_> {
     fn fmt(&self, f: &mut fmt::Formatter<'_>) -> fmt::Result {
-        match self {
-            Front::Nothing => Ok(()),
-            Front::Number(number) => write!(f, "{number} "),
-            Front::Rule {
-                order,
-                preference,
-                strings,
-            } => {
-                let strings = Strings(strings);
-                write!(f, "{order} {preference} {strings} ")
-            }
-            Front::Signed(signature) => write!(f, "{signature} "),
+        put_front::<_, ToFormatter>(f, self)
+    }
+}
+
+fn put_front<O, S: Sink<O>>(output: &mut O, front: &Front<'_>) -> result::Result<(), S::Error> {
+    match front {
+        Front::Nothing => Ok(()),
+        Front::Number(number) => put_before::<O, S>(output, u32::from(*number)),
+        Front::Rule {
+            order,
+            preference,
+            strings,
+        } => {
+            put_before::<O, S>(output, u32::from(*order))?;
+            put_before::<O, S>(output, u32::from(*preference))?;
+            put_strings::<O, S>(output, strings)?;
+            S::put_str(output, " ")
+        }
+        Front::Signed(signature) => {
+            put_signed::<O, S>(output, signature)?;
+            S::put_str(output, " ")
         }
     }
+}
+
+// Puts a number before a space.
+fn put_before<O, S: Sink<O>>(output: &mut O, number: u32) -> result::Result<(), S::Error> {
+    put_number::<O, S>(output, u64::from(number))?;
+    S::put_str(output, " ")
 }
 
 /// The fields in their order, the times in seconds since 1970 began (RFC 4034 section 3.2).
 impl fmt::Display for Signed {
     fn fmt(&self, f: &mut fmt::Formatter<'_>) -> fmt::Result {
-        let covered = self.covered;
-        write!(
-            f,
-            "{covered} {} {} {} {} {} {}",
-            self.algorithm,
-            self.labels,
-            self.original_ttl,
-            self.expiration,
-            self.inception,
-            self.key_tag
-        )
+        put_signed::<_, ToFormatter>(f, self)
     }
+}
+
+fn put_signed<O, S: Sink<O>>(output: &mut O, signature: &Signed) -> result::Result<(), S::Error> {
+    put_type::<O, S>(output, signature.covered)?;
+    S::put_str(output, " ")?;
+    put_before::<O, S>(output, u32::from(signature.algorithm))?;
+    put_before::<O, S>(output, u32::from(signature.labels))?;
+    put_before::<O, S>(output, signature.original_ttl)?;
+    put_before::<O, S>(output, signature.expiration)?;
+    put_before::<O, S>(output, signature.inception)?;
+    put_number::<O, S>(output, u64::from(signature.key_tag))
 }
 
 /// A space, and the signature in base64; or each type after a space.
 impl fmt::Display for Rest<'_> {
     fn fmt(&self, f: &mut fmt::Formatter<'_>) -> fmt::Result {
-        match self {
-            Rest::Nothing => Ok(()),
-            Rest::Signature(octets) => write!(f, " {}", Base64(octets)),
-            Rest::Bits(octets) => fmt_map(f, 0, octets),
-            Rest::Types(octets) => fmt_maps(f, octets),
-        }
+        put_rest::<_, ToFormatter>(f, self)
     }
 }
 
-// A second name after a space, where there is one.
-#[derive(Clone, Copy)]
-struct Second<'a>(&'a Option<Name>);
-
-impl fmt::Display for Second<'_> {
-    fn fmt(&self, f: &mut fmt::Formatter<'_>) -> fmt::Result {
-        match self.0 {
-            Some(name) => write!(f, " {}", Whole(name)),
-            None => Ok(()),
+fn put_rest<O, S: Sink<O>>(output: &mut O, behind: &Rest<'_>) -> result::Result<(), S::Error> {
+    match behind {
+        Rest::Nothing => Ok(()),
+        Rest::Signature(octets) => {
+            S::put_str(output, " ")?;
+            put_base64::<O, S>(output, octets)
         }
+        Rest::Bits(octets) => put_map::<O, S>(output, 0, octets),
+        Rest::Types(octets) => put_maps::<O, S>(output, octets),
     }
 }
 
-// Writes each type of the maps after a space, up to where there is no whole map.
-fn fmt_maps(f: &mut fmt::Formatter<'_>, octets: &[u8]) -> fmt::Result {
+// Puts a second name after a space, where there is one.
+fn put_second<O, S: Sink<O>>(
+    output: &mut O,
+    second: &Option<Name>,
+) -> result::Result<(), S::Error> {
+    match second {
+        Some(name) => {
+            S::put_str(output, " ")?;
+            NameText::of(name).put::<O, S>(output)
+        }
+        None => Ok(()),
+    }
+}
+
+// Puts each type of the maps after a space, up to where there is no whole map.
+fn put_maps<O, S: Sink<O>>(output: &mut O, octets: &[u8]) -> result::Result<(), S::Error> {
     let mut left = octets;
     while let Some((upper, map, rest)) = split_map(left) {
-        fmt_map(f, u16::from(upper) * 256, map)?;
+        put_map::<O, S>(output, u16::from(upper) * 256, map)?;
         left = rest;
     }
     Ok(())
 }
 
-// Writes each type of a map after a space. The first bit is of this type.
-fn fmt_map(f: &mut fmt::Formatter<'_>, first: u16, map: &[u8]) -> fmt::Result {
+// Puts each type of a map after a space. The first bit is of this type.
+fn put_map<O, S: Sink<O>>(output: &mut O, first: u16, map: &[u8]) -> result::Result<(), S::Error> {
     let mut number = first;
     let mut left = map;
     while let Some((byte, rest)) = split_byte(left) {
-        write!(f, "{}", Byte(number, byte))?;
+        put_byte::<O, S>(output, number, byte)?;
         number = number.wrapping_add(8);
         left = rest;
     }
     Ok(())
 }
 
-// The types of a byte of a map. Its most significant bit is of this type.
-#[derive(Clone, Copy)]
-struct Byte(u16, u8);
-
-impl fmt::Display for Byte {
-    fn fmt(&self, f: &mut fmt::Formatter<'_>) -> fmt::Result {
-        let Byte(first, byte) = *self;
-        write!(
-            f,
-            "{}{}{}{}{}{}{}{}",
-            Bit(byte / 128, first),
-            Bit(byte / 64, first.wrapping_add(1)),
-            Bit(byte / 32, first.wrapping_add(2)),
-            Bit(byte / 16, first.wrapping_add(3)),
-            Bit(byte / 8, first.wrapping_add(4)),
-            Bit(byte / 4, first.wrapping_add(5)),
-            Bit(byte / 2, first.wrapping_add(6)),
-            Bit(byte, first.wrapping_add(7))
-        )
-    }
+// Puts the types of a byte of a map. Its most significant bit is of this type.
+fn put_byte<O, S: Sink<O>>(output: &mut O, first: u16, byte: u8) -> result::Result<(), S::Error> {
+    put_bit::<O, S>(output, byte / 128, first)?;
+    put_bit::<O, S>(output, byte / 64, first.wrapping_add(1))?;
+    put_bit::<O, S>(output, byte / 32, first.wrapping_add(2))?;
+    put_bit::<O, S>(output, byte / 16, first.wrapping_add(3))?;
+    put_bit::<O, S>(output, byte / 8, first.wrapping_add(4))?;
+    put_bit::<O, S>(output, byte / 4, first.wrapping_add(5))?;
+    put_bit::<O, S>(output, byte / 2, first.wrapping_add(6))?;
+    put_bit::<O, S>(output, byte, first.wrapping_add(7))
 }
 
-// A type after a space, where the least significant bit is set.
-#[derive(Clone, Copy)]
-struct Bit(u8, u16);
-
-impl fmt::Display for Bit {
-    fn fmt(&self, f: &mut fmt::Formatter<'_>) -> fmt::Result {
-        let Bit(bits, number) = *self;
-        if bits % 2 == 0 {
-            return Ok(());
-        }
-        write!(f, " {}", Type::from(number))
+// Puts a type after a space, where the least significant bit is set.
+fn put_bit<O, S: Sink<O>>(output: &mut O, bits: u8, number: u16) -> result::Result<(), S::Error> {
+    if bits % 2 == 0 {
+        return Ok(());
     }
+    S::put_str(output, " ")?;
+    put_type::<O, S>(output, Type::from(number))
 }
 
 impl<'a> Fields<'a> {

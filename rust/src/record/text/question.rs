@@ -2,11 +2,12 @@
 //! Questions with their names read, a line each.
 
 use crate::dns_wire::dns::{Packet, Type};
-use crate::record::classes::ClassName;
+use crate::record::line::put_asked;
 use crate::record::name::Name;
+use crate::record::name::name_text::NameText;
 use crate::record::name::refusal::NameRefusal;
 use crate::record::record::Question;
-use crate::record::text::words::Whole;
+use crate::wirebase::text::ToFormatter;
 use core::{fmt, result};
 
 /// A question whose name is read, which prints as a record of a zone file without its time to live and its data.
@@ -66,9 +67,7 @@ impl<'a> Question<'a> {
 /// The name with its last dot, the class and the type by their mnemonics.
 impl fmt::Display for QuestionText {
     fn fmt(&self, f: &mut fmt::Formatter<'_>) -> fmt::Result {
-        let name = Whole(&self.name);
-        let class = ClassName(self.class);
-        let type_ = self.type_;
-        write!(f, "{name} {class} {type_}")
+        let name = NameText::of(&self.name);
+        put_asked::<_, ToFormatter>(f, &name, self.class, self.type_, None)
     }
 }

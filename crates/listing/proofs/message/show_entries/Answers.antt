@@ -1,5 +1,5 @@
 -- Each turn prints an entry, up to the first that is not listed.
-use Rattle.listing.proofs.Words.{◌∙◌, None, Some, all_of, inl, inr, sym, view_octets}
+use Rattle.listing.proofs.Words.{◌∙◌, None, all_of, inl, inr, sym, view_octets}
 use Rattle.record_wire.specs.Entries.{entry_of}
 use Rattle.listing.specs.ListingMessage.{none_left}
 use Rattle.listing.proofs.Entries.{nothing_more, refused_next, one_listed, one_unread}

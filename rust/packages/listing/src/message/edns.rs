@@ -3,9 +3,8 @@
 
 use crate::message::Unread;
 use crate::printer::{Value, part_field};
-use crate::zone::{NameText, word};
 use control_wire::dns::Packet;
-use control_wire::record::{Edns, EdnsOption, EdnsOptions, Record, TextRefusal};
+use control_wire::record::{Edns, EdnsOption, EdnsOptions, Name, Record, TextRefusal};
 use rattle_std::io;
 use rattle_std::io::Write;
 
@@ -17,8 +16,7 @@ pub fn show_opt<'a, W: Write>(
     record: &Record<'a>,
     edns: &Edns<'a>,
 ) -> io::Result<Option<Unread>> {
-    let mut owner = NameText::new();
-    if let Err(refusal) = owner.read(packet, record.name) {
+    if let Some(refusal) = Name::read_refusal(packet, record.name) {
         return Ok(Some(Unread::Record(TextRefusal::Owner(refusal))));
     }
     show_sender(output, margin, edns)?;
@@ -48,7 +46,8 @@ fn opt_field<V: Value, W: Write>(
 impl Value for EdnsOption<'_> {
     fn write_to<W: Write>(self, output: &mut W) -> io::Result<()> {
         self.code.write_to(output)?;
-        word(output, self.data)
+        output.write_all(b" ")?;
+        self.data.write_to(output)
     }
 }
 

@@ -1,5 +1,5 @@
 -- Each turn prints an option, or tells how they end.
-use Rattle.listing.proofs.Words.{[], ◌++◌, ◌∙◌, ap, append-nil, append_assoc, arith, length, options_listing, refl, sym}
+use Rattle.listing.proofs.Words.{[], ◌++◌, ◌∙◌, ap, append_assoc, arith, length, options_listing, refl, sym}
 use Rattle.listing.proofs.Words.{unread_option}
 use Rattle.listing.proofs.Printing.{gains_none, gains_both}
 use Rattle.listing.proofs.message.edns.show_options.Goals as goal

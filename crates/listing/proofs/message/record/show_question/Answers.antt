@@ -1,17 +1,17 @@
-use Rattle.listing.proofs.Words.{[], refl}
-use Rattle.listing.specs.ListingRecord.{asks, asks_of_no_name}
-use Rattle.listing.proofs.Printing.{gains_none, ◌then◌}
+use Rattle.listing.proofs.Words.{codes, refl, view_octets}
+use Rattle.record_wire.specs.Record.{question_of}
+use Rattle.listing.proofs.Records.{puts_gain, question_printed, question_refused}
 use Rattle.listing.proofs.message.record.show_question.Goals as goal
 
-pub returns-in-Err : goal.returns-in-Err
-returns-in-Err g c =
-    ([], asks_of_no_name c.in-Err.refusal (c.in-Err.ensures.reads_not refl) c.in-Err.ensures.told, gains_none _)
+pub returns-in-Some : goal.returns-in-Some
+returns-in-Some g c =
+    question_refused c.args.margin.now c.args.is_multicast (view_octets c.args.packet.now) c.question_class-class.result
+    (question_of c.args.question.now) _ _ c.in-Some.refusal
+    (puts_gain g.W.Write.contents _ _ _ (rw (c.in-Some.is, c.octets_of.ensures) at c.in_ok-refusal.ensures))
 
 pub returns : goal.returns
 returns g c =
-    let class = rw c.question_class.ensures at c.in_ok-class_word.ensures in
-    let end = rw c.wants_unicast.ensures at c.in_ok-end_line.ensures in (
-      _,
-      asks _ c.in_default.ensures.reads,
-      c.in_ok-write_front.ensures then class then c.in_ok-type_word.ensures then end,
-    )
+    question_printed c.args.margin.now (codes "question=") c.args.is_multicast (view_octets c.args.packet.now)
+    c.question_class-class.result (question_of c.args.question.now) c.question_class-class.ensures refl _ _ _
+    (puts_gain g.W.Write.contents _ _ _ (rw (c.in_default.is, c.octets_of.ensures) at c.in_ok-refusal.ensures))
+    (rw c.wants_unicast-is_marked.ensures at c.in_ok-end_line.ensures)

@@ -1,32 +1,7 @@
--- The octets that were put.
-use Rattle.record_wire.proofs.Words.{Names, RefusesName, subst, sym, view_octets}
-use Rattle.record_wire.proofs.LabelLists.{in_wire, wire_in}
+use Rattle.record_wire.proofs.Words.{IfErr, RefusesName, subst}
 use Rattle.record_wire.proofs.name.Name.read_or_refusal.Goals as goal
 
-pub invariant_of-result : goal.invariant_of-result
-invariant_of-result c =
-    let named = c.in-Ok.ensures.sound in
-    record { whole = wire_in c.put_name.new.octets.items named.labels named.names.fits.each named.written }
-
-pub returns-in-Ok-clause-sound : goal.returns-in-Ok-clause-sound
-returns-in-Ok-clause-sound c =
-    let named = c.in-Ok.ensures.sound in
-    let same = in_wire c.put_name.new.octets.items named.labels named.names.fits.each named.written in
-    subst (λ labels. Names (view_octets c.args.packet.now) c.args.bytes.now labels) (sym same)
-    (subst (λ m. Names m c.args.bytes.now named.labels) c.octets_of.ensures named.names)
-
-pub returns-in-Ok-clause-complete : goal.returns-in-Ok-clause-complete
-returns-in-Ok-clause-complete c = λ labels names.
-    let written = (c.in-Ok.ensures.complete labels
-    (subst (λ m. Names m c.args.bytes.now labels) (sym c.octets_of.ensures) names)).1 in
-    in_wire c.put_name.new.octets.items labels names.fits.each written
-
-pub returns-in-Err-clause-complete : goal.returns-in-Err-clause-complete
-returns-in-Err-clause-complete c = λ labels names.
-    let ok = (c.in-Err.ensures.complete labels
-    (subst (λ m. Names m c.args.bytes.now labels) (sym c.octets_of.ensures) names)).0 in
-    absurd (cc ok)
-
-pub returns-in-Err-clause-told : goal.returns-in-Err-clause-told
-returns-in-Err-clause-told c =
-    subst (λ m. RefusesName c.args.bytes.now m c.in-Err.refusal) c.octets_of.ensures c.in-Err.ensures.told
+pub returns-clause-told : goal.returns-clause-told
+returns-clause-told c =
+    subst (λ m. IfErr c.read_name.result (λ why. RefusesName c.args.bytes.now m why)) c.octets_of.ensures
+    c.read_name.ensures.told

@@ -1,0 +1,15 @@
+-- The bits, one after another.
+use Rattle.record_wire.proofs.Words.{byte_text}
+use Rattle.record_wire.proofs.Puts.{puts_last}
+use Rattle.record_wire.proofs.text.fields.put_byte.Goals as goal
+
+pub returns : goal.returns
+unfolding byte_text
+returns g c =
+    puts_last _ _ _ c.in_ok-put_bit.ensures
+    (puts_last _ _ _ c.in_ok-put_bit-2.ensures
+    (puts_last _ _ _ c.in_ok-put_bit-3.ensures
+    (puts_last _ _ _ c.in_ok-put_bit-4.ensures
+    (puts_last _ _ _ c.in_ok-put_bit-5.ensures
+    (puts_last _ _ _ c.in_ok-put_bit-6.ensures
+    (puts_last _ _ _ c.in_ok-put_bit-7.ensures c.put_bit-8.ensures))))))

@@ -1,0 +1,31 @@
+-- Each turn puts the types of a byte.
+use Rattle.record_wire.proofs.Words.{[], ◌++◌, ◌∙◌, List, WritesInCalls, ℕ, ap, append-nil, byte_text, map_text}
+use Rattle.record_wire.proofs.Words.{number_at, refl, subst, sym}
+use Rattle.wirebase.proofs.Sinks.{put_none}
+use Rattle.record_wire.proofs.FieldTexts.{map_more, map_none}
+use Rattle.record_wire.proofs.Puts.{◌then◌}
+use Rattle.record_wire.proofs.RecordTexts.{one_text}
+use Rattle.record_wire.proofs.text.fields.put_map.Goals as goal
+
+pub loop-byte-init : goal.loop-byte-init
+loop-byte-init g c = ([], refl, put_none g.S.Sink.took _)
+
+pub loop-byte-preserved : goal.loop-byte-preserved
+loop-byte-preserved g c =
+    let (done, is, before) = c.loop-byte.invariant in
+    let number = c.loop-byte.number in
+    let text = byte_text number c.in-Some.byte in
+    let left = map_text number c.loop-byte.left.now in
+    let rest = map_text (number_at number 8) c.in-Some.rest.now in (
+      done ++ text,
+      one_text done left text rest (map_text c.args.first c.args.map.now) is
+          (map_more number c.in-Some.byte c.loop-byte.left.now c.in-Some.rest.now c.in-Some.ensures),
+      before then c.in_ok-put_byte.ensures,
+    )
+
+pub returns : goal.returns
+returns g c =
+    let (done, is, before) = c.loop-byte.invariant in
+    let none = map_none c.loop-byte.number c.loop-byte.left.now c.in_default.ensures in
+    let whole = sym (append-nil done) ∙ (ap (λ (l : List ℕ). done ++ l) (sym none) ∙ is) in
+    subst (λ (t : List ℕ). WritesInCalls g.S.Sink.took c.args.output.now t c.loop-byte.output) whole before
