@@ -54,7 +54,6 @@ pub(crate) fn put_bytes<O, S: Sink<O>>(
 /// # Panics
 ///
 /// May panic where what is asked for above does not hold.
-#[inline(always)]
 pub(crate) fn put_one<O, S: Sink<O>>(
     output: &mut O,
     piece: &mut [u8; PIECE_LEN],

@@ -575,7 +575,7 @@ fn no_write_fails_unseen(rt: HostRuntime) {
     let packet = Packet::new_unchecked(MESSAGE);
     let data = RData::Txt(b"\x01a\x01\"");
     if let Ok(read) = data.text(&packet) {
-        takes_writes(&rt, &read, 7);
+        takes_writes(&rt, &read, 3);
     }
 }
 

@@ -156,5 +156,5 @@ fn entries_that_are_equal(rt: HostRuntime) {
 fn no_write_of_an_entry_fails_unseen(rt: HostRuntime) {
     takes_writes(&rt, &read(&rt, &question(b"\0", 0x8001)), 7);
     let flagged = record(Section::Answer, types::A, 0x8001, ADDRESS);
-    takes_writes(&rt, &read(&rt, &flagged), 13);
+    takes_writes(&rt, &read(&rt, &flagged), 12);
 }

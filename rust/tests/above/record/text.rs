@@ -565,7 +565,7 @@ fn no_write_fails_unseen() {
     let packet = Packet::new_unchecked(MESSAGE);
     let data = RData::Txt(b"\x01a\x01\"");
     if let Ok(read) = data.text(&packet) {
-        takes_writes(&read, 7);
+        takes_writes(&read, 3);
     }
 }
 

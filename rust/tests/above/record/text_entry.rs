@@ -151,5 +151,5 @@ fn entries_that_are_equal() {
 fn no_write_of_an_entry_fails_unseen() {
     takes_writes(&read(&question(b"\0", 0x8001)), 7);
     let flagged = record(Section::Answer, types::A, 0x8001, ADDRESS);
-    takes_writes(&read(&flagged), 13);
+    takes_writes(&read(&flagged), 12);
 }
