@@ -1,5 +1,5 @@
-//! Bytes of labels and of strings as a zone file has them (RFC 1035 section 5.1). They are put together in a piece before
-//! they are put into an output, since each call costs.
+//! Bytes of labels and of strings as a zone file has them (RFC 1035 section 5.1). They are put together in a piece
+//! before they are put into an output, since each call costs.
 
 ghost use Rattle.std.specs.Prelude.{◌≡◌, ◌≤◌, ◌+◌, ◌++◌, [], ◌∷◌, IfOk, flat_map, take};
 ghost use Rattle.std.specs.Str.{IsAscii};

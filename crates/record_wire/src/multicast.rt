@@ -46,7 +46,7 @@ pub(crate) fn is_opt(type_: Type) -> bool
     matches!(type_, types::OPT)
 }
 
-/// The class of a question, which in multicast DNS is without its top bit.
+/// The class of a question, which in multicast DNS is without its top bit (RFC 6762 section 5.4).
 pub fn question_class(is_multicast: bool, question: &Question<'_>) -> u16
     ensures { result ≡ multicast.question_class is_multicast question.now.class }
 {
@@ -56,7 +56,7 @@ pub fn question_class(is_multicast: bool, question: &Question<'_>) -> u16
     question.class
 }
 
-/// The class of a record, which in multicast DNS is without its top bit.
+/// The class of a record, which in multicast DNS is without its top bit (RFC 6762 section 10.2).
 pub fn record_class(is_multicast: bool, record: &Record<'_>) -> u16
     ensures { result ≡ multicast.record_class is_multicast «record».now.type_ «record».now.class }
 {
@@ -66,14 +66,16 @@ pub fn record_class(is_multicast: bool, record: &Record<'_>) -> u16
     record.class
 }
 
-/// Whether a question of multicast DNS wants its answer sent to the asker alone.
+/// Whether a question of multicast DNS wants its answer sent to the asker alone (RFC 6762 section 5.4); false for one
+/// of another message.
 pub fn wants_unicast(is_multicast: bool, question: &Question<'_>) -> bool
     ensures { result ≡ (is_multicast && multicast.has_top_bit question.now.class) }
 {
     is_multicast && question.wants_unicast()
 }
 
-/// Whether a record of multicast DNS tells caches to drop what they have.
+/// Whether a record of multicast DNS tells caches to drop what they have (RFC 6762 section 10.2); false for one of
+/// another message.
 pub fn flushes_cache(is_multicast: bool, record: &Record<'_>) -> bool
     ensures { result ≡ (is_multicast && multicast.flushes «record».now.type_ «record».now.class) }
 {

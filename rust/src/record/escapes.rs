@@ -1,6 +1,6 @@
 // Made from crates/record_wire/src/escapes.rt by rust/erase.
-//! Bytes of labels and of strings as a zone file has them (RFC 1035 section 5.1). They are put together in a piece before
-//! they are put into an output, since each call costs.
+//! Bytes of labels and of strings as a zone file has them (RFC 1035 section 5.1). They are put together in a piece
+//! before they are put into an output, since each call costs.
 
 use crate::wirebase::text::Sink;
 use core::result;

@@ -38,7 +38,7 @@ pub(crate) fn is_opt(type_: Type) -> bool {
     matches!(type_, types::OPT)
 }
 
-/// The class of a question, which in multicast DNS is without its top bit.
+/// The class of a question, which in multicast DNS is without its top bit (RFC 6762 section 5.4).
 pub fn question_class(is_multicast: bool, question: &Question<'_>) -> u16 {
     if is_multicast {
         return question.multicast_class();
@@ -46,7 +46,7 @@ pub fn question_class(is_multicast: bool, question: &Question<'_>) -> u16 {
     question.class
 }
 
-/// The class of a record, which in multicast DNS is without its top bit.
+/// The class of a record, which in multicast DNS is without its top bit (RFC 6762 section 10.2).
 pub fn record_class(is_multicast: bool, record: &Record<'_>) -> u16 {
     if is_multicast {
         return record.multicast_class();
@@ -54,12 +54,14 @@ pub fn record_class(is_multicast: bool, record: &Record<'_>) -> u16 {
     record.class
 }
 
-/// Whether a question of multicast DNS wants its answer sent to the asker alone.
+/// Whether a question of multicast DNS wants its answer sent to the asker alone (RFC 6762 section 5.4); false for one
+/// of another message.
 pub fn wants_unicast(is_multicast: bool, question: &Question<'_>) -> bool {
     is_multicast && question.wants_unicast()
 }
 
-/// Whether a record of multicast DNS tells caches to drop what they have.
+/// Whether a record of multicast DNS tells caches to drop what they have (RFC 6762 section 10.2); false for one of
+/// another message.
 pub fn flushes_cache(is_multicast: bool, record: &Record<'_>) -> bool {
     is_multicast && record.flushes_cache()
 }

@@ -65,8 +65,8 @@ impl Name {
     }
 }
 
-/// The name that begins in `bytes` and goes on in a message, or why it is refused. Inlined: a name is large, and would be
-/// copied.
+/// The name that begins in `bytes` and goes on in a message, or why it is refused. Inlined: a name is large, and would
+/// be copied.
 #[inline(always)]
 pub(super) fn read_name(message: &[u8], bytes: &[u8]) -> result::Result<Name, NameRefusal>
     ensures sound { IfOk result (λ name. Names message.now bytes.now (labels_of name)) }
