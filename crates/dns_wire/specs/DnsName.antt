@@ -115,10 +115,6 @@ pub record IsName (text message : List ℕ) (labels : List (List ℕ)) : Type 0 
   pub path : IsCompletePath text message targets parts
   pub is : labels ≡ joined parts
 
--- two names of a message have the same labels, wherever their pointers lead
-abbrev pub HaveSameLabels : List ℕ → List ℕ → List ℕ → Type 0
-HaveSameLabels message a b = (labels : List (List ℕ)) × IsName a message labels × IsName b message labels
-
 -- The longest falling path is not complete: no part of its last window ends. `front` is the longest list of whole
 -- labels at the front of that window.
 pub record IsBrokenPath (text message targets : List ℕ) (parts : List (List (List ℕ)))
