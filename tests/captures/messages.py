@@ -87,6 +87,10 @@ def option(octets):
         return [number("PadN", octets, 1, 1)]
     if octets[0] == 5:
         return [number("RouterAlert", octets, 2, 2)]
+    return unknown(octets)
+
+
+def unknown(octets):
     return ["Unknown", number("type_", octets, 0, 1), number("length", octets, 1, 1),
             field("data", hexadecimal(octets[2:]))]
 
@@ -96,7 +100,8 @@ def option(octets):
 ERRORS4 = {3: "DstUnreachable", 4: "SourceQuench", 5: "Redirect", 11: "TimeExceeded", 12: "ParamProblem"}
 
 
-def icmp4(of):
+def icmp4(of, error=None):
+    """The lines of a message; those of an error are given by a function of its type and its octets."""
     octets = of.payload
     need(octets, 8)
     if not is_good(octets):
@@ -107,7 +112,7 @@ def icmp4(of):
         return echo("EchoRequest" if kind == 8 else "EchoReply", octets)
     if kind not in ERRORS4:
         raise Refused("type", "type %d is not read" % kind)
-    return error4(kind, octets)
+    return (error or error4)(kind, octets)
 
 
 def echo(name, octets):
@@ -200,7 +205,7 @@ ERRORS6 = {1: "DstUnreachable", 2: "PktTooBig", 3: "TimeExceeded", 4: "ParamProb
 HEADERS6 = {1: 8, 2: 8, 3: 8, 4: 8, 128: 8, 129: 8, 130: 28, 133: 8, 134: 16, 135: 24, 136: 24, 137: 40, 143: 8}
 
 
-def icmp6(of):
+def icmp6(of, error=None):
     octets = of.payload
     need(octets, 8)
     kind = octets[0]
@@ -210,11 +215,11 @@ def icmp6(of):
     if not is_good(octets, pseudo_sum(of.source, of.destination, ICMP6, len(octets))):
         raise Refused("checksum", BAD_CHECKSUM)
     if kind in ERRORS6:
-        return error6(kind, octets)
+        return (error or error6)(kind, octets)
     accept(octets[1] == 0, "code %d is not read" % octets[1])
     if kind in (128, 129):
         return echo("EchoRequest" if kind == 128 else "EchoReply", octets)
-    return {130: query, 143: report}[kind](octets) if kind in (130, 143) else neighbor(kind, octets)
+    return LISTENERS[kind](octets) if kind in LISTENERS else neighbor(kind, octets)
 
 
 def error6(kind, octets):
@@ -250,6 +255,9 @@ def query(octets):
 
 def report(octets):
     return ["Report", number("nr_mcast_addr_rcrds", octets, 6, 2), field("data", hexadecimal(octets[8:]))]
+
+
+LISTENERS = {130: query, 143: report}
 
 
 # ---- neighbor discovery (RFC 4861 section 4)
@@ -304,22 +312,27 @@ def router_options(found):
     lines = [number("mtu", found[5], 4, 4) if 5 in found else field("mtu", "none")]
     if 3 not in found:
         return lines + [field("prefix_info", "none")]
-    block = found[3]
-    return lines + ["prefix_info." + line for line in (
-        number("prefix_len", block, 2, 1), field("flags", block[3] & 0xC0),
-        field("valid_lifetime", 1000 * be(block[4:8])), field("preferred_lifetime", 1000 * be(block[8:12])),
-        field("prefix", block[16:32].hex()))]
+    return lines + ["prefix_info." + line for line in prefix(found[3])]
+
+
+def prefix(block):
+    return [number("prefix_len", block, 2, 1), field("flags", block[3] & 0xC0),
+            field("valid_lifetime", 1000 * be(block[4:8])), field("preferred_lifetime", 1000 * be(block[8:12])),
+            field("prefix", block[16:32].hex())]
 
 
 def redirected(found):
     if 4 not in found:
         return [field("redirected_hdr", "none")]
     quote = found[4][8:]
-    payload = quote[40:40 + be(quote[4:6])]
-    return ["redirected_hdr." + line for line in (
-        field("header.src_addr", quote[8:24].hex()), field("header.dst_addr", quote[24:40].hex()),
-        number("header.next_header", quote, 6, 1), number("header.payload_len", quote, 4, 2),
-        number("header.hop_limit", quote, 7, 1), field("data", hexadecimal(payload)))]
+    return ["redirected_hdr." + line for line in packet6(quote[:40 + be(quote[4:6])])]
+
+
+def packet6(octets):
+    """A packet of IPv6 by the header that is kept of it."""
+    return [field("header.src_addr", octets[8:24].hex()), field("header.dst_addr", octets[24:40].hex()),
+            number("header.next_header", octets, 6, 1), number("header.payload_len", octets, 4, 2),
+            number("header.hop_limit", octets, 7, 1), field("data", hexadecimal(octets[40:]))]
 
 
 # ---- DHCP (RFC 2131, RFC 2132)

@@ -1,6 +1,6 @@
 //! Questions and names of DNS.
 
-use super::{check, check_changed, check_line, check_lines, compare_changed, joined};
+use super::{check, check_line, check_lines, joined};
 use crate::testing::holds_of;
 use std::fmt::Write;
 
@@ -30,7 +30,7 @@ fn questions(rt: HostRuntime) {
         ("0361", "refused\n"),
         ("-", "refused\n"),
     ];
-    check_changed(&rt, rt.alloc(), "question", ROWS);
+    check(&rt, rt.alloc(), "question", ROWS);
 }
 
 #[test]
@@ -48,6 +48,11 @@ fn names(rt: HostRuntime) {
         ("name 12 000000000000000000000000c00d", "error steps=1\n"),
         (
             "name 12 000000000000000000000000026100c011c00e",
+            "6100\nend steps=3\n",
+        ),
+        // What is behind the pointers is not looked at.
+        (
+            "name 12 000000000000000000000000026100c011c00e0161c00c",
             "6100\nend steps=3\n",
         ),
         (
@@ -74,16 +79,6 @@ fn names(rt: HostRuntime) {
         ),
     ];
     check_lines(&rt, rt.alloc(), ROWS);
-}
-
-#[test]
-fn names_of_changed_messages(rt: HostRuntime) {
-    const MESSAGE: &str = "000000000000000000000000026100c011c00e0161c00c";
-    const WORDS: &[&str] = &["name 5", "name 12", "name 16"];
-    for words in WORDS {
-        let line = joined(&rt, rt.alloc(), &[words, " ", MESSAGE]);
-        compare_changed(&rt, rt.alloc(), line.as_bytes(), words.len());
-    }
 }
 
 // A response about www.facebook.com.

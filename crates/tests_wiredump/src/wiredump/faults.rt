@@ -1,6 +1,6 @@
 //! Readers and writers that fail.
 
-use super::{joined, print_line, repeated};
+use super::{joined, repeated};
 use crate::testing::{holds_of, same_of};
 use dump_lines::line::show_line;
 use dump_lines::partial_line::{Line, read_line};
@@ -71,15 +71,15 @@ impl Read for Source<'_> {
     }
 }
 
-// What the lines print that end within so many octets, by the plain printer.
+// What the lines print that end within so many octets, each in a run of its own. Other tests have their texts.
 fn listing(rt: &impl Abort, alloc: Global, octets: usize) -> Vec<u8> {
     let mut printed = Vec::new(alloc);
     let mut end = 0usize;
     for line in LINES {
         end = end.wrapping_add(line.len());
         if end <= octets {
-            let line = line.trim_end_matches('\n');
-            print_line(rt, alloc, &mut printed, line.as_bytes());
+            let answer = run(alloc, line.as_bytes(), &mut printed);
+            holds_of(rt, line, answer.is_ok());
         }
     }
     printed

@@ -1,10 +1,10 @@
 //! Lines of every shape, and at the limits of what a line may have.
 
-use super::{append, check_input, check_line, check_run, joined, repeated};
+use super::{append, check_input, check_line, joined, repeated};
 use crate::testing::{holds_of, same_of};
 use dump_lines::words::read_word;
 use std::alloc::Global;
-use std::fmt::{Debug, Write};
+use std::fmt::Write;
 use std::process::Abort;
 
 // Each input prints this; its lines are known, or one of them is not.
@@ -115,22 +115,6 @@ fn lines_that_are_no_text(rt: HostRuntime) {
     }
 }
 
-// An input whose words may be too long prints this; where none is, so says the plain printer, which takes any.
-fn check_length(
-    rt: &impl Abort,
-    alloc: Global,
-    of: &impl Debug,
-    input: &[u8],
-    is_known: bool,
-    want: &[u8],
-) {
-    if is_known {
-        check_input(rt, alloc, of, input, true, want);
-    } else {
-        check_run(rt, alloc, of, input, false, want);
-    }
-}
-
 // A word of so many digits is so many octets, or none, and a line of it prints this.
 fn check_digits(rt: &impl Abort, alloc: Global, digits: usize, length: Option<usize>, want: &str) {
     let word = repeated(rt, alloc, &[("0", digits)]);
@@ -143,7 +127,7 @@ fn check_digits(rt: &impl Abort, alloc: Global, digits: usize, length: Option<us
     same_of(rt, digits, octets_len, length);
     let line = joined(rt, alloc, &["hbh ", word.as_str()]);
     let (input, want) = (line.as_bytes(), want.as_bytes());
-    check_length(rt, alloc, &digits, input, length.is_some(), want);
+    check_input(rt, alloc, &digits, input, length.is_some(), want);
 }
 
 #[test]
@@ -174,7 +158,7 @@ fn check_repeated(
     append(rt, &mut input, "\nhbh 00", 1);
     let want = joined(rt, alloc, &[want, "Pad1\n"]);
     let (input, want) = (input.as_bytes(), want.as_bytes());
-    check_length(rt, alloc, &texts, input, known, want);
+    check_input(rt, alloc, &texts, input, known, want);
 }
 
 #[test]

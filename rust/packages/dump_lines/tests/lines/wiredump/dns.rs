@@ -1,7 +1,7 @@
 // Made from crates/tests_wiredump/src/wiredump/dns.rt by rust/erase.
 //! Questions and names of DNS.
 
-use super::{check, check_changed, check_line, check_lines, compare_changed, joined};
+use super::{check, check_line, check_lines, joined};
 use crate::testing::holds_of;
 use std::fmt::Write;
 
@@ -31,7 +31,7 @@ fn questions() {
         ("0361", "refused\n"),
         ("-", "refused\n"),
     ];
-    check_changed("question", ROWS);
+    check("question", ROWS);
 }
 
 #[test]
@@ -49,6 +49,11 @@ fn names() {
         ("name 12 000000000000000000000000c00d", "error steps=1\n"),
         (
             "name 12 000000000000000000000000026100c011c00e",
+            "6100\nend steps=3\n",
+        ),
+        // What is behind the pointers is not looked at.
+        (
+            "name 12 000000000000000000000000026100c011c00e0161c00c",
             "6100\nend steps=3\n",
         ),
         (
@@ -75,16 +80,6 @@ fn names() {
         ),
     ];
     check_lines(ROWS);
-}
-
-#[test]
-fn names_of_changed_messages() {
-    const MESSAGE: &str = "000000000000000000000000026100c011c00e0161c00c";
-    const WORDS: &[&str] = &["name 5", "name 12", "name 16"];
-    for words in WORDS {
-        let line = joined(&[words, " ", MESSAGE]);
-        compare_changed(line.as_bytes(), words.len());
-    }
 }
 
 // A response about www.facebook.com.

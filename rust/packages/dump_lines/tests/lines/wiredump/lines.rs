@@ -1,12 +1,12 @@
 // Made from crates/tests_wiredump/src/wiredump/lines.rt by rust/erase.
 //! Lines of every shape, and at the limits of what a line may have.
 
-use super::{append, check_input, check_line, check_run, joined, repeated};
+use super::{append, check_input, check_line, joined, repeated};
 use crate::testing::{holds_of, same_of};
 use dump_lines::words::read_word;
 #[allow(unused_imports)]
 use rattle_std::prelude::*;
-use std::fmt::{Debug, Write};
+use std::fmt::Write;
 
 // Each input prints this; its lines are known, or one of them is not.
 fn check_inputs(rows: &[(&str, &str, bool)]) {
@@ -116,15 +116,6 @@ fn lines_that_are_no_text() {
     }
 }
 
-// An input whose words may be too long prints this; where none is, so says the plain printer, which takes any.
-fn check_length(of: &impl Debug, input: &[u8], is_known: bool, want: &[u8]) {
-    if is_known {
-        check_input(of, input, true, want);
-    } else {
-        check_run(of, input, false, want);
-    }
-}
-
 // A word of so many digits is so many octets, or none, and a line of it prints this.
 fn check_digits(digits: usize, length: Option<usize>, want: &str) {
     let word = repeated(&[("0", digits)]);
@@ -137,7 +128,7 @@ fn check_digits(digits: usize, length: Option<usize>, want: &str) {
     same_of(digits, octets_len, length);
     let line = joined(&["hbh ", word.as_str()]);
     let (input, want) = (line.as_bytes(), want.as_bytes());
-    check_length(&digits, input, length.is_some(), want);
+    check_input(&digits, input, length.is_some(), want);
 }
 
 #[test]
@@ -162,7 +153,7 @@ fn check_repeated(texts: &[(&str, usize)], known: bool, want: &str) {
     append(&mut input, "\nhbh 00", 1);
     let want = joined(&[want, "Pad1\n"]);
     let (input, want) = (input.as_bytes(), want.as_bytes());
-    check_length(&texts, input, known, want);
+    check_input(&texts, input, known, want);
 }
 
 #[test]
