@@ -3,8 +3,8 @@ import re
 
 import dns
 from frames import ICMP6, Datagram, Refused
-from messages import (ERRORS4, ERRORS6, HEADERS6, LISTENERS, dhcp, echo, hop_by_hop, icmp4, icmp6, igmp, need,  # noqa
-                      neighbor_options, number, packet6, prefix, unknown)
+from messages import (ERRORS4, ERRORS6, HEADERS6, LISTENERS, dhcp, hop_by_hop, icmp4, icmp6, igmp, neighbor_options,
+                      number, packet6, prefix, unknown)
 from text import be, dotted, field, hexadecimal
 
 # A word of more octets makes a bad line.
@@ -59,8 +59,8 @@ def refuse(is_so):
 
 
 def error4(kind, message):
-    """A quote holds its own total length, and eight octets behind its header (RFC 792). Version and length of the header
-    are not looked at."""
+    """A quote holds its own total length, and eight octets behind its header (RFC 792). Its version is not looked at,
+    and the length of its header may be too short for one."""
     quote = message[8:]
     refuse(kind not in (3, 11) or len(quote) < 20)
     header_len, total_len = quote[0] % 16 * 4, be(quote[2:4])
@@ -73,7 +73,7 @@ def error4(kind, message):
 
 
 def error6(kind, message):
-    """A quote holds a header, whose version and length are not looked at (RFC 4443 section 3)."""
+    """A quote holds a header (RFC 4443 section 3), whose version and length are not looked at."""
     refuse(len(message) < 48 or kind == 2 and message[1])
     lines = [ERRORS6[kind], number("mtu", message, 4, 4) if kind == 2 else number("reason", message, 1, 1)]
     return lines + ([number("pointer", message, 4, 4)] if kind == 4 else []) + packet6(message[8:])
@@ -111,8 +111,8 @@ def question(packet):
 
 
 def name(message, at):
-    """The labels of a name, and how many of them and of pointers were passed. A pointer leads to what precedes the place
-    that the last one led to, and the first one anywhere."""
+    """The labels of a name, and how many of them and of pointers were passed. A pointer leads to what precedes the
+    place that the last one led to, and the first one anywhere."""
     lines, steps, end, below, ending = [], 0, len(message), len(message), "error"
     try:
         while ending == "error":

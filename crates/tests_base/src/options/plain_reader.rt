@@ -9,7 +9,7 @@ use opt_wire::ipv6hbh;
 use opt_wire::ipv6hbh::Header;
 use opt_wire::ipv6option::{Ipv6Option, Ipv6OptionsIterator, Repr};
 use std::process::Abort;
-use wirebase::{Error, IPV6_HBH_MAX_OPTIONS};
+use wirebase::Error;
 
 // The option at the front of the octets, and the octets after it.
 fn first_option(octets: &[u8]) -> Option<(Repr<'_>, &[u8])> {
@@ -79,14 +79,16 @@ pub(crate) fn compare_damaged(rt: &impl Abort, packet: &[u8]) {
     }
 }
 
-// Compares the iterator and the header's reader with the plain reader, and where reasons are told.
+// Compares the iterator with the plain reader, and where reasons are told. What a header keeps `wiredump` prints, which
+// `rust/compare` compares with a plain printer on these octets.
 fn compare(rt: &impl Abort, octets: &[u8]) {
     compare_options(rt, octets);
-    compare_header(rt, octets);
     let option = Repr::refusal(&Ipv6Option::new_unchecked(octets));
     same_of(rt, octets, option.is_none(), first_option(octets).is_some());
-    let header = ipv6hbh::Repr::refusal(&Header::new_unchecked(octets));
-    same_of(rt, octets, header.is_none(), is_header(octets));
+    let header = Header::new_unchecked(octets);
+    let refusal = ipv6hbh::Repr::refusal(&header);
+    let read = ipv6hbh::Repr::parse(&header);
+    same_of(rt, octets, refusal.is_none(), read.is_ok());
 }
 
 fn compare_options(rt: &impl Abort, octets: &[u8]) {
@@ -105,49 +107,10 @@ fn compare_options(rt: &impl Abort, octets: &[u8]) {
     holds_of(rt, octets, options.next().is_none());
 }
 
-fn compare_header(rt: &impl Abort, octets: &[u8]) {
-    let read = ipv6hbh::Repr::parse(&Header::new_unchecked(octets));
-    same_of(rt, octets, read.is_ok(), is_header(octets));
-    if let Ok(header) = read {
-        compare_kept(rt, octets, header.options.as_slice());
-    }
-}
-
-// Whether there are octets, of which as many options as a header keeps, and one more, are whole.
-fn is_header(octets: &[u8]) -> bool {
-    let mut rest = octets;
-    for _ in 0..=IPV6_HBH_MAX_OPTIONS {
-        if rest.is_empty() {
-            break;
-        }
-        let Some((_, after)) = first_option(rest) else {
-            return false;
-        };
-        rest = after;
-    }
-    !octets.is_empty()
-}
-
 // Compares the options that are kept of these octets.
 pub(crate) fn check_kept(rt: &impl Abort, octets: &[u8], options: &[Repr<'_>]) {
     match ipv6hbh::Repr::parse(&Header::new_unchecked(octets)) {
         Ok(header) => same_of(rt, octets, header.options.as_slice(), options),
         Err(_) => holds_of(rt, octets, false),
     }
-}
-
-// Compares the options that a header keeps: all, or as many as it can.
-fn compare_kept(rt: &impl Abort, octets: &[u8], kept: &[Repr<'_>]) {
-    let mut rest = octets;
-    for option in kept {
-        let (answer, after) = first_answer(rest);
-        same_of(rt, octets, Ok(*option), answer);
-        rest = after;
-    }
-    holds_of(rt, octets, kept.len() <= IPV6_HBH_MAX_OPTIONS);
-    holds_of(
-        rt,
-        octets,
-        rest.is_empty() || kept.len() == IPV6_HBH_MAX_OPTIONS,
-    );
 }

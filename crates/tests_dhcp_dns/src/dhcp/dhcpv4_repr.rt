@@ -1,6 +1,5 @@
 ghost use Rattle.std.specs.Prelude.{◌≡◌, [], None, length};
 
-use crate::dhcp::plain_reader::held;
 use crate::testing::{fail, same};
 use arrayvec::ArrayVec;
 use dhcp_wire::dhcpv4::{DhcpOption, MAX_DNS_SERVER_COUNT, MessageType, Packet, Repr};
@@ -60,6 +59,44 @@ fn with_options(
         renew_duration: None,
         rebind_duration: None,
         additional_options,
+    }
+}
+
+// The number that these bytes are, the highest first.
+fn number_in(data: Option<&[u8]>) -> Option<u64> {
+    let mut number = 0;
+    for byte in data? {
+        number = (number << 8) | *byte as u64;
+    }
+    Some(number)
+}
+
+// An address as a number.
+fn number_of(address: Option<Ipv4Address>) -> Option<u64> {
+    number_in(Some(&address?.octets()))
+}
+
+// A time as a number.
+fn seconds_of(seconds: Option<u32>) -> Option<u64> {
+    Some(seconds? as u64)
+}
+
+// What the value holds of the options of this kind: a number, and of a list how many entries it has.
+fn held(read: &Repr<'_>, kind: u8) -> Option<u64> {
+    match kind {
+        1 => number_of(read.subnet_mask),
+        3 => number_of(read.router),
+        6 => Some(read.dns_servers.as_ref()?.len() as u64),
+        50 => number_of(read.requested_ip),
+        51 => seconds_of(read.lease_duration),
+        53 => Some(u8::from(read.message_type) as u64),
+        54 => number_of(read.server_identifier),
+        55 => Some(read.parameter_request_list?.len() as u64),
+        57 => Some(read.max_size? as u64),
+        58 => seconds_of(read.renew_duration),
+        59 => seconds_of(read.rebind_duration),
+        61 => number_in(Some(&read.client_identifier?.0)),
+        _ => None,
     }
 }
 

@@ -66,9 +66,26 @@ fn durations_of_codes(rt: HostRuntime) {
     }
 }
 
-// The time that a code means, by the plain reader.
+// The time that a code means.
 fn time_of(code: u8) -> Duration {
-    Duration::from_millis(100 * damaged::tenths(code) as u64)
+    Duration::from_millis(100 * tenths(code) as u64)
+}
+
+// The tenths of a second of a code: itself below 128, or 1 and its last four bits, times a power of 2 (RFC 3376
+// section 4.1.1).
+fn tenths(code: u8) -> u32 {
+    let mantissa = (16 + code % 16) as u32;
+    match code / 16 {
+        8 => mantissa * 8,
+        9 => mantissa * 16,
+        10 => mantissa * 32,
+        11 => mantissa * 64,
+        12 => mantissa * 128,
+        13 => mantissa * 256,
+        14 => mantissa * 512,
+        15 => mantissa * 1024,
+        _ => code as u32,
+    }
 }
 
 // Ends the test where a query with this code has another time.

@@ -4,10 +4,10 @@
 // compare the crate with it.
 
 use crate::testing::{holds_of, same_of};
+use control_wire::Error;
 use control_wire::ipv6hbh;
 use control_wire::ipv6hbh::Header;
 use control_wire::ipv6option::{Ipv6Option, Ipv6OptionsIterator, Repr};
-use control_wire::{Error, IPV6_HBH_MAX_OPTIONS};
 
 // The option at the front of the octets, and the octets after it.
 fn first_option(octets: &[u8]) -> Option<(Repr<'_>, &[u8])> {
@@ -74,14 +74,16 @@ pub(crate) fn compare_damaged(packet: &[u8]) {
     }
 }
 
-// Compares the iterator and the header's reader with the plain reader, and where reasons are told.
+// Compares the iterator with the plain reader, and where reasons are told. What a header keeps `wiredump` prints, which
+// `rust/compare` compares with a plain printer on these octets.
 fn compare(octets: &[u8]) {
     compare_options(octets);
-    compare_header(octets);
     let option = Repr::refusal(&Ipv6Option::new_unchecked(octets));
     same_of(octets, option.is_none(), first_option(octets).is_some());
-    let header = ipv6hbh::Repr::refusal(&Header::new_unchecked(octets));
-    same_of(octets, header.is_none(), is_header(octets));
+    let header = Header::new_unchecked(octets);
+    let refusal = ipv6hbh::Repr::refusal(&header);
+    let read = ipv6hbh::Repr::parse(&header);
+    same_of(octets, refusal.is_none(), read.is_ok());
 }
 
 fn compare_options(octets: &[u8]) {
@@ -100,48 +102,10 @@ fn compare_options(octets: &[u8]) {
     holds_of(octets, options.next().is_none());
 }
 
-fn compare_header(octets: &[u8]) {
-    let read = ipv6hbh::Repr::parse(&Header::new_unchecked(octets));
-    same_of(octets, read.is_ok(), is_header(octets));
-    if let Ok(header) = read {
-        compare_kept(octets, header.options.as_slice());
-    }
-}
-
-// Whether there are octets, of which as many options as a header keeps, and one more, are whole.
-fn is_header(octets: &[u8]) -> bool {
-    let mut rest = octets;
-    for _ in 0..=IPV6_HBH_MAX_OPTIONS {
-        if rest.is_empty() {
-            break;
-        }
-        let Some((_, after)) = first_option(rest) else {
-            return false;
-        };
-        rest = after;
-    }
-    !octets.is_empty()
-}
-
 // Compares the options that are kept of these octets.
 pub(crate) fn check_kept(octets: &[u8], options: &[Repr<'_>]) {
     match ipv6hbh::Repr::parse(&Header::new_unchecked(octets)) {
         Ok(header) => same_of(octets, header.options.as_slice(), options),
         Err(_) => holds_of(octets, false),
     }
-}
-
-// Compares the options that a header keeps: all, or as many as it can.
-fn compare_kept(octets: &[u8], kept: &[Repr<'_>]) {
-    let mut rest = octets;
-    for option in kept {
-        let (answer, after) = first_answer(rest);
-        same_of(octets, Ok(*option), answer);
-        rest = after;
-    }
-    holds_of(octets, kept.len() <= IPV6_HBH_MAX_OPTIONS);
-    holds_of(
-        octets,
-        rest.is_empty() || kept.len() == IPV6_HBH_MAX_OPTIONS,
-    );
 }
