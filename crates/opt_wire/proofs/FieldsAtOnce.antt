@@ -1,10 +1,8 @@
 -- Fields that are written in one call have the bytes of these fields, one after another.
-use Rattle.std.proofs.Common.{◌≡◌, ℕ, zero, suc, ◌+◌, List, [], ◌∷◌, ◌++◌, length, drop, refl, sym, ap, ◌∙◌, arith}
-use Rattle.std.proofs.Common.{slice_index}
-use Rattle.std.proofs.lemmas.List.{drop_more, drop_all}
+use Rattle.opt_wire.proofs.Words.{[], ◌++◌, ◌+◌, ◌∙◌, ◌∷◌, ◌≡◌, List, Puts, Sheet, Writer, ℕ, ap, arith, be16, be32}
+use Rattle.opt_wire.proofs.Words.{be8, drop, drop_all, drop_more, fields, length, put, put-append, put-fields, put_all}
+use Rattle.opt_wire.proofs.Words.{refl, sheet, slice_index, suc, sym, zero}
 use Rattle.std.specs.Int.{w16, w32, to_be_bytes}
-use Rattle.wirebase.specs.ByteWriter.{Sheet, Writer, sheet, put, put_all, Puts, be8, be16, be32, fields}
-use Rattle.wirebase.proofs.Chains.{put-append, put-fields}
 
 -- ---- a number after other bytes
 

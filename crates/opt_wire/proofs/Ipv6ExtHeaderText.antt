@@ -1,10 +1,6 @@
 -- The text of an extension header, and the options that it carries.
-use Rattle.std.proofs.Common.{◌≡◌, ℕ, ◌+◌, ◌-◌, ◌*◌, ◌≤◌, List, length, refl, sym, ◌∙◌, arith}
-use Rattle.std.proofs.lemmas.List.{take_all}
-use Rattle.wirebase.specs.Bytes.{part, over, byte_of, bytes_of}
-use Rattle.wirebase.specs.ByteWriter.{be8, fields}
-use Rattle.wirebase.specs.Ip.{protocol_of}
-use Rattle.wirebase.proofs.Pieces.{over-exact}
+use Rattle.opt_wire.proofs.Words.{◌*◌, ◌+◌, ◌-◌, ◌∙◌, ◌≡◌, ◌≤◌, List, ℕ, arith, be8, byte_of, bytes_of, fields, length}
+use Rattle.opt_wire.proofs.Words.{over, over-exact, part, protocol_of, refl, sym, take_all}
 use Rattle.opt_wire.specs.Ipv6Hbh as hop_by_hop
 use Rattle.opt_wire.specs.Ipv6ExtHeader.{next_header_field, length_field, payload_field, IsWhole, HeaderValue, text}
 use Rattle.opt_wire.specs.Ipv6ExtHeader.{Emits, CarriesOptions}

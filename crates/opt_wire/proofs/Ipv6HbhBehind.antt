@@ -1,12 +1,11 @@
 -- Options one by one, and the header that they are read as.
-use Rattle.std.proofs.Common.{◌≡◌, ◌≢◌, ℕ, suc, ◌+◌, ◌≤◌, List, [], ◌∷◌, ◌++◌, length, drop, take, Ok, refl, sym, ap}
-use Rattle.std.proofs.Common.{subst, ◌∙◌, arith, add-one, length-append}
-use Rattle.std.proofs.lemmas.List.{append-nil, append_assoc, length-map, map-append, take_at}
-use Rattle.opt_wire.specs.Ipv6Option.{OptionValue, text_len, BeginsWith}
-use Rattle.opt_wire.specs.Ipv6OptionAnswers.{Answer, Tile}
+use Rattle.opt_wire.proofs.Words.{[], ◌++◌, ◌+◌, ◌∙◌, ◌∷◌, ◌≡◌, ◌≢◌, ◌≤◌, Answer, List, Ok, OptionValue, Tile, ℕ}
+use Rattle.opt_wire.proofs.Words.{add-one, ap, append-nil, append_assoc, arith, drop, length, length-append, length-map}
+use Rattle.opt_wire.proofs.Words.{map-append, none, refl, subst, suc, sym, take, take_at}
+use Rattle.opt_wire.specs.Ipv6Option.{text_len, BeginsWith}
 use Rattle.opt_wire.specs.Ipv6OptionModel.{answers_of}
 use Rattle.opt_wire.specs.Ipv6OptionRefusal as option
-use Rattle.opt_wire.specs.Ipv6HbhRefusal.{IsRead, AreBehind, none, one_more}
+use Rattle.opt_wire.specs.Ipv6HbhRefusal.{IsRead, AreBehind, one_more}
 use Rattle.opt_wire.proofs.Ipv6OptionTiles.{rest_after, tile_of, answers_of-nothing, answers_of-begins}
 use Rattle.opt_wire.proofs.Ipv6OptionTiles.{answers_of-broken}
 use Rattle.opt_wire.proofs.Ipv6HbhGrammar.{all, header-end, header-refused}

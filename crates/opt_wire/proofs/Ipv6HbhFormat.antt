@@ -1,17 +1,11 @@
 -- The format of hop-by-hop headers: what was read is canonical, and it is its own normal form.
-use Rattle.std.proofs.Common.{◌≡◌, ◌≢◌, ℕ, zero, suc, ◌+◌, ◌≤◌, List, [], ◌∷◌, ◌++◌, length, take, Ok, Err, refl, sym}
-use Rattle.std.proofs.Common.{ap, subst, ◌∙◌, arith, add-one}
+use Rattle.opt_wire.proofs.Words.{[], ◌++◌, ◌+◌, ◌∙◌, ◌∷◌, ◌≡◌, ◌≢◌, ◌≤◌, Answer, Err, IsBytes, IsFormat, List, Ok}
+use Rattle.opt_wire.proofs.Words.{OptionValue, SameText, Tile, ℕ, add-one, ap, arith, be8, breaks, ends, fields}
+use Rattle.opt_wire.proofs.Words.{goes_on, length, length-map, length-take, over, over-exact, pad1, refl}
+use Rattle.opt_wire.proofs.Words.{round_trips, same_text, subst, suc, sym, take, zero}
 use Rattle.std.specs.List.{AllByRecursion}
-use Rattle.std.proofs.lemmas.List.{length-map, length-take}
-use Rattle.wirebase.specs.Bytes.{IsBytes, over}
-use Rattle.wirebase.specs.ByteWriter.{be8, fields}
-use Rattle.wirebase.specs.Format.{SameText}
 use Rattle.wirebase.proofs.ByteParts.{IsBytes-front, IsBytes-rest}
-use Rattle.wirebase.proofs.Format.{IsFormat, round_trips, same_text}
-use Rattle.wirebase.proofs.Pieces.{over-exact}
 use Rattle.opt_wire.specs.Ipv6Option as option
-use Rattle.opt_wire.specs.Ipv6Option.{OptionValue, pad1, pad_n, router_alert, unknown}
-use Rattle.opt_wire.specs.Ipv6OptionAnswers.{Answer, Tile, ends, goes_on, breaks}
 use Rattle.opt_wire.specs.Ipv6Hbh.{text, text_len, HaveData, IsHeader, IsCanonical, norm, format, Emits}
 use Rattle.opt_wire.proofs.Ipv6OptionText.{option_text, norm-canonical}
 use Rattle.opt_wire.proofs.Ipv6OptionFormat.{option-canonical, option-kept}

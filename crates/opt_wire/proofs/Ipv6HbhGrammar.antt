@@ -1,10 +1,7 @@
 -- Hop-by-hop headers against the tiling of their bytes.
-use Rattle.std.proofs.Common.{◌≡◌, ◌≢◌, ℕ, zero, suc, ◌+◌, ◌≤◌, List, [], ◌∷◌, ◌++◌, length, take, map, Ok, Err, refl}
-use Rattle.std.proofs.Common.{sym, ap, ◌∙◌, arith, add-one, length-append}
-use Rattle.std.proofs.lemmas.List.{append_assoc, length-map, map-append, take_all, take_at}
-use Rattle.wirebase.specs.declared.error.Error.{Error}
-use Rattle.opt_wire.specs.Ipv6Option.{OptionValue}
-use Rattle.opt_wire.specs.Ipv6OptionAnswers.{Answer, Tile}
+use Rattle.opt_wire.proofs.Words.{[], ◌++◌, ◌+◌, ◌∙◌, ◌∷◌, ◌≡◌, ◌≢◌, ◌≤◌, Answer, Err, Error, List, Ok, OptionValue}
+use Rattle.opt_wire.proofs.Words.{Tile, ℕ, add-one, ap, append_assoc, arith, length, length-append, length-map, map}
+use Rattle.opt_wire.proofs.Words.{map-append, refl, suc, sym, take, take_all, take_at, zero}
 use Rattle.opt_wire.specs.Ipv6Hbh.{IsHeader}
 use Rattle.opt_wire.proofs.Ipv6OptionTiles.{tile-unique}
 

@@ -1,12 +1,9 @@
 -- The texts of options one after another.
-use Rattle.std.proofs.Common.{◌≡◌, ℕ, ◌+◌, ◌<◌, List, [], ◌∷◌, ◌++◌, length, get_or, take, map, refl, sym, ap}
-use Rattle.std.proofs.Common.{◌∙◌, arith, length-append}
-use Rattle.std.proofs.lemmas.List.{map_more}
-use Rattle.std.proofs.lemmas.List.Sums.{sum_by-cons, sum_by_push}
-use Rattle.wirebase.specs.ByteWriter.{fields}
+use Rattle.opt_wire.proofs.Words.{[], ◌++◌, ◌+◌, ◌<◌, ◌∙◌, ◌∷◌, ◌≡◌, List, OptionValue, ℕ, ap, arith, fields, get_or}
+use Rattle.opt_wire.proofs.Words.{length, length-append, map, map_more, pad1, pad_n, refl, router_alert, sum_by-cons}
+use Rattle.opt_wire.proofs.Words.{sum_by_push, sym, take, unknown}
 use Rattle.opt_wire.specs.declared.ipv6option.Repr.{Repr}
 use Rattle.opt_wire.specs.Ipv6Option as option
-use Rattle.opt_wire.specs.Ipv6Option.{OptionValue, pad1, pad_n, router_alert, unknown}
 use Rattle.opt_wire.specs.Ipv6Hbh.{text, text_len, HaveData, norm}
 use Rattle.opt_wire.proofs.Ipv6OptionText as texts
 

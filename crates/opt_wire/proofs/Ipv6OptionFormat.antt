@@ -1,32 +1,24 @@
 -- The format of options: what was read is canonical, and it is its own normal form.
-use Rattle.std.proofs.Common.{◌≡◌, ℕ, ◌+◌, ◌*◌, ◌≤◌, Bool, true, false, List, [], ◌∷◌, ◌++◌, length, drop, refl}
-use Rattle.std.proofs.Common.{sym, ap, subst, ◌∙◌, arith}
-use Rattle.std.proofs.lemmas.List.{append-nil, take_all}
-use Rattle.wirebase.specs.Bytes.{IsBytes, over}
-use Rattle.wirebase.specs.Format.{SameText}
-use Rattle.wirebase.proofs.Format.{IsFormat, round_trips, same_text}
+use Rattle.opt_wire.proofs.Words.{[], ◌*◌, ◌++◌, ◌+◌, ◌∙◌, ◌∷◌, ◌≡◌, ◌≤◌, Bool, IsBytes, IsFormat, IsOption, List}
+use Rattle.opt_wire.proofs.Words.{OptionValue, RouterAlert, SameText, ℕ, ap, append-nil, arith, case-read, drop, false}
+use Rattle.opt_wire.proofs.Words.{length, over, over-exact, over-fits, pad1, pad_n, refl, round_trips, router_alert}
+use Rattle.opt_wire.proofs.Words.{same_text, subst, sym, take_all, true, unknown}
 use Rattle.wirebase.proofs.ByteParts.{IsBytes-front}
-use Rattle.wirebase.proofs.Numbered.{case-read}
-use Rattle.wirebase.proofs.Pieces.{over-exact, over-fits}
-use Rattle.opt_wire.specs.declared.ipv6option.tables.Type as Kind
-use Rattle.opt_wire.specs.declared.ipv6option.tables.Type.TheVariants as kind
-use Rattle.opt_wire.specs.declared.ipv6option.tables.RouterAlert.{RouterAlert}
-use Rattle.opt_wire.specs.declared.ipv6option.tables.RouterAlert.TheVariants as alert
+use Rattle.opt_wire.specs.declared.ipv6option.tables.Type.{«Type» as Kind}
 use Rattle.opt_wire.specs.Ipv6OptionTables.{type_number, types, alert_number, alerts}
-use Rattle.opt_wire.specs.Ipv6Option.{OptionValue, pad1, pad_n, router_alert, unknown, text, text_len, HasData}
-use Rattle.opt_wire.specs.Ipv6Option.{IsOption, BeginsWith, IsCanonical, norm, format, Emits}
+use Rattle.opt_wire.specs.Ipv6Option.{text, text_len, HasData, BeginsWith, IsCanonical, norm, format, Emits}
 use Rattle.opt_wire.proofs.Ipv6OptionGrammar.{begins_with-unique}
 use Rattle.opt_wire.proofs.Ipv6OptionText.{length-text, option_text, begins_with-text, norm-canonical, norm-norm}
 use Rattle.opt_wire.proofs.Ipv6OptionText.{norm-text}
 
 -- ---- what was read
 
-is_unknown_type : Kind.Type → Bool
-is_unknown_type (kind.Unknown n) = true
+is_unknown_type : Kind → Bool
+is_unknown_type (Kind.Unknown n) = true
 is_unknown_type _ = false
 
 is_unknown_alert : RouterAlert → Bool
-is_unknown_alert (alert.Unknown n) = true
+is_unknown_alert (RouterAlert.Unknown n) = true
 is_unknown_alert _ = false
 
 pub option-canonical : (w : List ℕ) (v : OptionValue) → IsBytes w → IsOption w v → IsCanonical v
@@ -38,14 +30,15 @@ option-canonical w (pad_n n) are h =
 option-canonical w (router_alert a) are h =
     let here : IsBytes (5 ∷ 2 ∷ h.0 ∷ h.1 ∷ []) = subst IsBytes h.2 are in
     let read =
-    case-read alert_number alert.Unknown (λ k. refl) is_unknown_alert (λ k. refl) alerts (256 * h.0 + h.1) refl h.3 in (
+    case-read alert_number RouterAlert.Unknown (λ k. refl) is_unknown_alert (λ k. refl) alerts (256 * h.0 + h.1) refl
+    h.3 in (
       read.0,
       omega (arith, read.1, here 2, here 3),
     )
 option-canonical w (unknown k n d) are h =
     let t = h.0 in
     let here : IsBytes (t ∷ n ∷ d) = subst IsBytes h.1 are in
-    let read = case-read type_number kind.Unknown (λ k. refl) is_unknown_type (λ k. refl) types t refl h.3 in (
+    let read = case-read type_number Kind.Unknown (λ k. refl) is_unknown_type (λ k. refl) types t refl h.3 in (
       read.0,
       λ e. h.4 (sym read.1 ∙ ap type_number e),
       λ e. h.5 (sym read.1 ∙ ap type_number e),

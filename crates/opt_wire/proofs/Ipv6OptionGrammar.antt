@@ -1,23 +1,15 @@
 -- Options against their bytes: the grammar as it is computed, byte by byte.
-use Rattle.std.proofs.Common.{◌≡◌, ◌≢◌, ℕ, ◌+◌, ◌-◌, ◌*◌, ◌≤◌, Bool, true, false, cond, ltb, eqb, List, [], ◌∷◌, ◌++◌}
-use Rattle.std.proofs.Common.{length, take, drop, slice_index, Option, Some, None, refl, sym, ap, subst, ◌∙◌, ◌⊎◌, inl}
-use Rattle.std.proofs.Common.{inr, arith, length-append}
-use Rattle.std.proofs.lemmas.Bool.{ltb-false, le-ltb, eqb-true, eqb-false, ne_eqb}
-use Rattle.std.proofs.lemmas.Bool.Decides.{nat_tests}
+use Rattle.opt_wire.proofs.Words.{[], ◌*◌, ◌++◌, ◌+◌, ◌-◌, ◌∙◌, ◌∷◌, ◌≡◌, ◌≢◌, ◌≤◌, ◌⊎◌, Bool, Err, IfOk, IsErr}
+use Rattle.opt_wire.proofs.Words.{IsOkAnd, IsOption, List, None, Ok, Option, OptionValue, Result, RouterAlert, Some, ℕ}
+use Rattle.opt_wire.proofs.Words.{ap, arith, big_number, byte_of, bytes_of, cond, drop, eqb, eqb-false, eqb-true, false}
+use Rattle.opt_wire.proofs.Words.{inl, inr, le-ltb, length, length-append, length-take-le, ltb, ltb-false, nat_tests}
+use Rattle.opt_wire.proofs.Words.{ne_eqb, pad1, pad_n, part, refl, router_alert, slice_index, subst, sym, take}
+use Rattle.opt_wire.proofs.Words.{take-append-drop, take_at, true, unknown, value_of}
 use Rattle.std.proofs.lemmas.Option.{same_Some}
-use Rattle.std.proofs.lemmas.List.{take-append-drop, take_at, length-take-le}
-use Rattle.std.specs.Prelude.{Result, Ok, Err}
-use Rattle.std.specs.Result.{IfOk, IsOkAnd, IsErr}
-use Rattle.byteorder.specs.Endian.{big_number}
-use Rattle.wirebase.specs.Bytes.{part, byte_of, bytes_of}
-use Rattle.opt_wire.specs.declared.ipv6option.tables.Type as Kind
-use Rattle.opt_wire.specs.declared.ipv6option.tables.Type.TheVariants as kind
-use Rattle.opt_wire.specs.declared.ipv6option.tables.RouterAlert.{RouterAlert}
+use Rattle.opt_wire.specs.declared.ipv6option.tables.Type.{«Type» as Kind}
 use Rattle.opt_wire.specs.declared.ipv6option.Repr.{Repr}
 use Rattle.opt_wire.specs.Ipv6OptionTables.{type_number, type_of, alert_of}
-use Rattle.opt_wire.specs.Ipv6Option.{option_type_field, opt_data_len_field, option_data_field, BeginsWhole}
-use Rattle.opt_wire.specs.Ipv6Option.{OptionValue, pad1, pad_n, router_alert, unknown, value_of, IsOption}
-use Rattle.opt_wire.specs.Ipv6Option.{BeginsWith}
+use Rattle.opt_wire.specs.Ipv6Option.{option_type_field, opt_data_len_field, option_data_field, BeginsWhole, BeginsWith}
 use Rattle.opt_wire.specs.Ipv6OptionRefusal.{IsRead}
 use Rattle.opt_wire.proofs.FieldsAtOnce.{all_bytes}
 use Rattle.opt_wire.specs.Ipv6OptionModel.{front_of, counted_at, known_at, alert_at}
@@ -50,11 +42,11 @@ front_of-whole (t ∷ n ∷ rest) w ne =
 type_number-of : (t : ℕ) → type_number (type_of t) ≡ t
 type_number-of t = grind (arith, nat_tests)
 
-number_from : (t : ℕ) (k : Kind.Type) → type_of t ≡ k → t ≡ type_number k
+number_from : (t : ℕ) (k : Kind) → type_of t ≡ k → t ≡ type_number k
 number_from t k e = sym (type_number-of t) ∙ ap type_number e
 
 pub front_of-pads : (bytes : List ℕ) (n : ℕ) → BeginsWhole bytes
-    → type_of (byte_of option_type_field bytes) ≡ kind.PadN → n ≡ byte_of opt_data_len_field bytes
+    → type_of (byte_of option_type_field bytes) ≡ Kind.PadN → n ≡ byte_of opt_data_len_field bytes
     → front_of bytes ≡ Some (pad_n n)
 front_of-pads bytes n w e same =
     let t : byte_of option_type_field bytes ≡ 1 = number_from _ _ e in
@@ -63,7 +55,7 @@ front_of-pads bytes n w e same =
     ∙ ap (λ (x : ℕ). Some (pad_n x)) (sym same)
 
 pub front_of-alert : (bytes : List ℕ) (a : RouterAlert) → BeginsWhole bytes
-    → type_of (byte_of option_type_field bytes) ≡ kind.RouterAlert → byte_of opt_data_len_field bytes ≡ 2
+    → type_of (byte_of option_type_field bytes) ≡ Kind.RouterAlert → byte_of opt_data_len_field bytes ≡ 2
     → a ≡ alert_of (big_number 2 (bytes_of (option_data_field bytes) bytes)) → front_of bytes ≡ Some (router_alert a)
 front_of-alert bytes a w e two same =
     let t : byte_of option_type_field bytes ≡ 5 = number_from _ _ e in
@@ -78,8 +70,8 @@ known_at-other t n d p q =
     let f : eqb t 5 ≡ false = ne_eqb t 5 q in
     rw (e, f) refl
 
-pub front_of-other : (bytes : List ℕ) (k : Kind.Type) (n : ℕ) (d : List ℕ) → BeginsWhole bytes
-    → k ≡ type_of (byte_of option_type_field bytes) → k ≢ kind.Pad1 → k ≢ kind.PadN → k ≢ kind.RouterAlert
+pub front_of-other : (bytes : List ℕ) (k : Kind) (n : ℕ) (d : List ℕ) → BeginsWhole bytes
+    → k ≡ type_of (byte_of option_type_field bytes) → k ≢ Kind.Pad1 → k ≢ Kind.PadN → k ≢ Kind.RouterAlert
     → n ≡ byte_of opt_data_len_field bytes → d ≡ bytes_of (option_data_field bytes) bytes
     → front_of bytes ≡ Some (unknown k n d)
 front_of-other bytes k n d w e p q r same same_data =
@@ -166,7 +158,7 @@ option_front front rest (unknown k n d) h =
     ap (λ (l : List ℕ). front_of (l ++ rest)) h.1
     ∙ front_of-counted h.0 n (d ++ rest) h.4 (omega (arith, h.2, length-append d rest))
     ∙ ap (λ (l : List ℕ). known_at h.0 n l) (take_at d rest n h.2) ∙ known_at-other h.0 n d h.5 h.6
-    ∙ ap (λ (x : Kind.Type). Some (unknown x n d)) (sym h.3)
+    ∙ ap (λ (x : Kind). Some (unknown x n d)) (sym h.3)
 
 pub front_of-begins : (bytes : List ℕ) (v : OptionValue) → BeginsWith bytes v → front_of bytes ≡ Some v
 front_of-begins bytes v h = ap front_of h.whole ∙ option_front h.front h.rest v h.option

@@ -1,18 +1,11 @@
 -- The text of an option: as it is read back, and what an emitter leaves.
-use Rattle.std.proofs.Common.{◌≡◌, ℕ, ◌+◌, ◌*◌, ◌/◌, ◌%◌, List, [], ◌∷◌, ◌++◌, length, take, replicate, refl, sym, ap}
-use Rattle.std.proofs.Common.{subst, ◌∙◌, arith}
-use Rattle.std.proofs.lemmas.List.{append-nil, length-replicate, length-take-le, take-take}
-use Rattle.byteorder.specs.Endian.{big_bytes}
-use Rattle.wirebase.specs.ByteWriter.{be8, be16, fields}
-use Rattle.wirebase.specs.Numbered.{IsProper}
-use Rattle.wirebase.proofs.Numbered.{case_in-unnamed}
-use Rattle.opt_wire.specs.declared.ipv6option.tables.Type as Kind
-use Rattle.opt_wire.specs.declared.ipv6option.tables.Type.TheVariants as kind
-use Rattle.opt_wire.specs.declared.ipv6option.tables.RouterAlert.{RouterAlert}
-use Rattle.opt_wire.specs.declared.ipv6option.tables.RouterAlert.TheVariants as alert
+use Rattle.opt_wire.proofs.Words.{[], ◌%◌, ◌*◌, ◌++◌, ◌+◌, ◌/◌, ◌∙◌, ◌∷◌, ◌≡◌, IsOption, IsProper, List, OptionValue}
+use Rattle.opt_wire.proofs.Words.{RouterAlert, ℕ, ap, append-nil, arith, be16, be8, big_bytes, case_in-unnamed, fields}
+use Rattle.opt_wire.proofs.Words.{length, length-replicate, length-take-le, pad1, pad_n, refl, replicate, router_alert}
+use Rattle.opt_wire.proofs.Words.{subst, sym, take, take-take, unknown}
+use Rattle.opt_wire.specs.declared.ipv6option.tables.Type.{«Type» as Kind}
 use Rattle.opt_wire.specs.Ipv6OptionTables.{type_number, type_rows, type_of, alert_number, alert_rows, alert_of}
-use Rattle.opt_wire.specs.Ipv6Option.{OptionValue, pad1, pad_n, router_alert, unknown, text, text_len, HasData}
-use Rattle.opt_wire.specs.Ipv6Option.{IsOption, BeginsWith, IsCanonical, norm}
+use Rattle.opt_wire.specs.Ipv6Option.{text, text_len, HasData, BeginsWith, IsCanonical, norm}
 
 -- ---- byte by byte
 
@@ -42,18 +35,18 @@ length-text v h = ap length (text-bytes v) ∙ length-bytes v h
 
 -- ---- as it is read back
 
-alert_of-number : (a : RouterAlert) → IsProper alert.Unknown alert_rows a → alert_of (alert_number a) ≡ a
-alert_of-number alert.MulticastListenerDiscovery p = refl
-alert_of-number alert.Rsvp p = refl
-alert_of-number alert.ActiveNetworks p = refl
-alert_of-number (alert.Unknown n) p = case_in-unnamed alert.Unknown alert_rows n (p n refl)
+alert_of-number : (a : RouterAlert) → IsProper RouterAlert.Unknown alert_rows a → alert_of (alert_number a) ≡ a
+alert_of-number RouterAlert.MulticastListenerDiscovery p = refl
+alert_of-number RouterAlert.Rsvp p = refl
+alert_of-number RouterAlert.ActiveNetworks p = refl
+alert_of-number (RouterAlert.Unknown n) p = case_in-unnamed RouterAlert.Unknown alert_rows n (p n refl)
 
-type_of-number : (k : Kind.Type) → IsProper kind.Unknown type_rows k → type_of (type_number k) ≡ k
-type_of-number kind.Pad1 p = refl
-type_of-number kind.PadN p = refl
-type_of-number kind.RouterAlert p = refl
-type_of-number kind.Rpl p = refl
-type_of-number (kind.Unknown n) p = case_in-unnamed kind.Unknown type_rows n (p n refl)
+type_of-number : (k : Kind) → IsProper Kind.Unknown type_rows k → type_of (type_number k) ≡ k
+type_of-number Kind.Pad1 p = refl
+type_of-number Kind.PadN p = refl
+type_of-number Kind.RouterAlert p = refl
+type_of-number Kind.Rpl p = refl
+type_of-number (Kind.Unknown n) p = case_in-unnamed Kind.Unknown type_rows n (p n refl)
 
 -- its own text is an option of the normal form
 option_bytes : (v : OptionValue) → IsCanonical v → IsOption (bytes_in v) (norm v)

@@ -1,13 +1,10 @@
 -- The tiling of bytes by options: it exists, it is one, and its options take up all the bytes.
-use Rattle.std.proofs.Common.{◌≡◌, ◌⊎◌, inl, inr, Bool, true, false, ℕ, zero, suc, ◌<◌, ◌≤◌, List, [], ◌∷◌, ◌++◌}
-use Rattle.std.proofs.Common.{length, drop, map, sum_by, Option, Some, None, Ok, Err, refl, sym, ap, subst, ◌∙◌, arith}
-use Rattle.std.proofs.Common.{length-append}
-use Rattle.std.proofs.lemmas.List.{drop_at}
-use Rattle.std.proofs.lemmas.List.Sums.{sum_by-cons}
-use Rattle.wirebase.specs.declared.error.Error.{Error}
-use Rattle.opt_wire.specs.Ipv6Option.{OptionValue, pad1, pad_n, router_alert, unknown, text_len, IsOption, BeginsWith}
+use Rattle.opt_wire.proofs.Words.{[], ◌++◌, ◌<◌, ◌∙◌, ◌∷◌, ◌≡◌, ◌≤◌, ◌⊎◌, Answer, Bool, Err, Error, IsOption, List}
+use Rattle.opt_wire.proofs.Words.{None, Ok, Option, OptionValue, Some, Tile, ℕ, ap, arith, breaks, drop, drop_at, ends}
+use Rattle.opt_wire.proofs.Words.{false, goes_on, inl, inr, length, length-append, map, pad1, pad_n, refl, router_alert}
+use Rattle.opt_wire.proofs.Words.{subst, suc, sum_by, sum_by-cons, sym, true, unknown, zero}
+use Rattle.opt_wire.specs.Ipv6Option.{text_len, BeginsWith}
 use Rattle.opt_wire.specs.Ipv6OptionRefusal.{IsBehind}
-use Rattle.opt_wire.specs.Ipv6OptionAnswers.{Answer, Tile, ends, goes_on, breaks}
 use Rattle.opt_wire.specs.Ipv6OptionModel.{front_of, after_front, answers_within, answers_of, answers_to_come}
 use Rattle.opt_wire.proofs.Ipv6OptionGrammar.{begins_with, front_of-begins, begins_with-unique}
 

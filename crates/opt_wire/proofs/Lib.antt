@@ -14,3 +14,4 @@ pub mod NdiscOptionReading
 pub mod NdiscOptionRefusals
 pub mod NdiscOptionTexts
 pub mod NdiscOptionTiles
+pub mod Words

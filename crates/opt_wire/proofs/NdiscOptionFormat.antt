@@ -1,33 +1,20 @@
 -- The format of options: what was read is canonical and its own normal form, and a normal form has the text of its
 -- value.
-use Rattle.std.proofs.Common.{◌≡◌, ℕ, ◌+◌, ◌-◌, ◌*◌, ◌<◌, ◌≤◌, ◌^◌, ◌⊎◌, inl, inr, min, List, []}
-use Rattle.std.proofs.Common.{length, take, drop, refl, sym, ap, subst, ◌∙◌, arith, length-append}
-use Rattle.std.proofs.Common.{◌∷◌}
-use Rattle.std.proofs.lemmas.Bool.{cases_lt}
-use Rattle.std.proofs.lemmas.List.{append-nil, length-take, length-replicate, get_or-take, get_or_past}
-use Rattle.std.proofs.lemmas.Bool.Decides.{nat_tests}
+use Rattle.opt_wire.proofs.Words.{[], ◌*◌, ◌+◌, ◌-◌, ◌<◌, ◌^◌, ◌∙◌, ◌∷◌, ◌≡◌, ◌≤◌, ◌⊎◌, BeginsWithBlock, Duration}
+use Rattle.opt_wire.proofs.Words.{Ipv6Repr, IsBytes, IsFormat, List, PrefixInformation, SameText, ℕ, ap, append-nil}
+use Rattle.opt_wire.proofs.Words.{arith, be32, be8, big_number, byte_of, bytes_of, cases_lt, drop, fields, flag_bits}
+use Rattle.opt_wire.proofs.Words.{get_or-take, get_or_past, inl, inr, known, known_bits, length, length-append}
+use Rattle.opt_wire.proofs.Words.{length-part, length-replicate, length-take, micros_of, min, nat_tests, octets_of}
+use Rattle.opt_wire.proofs.Words.{over, over-exact, part, prefix_flags_field, protocol-read, redirected_field, refl}
+use Rattle.opt_wire.proofs.Words.{round_trips, same_text, seconds_of, subst, sym, take, units_in, whole_seconds}
 use Rattle.std.proofs.lemmas.Nat.{and_assoc}
-use Rattle.byteorder.specs.Endian.{big_number}
-use Rattle.wirebase.specs.Bytes.{IsBytes, part, over, byte_of, bytes_of}
-use Rattle.wirebase.specs.ByteWriter.{be8, be32, fields}
-use Rattle.wirebase.specs.Duration.{micros_of, seconds_of, whole_seconds}
-use Rattle.wirebase.specs.Format.{SameText}
 use Rattle.wirebase.specs.Ipv6.{next_header_field, payload_len_in}
-use Rattle.wirebase.specs.Ipv6Address.{octets_of}
-use Rattle.wirebase.specs.declared.duration.Duration.{Duration}
-use Rattle.wirebase.specs.declared.ipv6.Ipv6Repr.{Ipv6Repr}
 use Rattle.wirebase.proofs.ByteParts.{IsBytes-drop}
 use Rattle.wirebase.proofs.Durations.{seconds-times, whole_seconds-read}
-use Rattle.wirebase.proofs.Format.{IsFormat, round_trips, same_text}
-use Rattle.wirebase.proofs.IpProtocols.{protocol-read}
-use Rattle.wirebase.proofs.Pieces.{length-part, over-exact}
-use Rattle.opt_wire.specs.NdiscOption.{prefix_flags_field, units_in, redirected_field, BeginsWithBlock}
-use Rattle.opt_wire.specs.NdiscOptionTables.{flag_bits, known, known_bits}
 use Rattle.opt_wire.specs.NdiscOptionRepr.{OptionValue, source, target, prefix_information, redirected, mtu, unknown}
 use Rattle.opt_wire.specs.NdiscOptionRepr.{filled, HasSeconds, IsLinkAddr, IsRedirected, IsReading, BeginsWith}
 use Rattle.opt_wire.specs.NdiscOptionRepr.{IsCanonicalRedirected, IsCanonical, text, text_len, CanEmit, norm, format}
 use Rattle.opt_wire.specs.NdiscOptionRepr.{Emits}
-use Rattle.opt_wire.specs.declared.ndiscoption.repr.PrefixInformation.{PrefixInformation}
 use Rattle.opt_wire.proofs.NdiscOptionGrammar.{one_option}
 use Rattle.opt_wire.proofs.NdiscOptionReading.{link_same, option_read, option_over}
 use Rattle.opt_wire.proofs.NdiscOptionTexts.{link_text, length-text}

@@ -1,24 +1,15 @@
 -- Blocks of neighbor discovery options against what is read in them: bytes begin with one option at most.
-use Rattle.std.proofs.Common.{◌≡◌, ℕ, List, refl, sym, ap, ◌∙◌, arith}
-use Rattle.std.specs.Prelude.{Result, Ok, Err}
-use Rattle.std.specs.Result.{IfOk, IsOkAnd, IsErr}
-use Rattle.wirebase.specs.Bytes.{byte_of, bytes_of}
+use Rattle.opt_wire.proofs.Words.{◌∙◌, ◌≡◌, Duration, Err, IfOk, Ipv6Address, Ipv6Repr, IsErr, IsOkAnd, List, Ok}
+use Rattle.opt_wire.proofs.Words.{PrefixInformation, Result, ℕ, ap, arith, byte_of, bytes_of, number-case_in}
+use Rattle.opt_wire.proofs.Words.{one_header, redirected_field, refl, same_address, sym, type_field, type_of}
 use Rattle.wirebase.specs.Ipv6.{IsPacket}
-use Rattle.wirebase.specs.declared.duration.Duration.{Duration}
-use Rattle.wirebase.specs.declared.ipv6.address.Ipv6Address.{Ipv6Address}
-use Rattle.wirebase.specs.declared.ipv6.Ipv6Repr.{Ipv6Repr}
 use Rattle.wirebase.proofs.Durations.{same_duration}
-use Rattle.wirebase.proofs.Numbered.{number-case_in}
-use Rattle.wirebase.proofs.Ipv6Header.{same_address, one_header}
-use Rattle.opt_wire.specs.NdiscOption.{type_field, redirected_field}
-use Rattle.opt_wire.specs.NdiscOptionTables.{type_number, types, type_of}
+use Rattle.opt_wire.specs.NdiscOptionTables.{type_number, types}
 use Rattle.opt_wire.specs.NdiscOptionRepr.{OptionValue, source, target, prefix_information, redirected, mtu, unknown}
-use Rattle.opt_wire.specs.NdiscOptionRepr.{IsPrefix}
-use Rattle.opt_wire.specs.NdiscOptionRepr.{IsRedirected, IsReading, BeginsWith, value_of}
-use Rattle.opt_wire.specs.declared.ndiscoption.repr.PrefixInformation.{PrefixInformation}
+use Rattle.opt_wire.specs.NdiscOptionRepr.{IsPrefix, IsRedirected, IsReading, BeginsWith, value_of}
 use Rattle.opt_wire.specs.declared.ndiscoption.repr.Repr.{Repr}
 use Rattle.opt_wire.specs.declared.ndiscoption.tables.PrefixInfoFlags.{PrefixInfoFlags}
-use Rattle.opt_wire.specs.declared.ndiscoption.tables.Type.TheVariants as kind
+use Rattle.opt_wire.specs.declared.ndiscoption.tables.Type.{«Type» as Kind}
 
 -- ---- one prefix, and one redirected packet
 
@@ -103,12 +94,12 @@ one_option bytes v w a b =
     same_reading bytes v w a.reading b.reading (sym (type-reading bytes v a.reading) ∙ type-reading bytes w b.reading)
 
 -- a block of type 4 without a packet is read as nothing
-pub redirected-packet : (bytes : List ℕ) → type_of (byte_of type_field bytes) ≡ kind.RedirectedHeader
+pub redirected-packet : (bytes : List ℕ) → type_of (byte_of type_field bytes) ≡ Kind.RedirectedHeader
     → ((h : Ipv6Repr) → IsPacket (bytes_of (redirected_field bytes) bytes) h → ⊥) → (v : OptionValue)
     → BeginsWith bytes v → ⊥
 unfolding number_of_type
 redirected-packet bytes is none v b =
-    let number = number-case_in type_number kind.Unknown (λ k. refl) types (byte_of type_field bytes) in
+    let number = number-case_in type_number Kind.Unknown (λ k. refl) types (byte_of type_field bytes) in
     packet-reading bytes (sym number ∙ ap type_number is) none v b.reading
 
 -- what answers soundly, and refuses only what is nothing, is complete

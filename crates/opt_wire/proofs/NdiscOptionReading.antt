@@ -1,27 +1,16 @@
 -- Texts of options are read back as their normal forms, whatever follows them.
-use Rattle.std.proofs.Common.{◌≡◌, ◌≢◌, ℕ, ◌+◌, ◌-◌, ◌*◌, ◌<◌, ◌≤◌, ◌^◌, List, [], ◌∷◌, ◌++◌, length, take, drop, refl}
-use Rattle.std.proofs.Common.{sym, ap, subst, ◌∙◌, arith, length-append}
-use Rattle.std.proofs.lemmas.List.{append-nil, append_assoc, length-replicate, take_at, drop_at}
-use Rattle.byteorder.specs.Endian.{big_bytes}
+use Rattle.opt_wire.proofs.Words.{[], ◌*◌, ◌++◌, ◌+◌, ◌-◌, ◌<◌, ◌^◌, ◌∙◌, ◌∷◌, ◌≡◌, ◌≢◌, ◌≤◌, BeginsWithBlock, Ipv6Repr}
+use Rattle.opt_wire.proofs.Words.{IsProper, List, PrefixInformation, ℕ, ap, append-nil, append_assoc, arith, be16, be32}
+use Rattle.opt_wire.proofs.Words.{be8, big_bytes, bytes_of, drop, drop_at, fields, flag_bits, length, length-append}
+use Rattle.opt_wire.proofs.Words.{length-header_text, length-replicate, octets_of, over, over-fits, part}
+use Rattle.opt_wire.proofs.Words.{protocol_number, protocol_of-number, protocol_rows, redirected_field, refl}
+use Rattle.opt_wire.proofs.Words.{seconds_of, subst, sym, take, take_at, whole_seconds}
 use Rattle.byteorder.specs.Numbers.{big_number-reads_back}
-use Rattle.wirebase.specs.Bytes.{part, over, bytes_of}
-use Rattle.wirebase.specs.ByteWriter.{be8, be16, be32, fields}
-use Rattle.wirebase.specs.Duration.{seconds_of, whole_seconds}
-use Rattle.wirebase.specs.Ip.{protocol_number, protocol_rows}
 use Rattle.wirebase.specs.Ipv6.{IsPacket, payload_field, payload_len_in, header_fields, header_text}
-use Rattle.wirebase.specs.Ipv6Address.{octets_of}
-use Rattle.wirebase.specs.Numbered.{IsProper}
-use Rattle.wirebase.specs.declared.ip.IpProtocol.TheVariants as protocol
-use Rattle.wirebase.specs.declared.ipv6.Ipv6Repr.{Ipv6Repr}
-use Rattle.wirebase.proofs.IpProtocols.{protocol_of-number}
-use Rattle.wirebase.proofs.Ipv6Header.{length-header_text}
-use Rattle.wirebase.proofs.Pieces.{over-fits}
-use Rattle.opt_wire.specs.NdiscOption.{redirected_field, BeginsWithBlock}
-use Rattle.opt_wire.specs.NdiscOptionTables.{flag_bits}
+use Rattle.wirebase.specs.declared.ip.IpProtocol.{IpProtocol}
 use Rattle.opt_wire.specs.NdiscOptionRepr.{OptionValue, source, target, prefix_information, redirected, mtu, unknown}
 use Rattle.opt_wire.specs.NdiscOptionRepr.{units, padding, filled, IsLinkAddr, BeginsWith, IsCanonicalPrefix}
 use Rattle.opt_wire.specs.NdiscOptionRepr.{IsCanonicalRedirected, IsCanonical, IsUnnamed, text, norm}
-use Rattle.opt_wire.specs.declared.ndiscoption.repr.PrefixInformation.{PrefixInformation}
 use Rattle.opt_wire.proofs.NdiscOptionTexts.{link_text, prefix_text, redirected_text, mtu_text, unknown_text}
 
 -- ---- blocks of no fixed length
@@ -146,7 +135,7 @@ unfolding header_text header_fields fields be8 be16 be32
 packet_text h behind = simp (append-nil, append_assoc)
 
 -- a header and its payload are a packet
-packet_at : (h : Ipv6Repr) (behind : List ℕ) → IsProper protocol.Unknown protocol_rows h.next_header
+packet_at : (h : Ipv6Repr) (behind : List ℕ) → IsProper IpProtocol.Unknown protocol_rows h.next_header
     → h.payload_len < 2 ^ 16 → h.payload_len ≤ length behind
     → IsPacket (0x60 ∷ 0 ∷ 0 ∷ 0
     ∷ (big_bytes 2 h.payload_len
@@ -176,7 +165,7 @@ packet_at h behind proper fits there =
       };
     }
 
-pub packet_read : (h : Ipv6Repr) (behind : List ℕ) → IsProper protocol.Unknown protocol_rows h.next_header
+pub packet_read : (h : Ipv6Repr) (behind : List ℕ) → IsProper IpProtocol.Unknown protocol_rows h.next_header
     → h.payload_len < 2 ^ 16 → h.payload_len ≤ length behind → IsPacket (header_text h ++ behind) h
 packet_read h behind proper fits there =
     subst (λ (l : List ℕ). IsPacket l h) (sym (packet_text h behind)) (packet_at h behind proper fits there)

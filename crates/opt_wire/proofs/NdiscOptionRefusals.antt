@@ -1,35 +1,25 @@
 -- Bytes that begin with enough units: what is read in them, and what is no option.
-use Rattle.std.proofs.Common.{◌≡◌, ◌≢◌, ℕ, ◌+◌, ◌*◌, ◌<◌, ◌≤◌, Bool, true, false, eqb, List, length, ◌⊎◌, inl, inr}
-use Rattle.std.proofs.Common.{refl, sym, ap, subst, ◌∙◌, arith}
-use Rattle.std.proofs.lemmas.Bool.{eqb-true, eqb-false}
-use Rattle.wirebase.specs.Bytes.{byte_of, bytes_of, number_of}
-use Rattle.wirebase.specs.Duration.{of_micros}
-use Rattle.wirebase.specs.Ip.{protocol_of}
+use Rattle.opt_wire.proofs.Words.{◌*◌, ◌+◌, ◌<◌, ◌∙◌, ◌≡◌, ◌≢◌, ◌≤◌, ◌⊎◌, BeginsWithBlock, Bool, Ipv6Address, Ipv6Repr}
+use Rattle.opt_wire.proofs.Words.{List, PrefixInformation, ℕ, ap, arith, byte_of, bytes_of, eqb, eqb-false, eqb-true}
+use Rattle.opt_wire.proofs.Words.{false, inl, inr, known, length, length-part, number-case_in, number_of, octets_of}
+use Rattle.opt_wire.proofs.Words.{of_micros, preferred_lifetime_field, prefix_flags_field, protocol_of, refl, subst}
+use Rattle.opt_wire.proofs.Words.{sym, true, type_field, type_of, units_in}
 use Rattle.wirebase.specs.Ipv6 as ipv6
-use Rattle.wirebase.specs.Ipv6Address.{octets_of}
-use Rattle.wirebase.specs.declared.ipv6.address.Ipv6Address.{Ipv6Address}
-use Rattle.wirebase.specs.declared.ipv6.Ipv6Repr.{Ipv6Repr}
-use Rattle.wirebase.proofs.Numbered.{number-case_in}
-use Rattle.wirebase.proofs.Pieces.{length-part}
-use Rattle.opt_wire.specs.NdiscOption.{type_field, units_in, link_addr_field, mtu_field, data_field}
-use Rattle.opt_wire.specs.NdiscOption.{prefix_len_field, prefix_flags_field, valid_lifetime_field}
-use Rattle.opt_wire.specs.NdiscOption.{preferred_lifetime_field, BeginsWithBlock}
-use Rattle.opt_wire.specs.NdiscOptionTables.{type_number, types, type_of, known}
+use Rattle.opt_wire.specs.NdiscOption.{link_addr_field, mtu_field, data_field, prefix_len_field, valid_lifetime_field}
+use Rattle.opt_wire.specs.NdiscOptionTables.{type_number, types}
 use Rattle.opt_wire.specs.NdiscOptionRepr.{source, target, prefix_information, redirected, mtu, unknown}
 use Rattle.opt_wire.specs.NdiscOptionRefusal.{IsRead, HasUnits, HasPacket, IsMisfit, packet_in}
-use Rattle.opt_wire.specs.declared.ndiscoption.repr.PrefixInformation.{PrefixInformation}
-use Rattle.opt_wire.specs.declared.ndiscoption.tables.Type as Kind
-use Rattle.opt_wire.specs.declared.ndiscoption.tables.Type.TheVariants as kind
+use Rattle.opt_wire.specs.declared.ndiscoption.tables.Type.{«Type» as Kind}
 
 pub tested : (b : Bool) → (b ≡ true) ⊎ (b ≡ false)
 tested true = inl refl
 tested false = inr refl
 
 -- the type of a number
-pub number-type : (bytes : List ℕ) (k : Kind.Type) → type_of (byte_of type_field bytes) ≡ k
+pub number-type : (bytes : List ℕ) (k : Kind) → type_of (byte_of type_field bytes) ≡ k
     → byte_of type_field bytes ≡ type_number k
 number-type bytes k is =
-    sym (number-case_in type_number kind.Unknown (λ n. refl) types (byte_of type_field bytes)) ∙ ap type_number is
+    sym (number-case_in type_number Kind.Unknown (λ n. refl) types (byte_of type_field bytes)) ∙ ap type_number is
 
 -- enough units are a block
 pub block : (bytes : List ℕ) → HasUnits bytes → (byte_of type_field bytes ≡ 3 → 4 ≤ units_in bytes)

@@ -1,18 +1,11 @@
 -- The texts of options: their lengths.
-use Rattle.std.proofs.Common.{◌≡◌, ℕ, ◌+◌, ◌-◌, ◌*◌, List, ◌∷◌, ◌++◌, length, refl, ap, arith, length-append}
-use Rattle.std.proofs.lemmas.List.{append-nil, length-replicate}
-use Rattle.byteorder.specs.Endian.{big_bytes}
-use Rattle.wirebase.specs.ByteWriter.{be8, be16, be32, fields}
-use Rattle.wirebase.specs.Duration.{seconds_of}
+use Rattle.opt_wire.proofs.Words.{◌*◌, ◌++◌, ◌+◌, ◌-◌, ◌∷◌, ◌≡◌, Ipv6Repr, List, PrefixInformation, ℕ, ap, append-nil}
+use Rattle.opt_wire.proofs.Words.{arith, be16, be32, be8, big_bytes, fields, flag_bits, length, length-append}
+use Rattle.opt_wire.proofs.Words.{length-header_text, length-replicate, octets_of, refl, seconds_of}
 use Rattle.wirebase.specs.Ipv6.{header_text}
-use Rattle.wirebase.specs.Ipv6Address.{octets_of}
-use Rattle.wirebase.specs.declared.ipv6.Ipv6Repr.{Ipv6Repr}
-use Rattle.wirebase.proofs.Ipv6Header.{length-header_text}
-use Rattle.opt_wire.specs.NdiscOptionTables.{flag_bits}
 use Rattle.opt_wire.specs.NdiscOptionRepr.{OptionValue, source, target, prefix_information, redirected, mtu, unknown}
 use Rattle.opt_wire.specs.NdiscOptionRepr.{units, padding, link_fields, prefix_fields, redirected_fields, mtu_fields}
 use Rattle.opt_wire.specs.NdiscOptionRepr.{unknown_fields, text, text_len, CanEmit}
-use Rattle.opt_wire.specs.declared.ndiscoption.repr.PrefixInformation.{PrefixInformation}
 
 -- ---- field by field
 

@@ -1,25 +1,18 @@
 -- The tiling of bytes by blocks: it exists, and it is one.
-use Rattle.std.proofs.Common.{◌≡◌, Bool, true, false, ℕ, zero, suc, ◌*◌, ◌<◌, ◌≤◌, List, [], ◌∷◌, ◌++◌, length, take}
-use Rattle.std.proofs.Common.{drop, Some, Result, Ok, Err, inl, inr, refl, sym, ap, subst, ◌∙◌, arith}
-use Rattle.std.specs.Prelude.{nat_le, ◌&&◌}
+use Rattle.opt_wire.proofs.Words.{[], ◌&&◌, ◌*◌, ◌++◌, ◌<◌, ◌∙◌, ◌∷◌, ◌≡◌, ◌≤◌, BeginsWithBlock, Bool, Err, IfOk, IsErr}
+use Rattle.opt_wire.proofs.Words.{List, Ok, Result, Some, ℕ, ap, arith, byte_of, drop, drop_at, false, inl, inr, le-leb}
+use Rattle.opt_wire.proofs.Words.{leb-false, leb-true, length, length-drop, length-take-le, lt-leb, nat_le, refl, subst}
+use Rattle.opt_wire.proofs.Words.{suc, sym, take, take-append-drop, take_at, true, type_field, type_of, units_in, zero}
 use Rattle.std.specs.Iterator.{MakesProgress, at_most}
-use Rattle.std.specs.Result.{IfOk, IfErr, IsErr}
-use Rattle.std.proofs.lemmas.Bool.{leb-true, leb-false, le-leb, lt-leb}
-use Rattle.std.proofs.lemmas.List.{take-append-drop, length-take-le, length-drop, take_at, drop_at}
-use Rattle.wirebase.specs.Bytes.{byte_of}
-use Rattle.opt_wire.specs.NdiscOption.{type_field, units_in, BeginsWithBlock}
+use Rattle.std.specs.Result.{IfErr}
 use Rattle.opt_wire.specs.NdiscOptionRepr.{value_of, BeginsWith}
-use Rattle.opt_wire.specs.NdiscOptionBlocks.{Answer, Tile, ends, goes_on, breaks, GivesOption, least_units}
-use Rattle.opt_wire.specs.NdiscOptionBlocks.{IsUnread, begins_with_block, reason_by, reason_of, after_block}
-use Rattle.opt_wire.specs.NdiscOptionBlocks.{blocks_within, blocks_of}
-use Rattle.opt_wire.specs.NdiscOptionTables.{type_of}
+use Rattle.opt_wire.specs.NdiscOptionBlocks.{Answer, Tile, ends, goes_on, breaks, GivesOption, least_units, IsUnread}
+use Rattle.opt_wire.specs.NdiscOptionBlocks.{begins_with_block, reason_by, reason_of, after_block, blocks_within}
+use Rattle.opt_wire.specs.NdiscOptionBlocks.{blocks_of}
 use Rattle.opt_wire.specs.NdiscOptionRefusal.{HasUnits, Refuses, IsMisfit}
 use Rattle.opt_wire.specs.declared.ndiscoption.refusal.Refusal.{Refusal}
-use Rattle.opt_wire.specs.declared.ndiscoption.refusal.Refusal.TheVariants.{Short, Zero, Cut, Length, PacketCut}
-use Rattle.opt_wire.specs.declared.ndiscoption.refusal.Refusal.TheVariants.{PacketVersion}
 use Rattle.opt_wire.specs.declared.ndiscoption.repr.Repr.{Repr}
-use Rattle.opt_wire.specs.declared.ndiscoption.tables.Type as Kind
-use Rattle.opt_wire.specs.declared.ndiscoption.tables.Type.TheVariants as kind
+use Rattle.opt_wire.specs.declared.ndiscoption.tables.Type.{«Type» as Kind}
 use Rattle.opt_wire.proofs.NdiscOptionRefusals.{tested, block, packet-block, misfit}
 
 -- ---- whether the bytes begin with a block
@@ -105,38 +98,38 @@ told_by bytes none true true true f s w =
 pub reason-told : (bytes : List ℕ) → (BeginsWithBlock bytes → ⊥) → Refuses bytes (reason_of bytes)
 reason-told bytes none = told_by bytes none _ _ _ refl refl refl
 
-misfit_type : (bytes : List ℕ) (k : Kind.Type) (n : ℕ) → IsMisfit bytes k n → type_of (byte_of type_field bytes) ≡ k
-misfit_type bytes kind.SourceLinkLayerAddr n m = absurd m
-misfit_type bytes kind.TargetLinkLayerAddr n m = absurd m
-misfit_type bytes kind.PrefixInformation n m = ap type_of m.0
-misfit_type bytes kind.RedirectedHeader n m = ap type_of m.0
-misfit_type bytes kind.Mtu n m = ap type_of m.0
-misfit_type bytes (kind.Unknown t) n m = absurd m
+misfit_type : (bytes : List ℕ) (k : Kind) (n : ℕ) → IsMisfit bytes k n → type_of (byte_of type_field bytes) ≡ k
+misfit_type bytes Kind.SourceLinkLayerAddr n m = absurd m
+misfit_type bytes Kind.TargetLinkLayerAddr n m = absurd m
+misfit_type bytes Kind.PrefixInformation n m = ap type_of m.0
+misfit_type bytes Kind.RedirectedHeader n m = ap type_of m.0
+misfit_type bytes Kind.Mtu n m = ap type_of m.0
+misfit_type bytes (Kind.Unknown t) n m = absurd m
 
 -- and no other does
 reason-one : (bytes : List ℕ) (refusal : Refusal) → (BeginsWithBlock bytes → ⊥) → Refuses bytes refusal
     → reason_of bytes ≡ refusal
-reason-one bytes Short none h = rw (lt-leb 8 (length bytes) h) refl
-reason-one bytes Zero none h =
+reason-one bytes Refusal.Short none h = rw (lt-leb 8 (length bytes) h) refl
+reason-one bytes Refusal.Zero none h =
     let no_units : units_in bytes < 1 = omega (arith, h.1) in
     rw (le-leb 8 (length bytes) h.0, lt-leb 1 (units_in bytes) no_units) refl
-reason-one bytes (Cut n) none h =
+reason-one bytes (Refusal.Cut n) none h =
     let cut : length bytes < 8 * units_in bytes = omega (arith, h.2, h.3) in
     rw (
       le-leb 8 (length bytes) h.0,
       le-leb 1 (units_in bytes) h.1,
       lt-leb (8 * units_in bytes) (length bytes) cut,
-    ) (ap Cut (sym h.3))
-reason-one bytes (Length k n) none h =
+    ) (ap Refusal.Cut (sym h.3))
+reason-one bytes (Refusal.Length k n) none h =
     let units : HasUnits bytes = h.0 in
     let same_type : type_of (byte_of type_field bytes) ≡ k = misfit_type bytes k n h.2 in
     rw (
       le-leb 8 (length bytes) units.fixed,
       le-leb 1 (units_in bytes) units.some,
       le-leb (8 * units_in bytes) (length bytes) units.whole,
-    ) (ap (λ (t : Kind.Type). Length t (units_in bytes)) same_type ∙ ap (λ (m : ℕ). Length k m) (sym h.1))
-reason-one bytes (PacketCut n) none h = absurd (none (packet-block bytes h.0))
-reason-one bytes (PacketVersion n) none h = absurd (none (packet-block bytes h.0))
+    ) (ap (λ (t : Kind). Refusal.Length t (units_in bytes)) same_type ∙ ap (λ (m : ℕ). Refusal.Length k m) (sym h.1))
+reason-one bytes (Refusal.PacketCut n) none h = absurd (none (packet-block bytes h.0))
+reason-one bytes (Refusal.PacketVersion n) none h = absurd (none (packet-block bytes h.0))
 
 abbrev refused : Refusal → List Answer
 refused refusal = Err refusal ∷ []

@@ -5,10 +5,8 @@
 -- +---------------+---------------+- - - - - - - - - - - - - - - -
 use Rattle.std.specs.Prelude.{◌≡◌, ℕ, ◌+◌, ◌*◌, ◌≤◌, ◌<◌, List, [], ◌∷◌, length}
 use Rattle.std.specs.Borrow.{Bor}
-use Rattle.wirebase.specs.Bytes.{Field, field, Reaches, bytes_of, byte_of, over}
-use Rattle.wirebase.specs.ByteWriter.{be8, fields}
-use Rattle.wirebase.specs.Ip.{protocol_number, protocol_of}
-use Rattle.wirebase.specs.declared.ip.IpProtocol.{IpProtocol}
+use Rattle.opt_wire.specs.Words.{Field, IpProtocol, Reaches, be8, byte_of, bytes_of, field, fields, over}
+use Rattle.opt_wire.specs.Words.{protocol_number, protocol_of}
 use Rattle.opt_wire.specs.Ipv6Option.{OptionValue}
 use Rattle.opt_wire.specs.Ipv6Hbh as hop_by_hop
 use Rattle.opt_wire.specs.declared.ipv6ext_header.Header.{Header}

@@ -2,9 +2,7 @@
 use Rattle.std.specs.Prelude.{◌≡◌, ◌≢◌, ℕ, ◌+◌, ◌≤◌, List, [], length, map, take, sum_by, Ok}
 use Rattle.std.specs.Borrow.{Bor}
 use Rattle.std.specs.List.{AllByRecursion}
-use Rattle.wirebase.specs.Bytes.{over}
-use Rattle.wirebase.specs.ByteWriter.{fields}
-use Rattle.wirebase.specs.Format.{Format, RoundTrips}
+use Rattle.opt_wire.specs.Words.{Format, RoundTrips, fields, over}
 use Rattle.opt_wire.specs.declared.ipv6hbh.Header.{Header}
 use Rattle.opt_wire.specs.declared.ipv6hbh.Repr.{Repr}
 use Rattle.opt_wire.specs.Ipv6Option as option

@@ -9,17 +9,11 @@
 -- A Pad1 is its type alone.
 use Rattle.std.specs.Prelude.{◌≡◌, ◌≢◌, ℕ, ◌+◌, ◌*◌, ◌≤◌, ◌<◌, ◌^◌, List, [], ◌∷◌, ◌++◌, length, take, replicate}
 use Rattle.std.specs.Borrow.{Bor}
-use Rattle.wirebase.specs.Bytes.{Field, field, Reaches, byte_of, over}
-use Rattle.wirebase.specs.ByteWriter.{be8, be16, fields}
-use Rattle.wirebase.specs.Format.{Format, RoundTrips}
-use Rattle.wirebase.specs.Numbered.{IsProper}
+use Rattle.opt_wire.specs.Words.{Field, Format, IsProper, Reaches, RoundTrips, RouterAlert, be16, be8, byte_of, field}
+use Rattle.opt_wire.specs.Words.{fields, over}
 use Rattle.opt_wire.specs.declared.ipv6option.Ipv6Option.{Ipv6Option}
-use Rattle.opt_wire.specs.declared.ipv6option.tables.Type as Kind
-use Rattle.opt_wire.specs.declared.ipv6option.tables.Type.TheVariants as kind
-use Rattle.opt_wire.specs.declared.ipv6option.tables.RouterAlert.{RouterAlert}
-use Rattle.opt_wire.specs.declared.ipv6option.tables.RouterAlert.TheVariants as alert
+use Rattle.opt_wire.specs.declared.ipv6option.tables.Type.{«Type» as Kind}
 use Rattle.opt_wire.specs.declared.ipv6option.Repr.{Repr}
-use Rattle.opt_wire.specs.declared.ipv6option.Repr.TheVariants as repr
 use Rattle.opt_wire.specs.Ipv6OptionTables.{type_number, type_rows, type_of, alert_number, alert_rows, alert_of}
 
 -- the buffer of a view, and the view with another buffer
@@ -52,13 +46,13 @@ pub data OptionValue : Type 0 where
   pad1 : OptionValue
   pad_n : ℕ → OptionValue
   router_alert : RouterAlert → OptionValue
-  unknown : Kind.Type → ℕ → List ℕ → OptionValue
+  unknown : Kind → ℕ → List ℕ → OptionValue
 
 abbrev pub value_of : Repr → OptionValue
-value_of repr.Pad1 = pad1
-value_of (repr.PadN n) = pad_n n
-value_of (repr.RouterAlert a) = router_alert a
-value_of (repr.Unknown k n d) = unknown k n d.now
+value_of Repr.Pad1 = pad1
+value_of (Repr.PadN n) = pad_n n
+value_of (Repr.RouterAlert a) = router_alert a
+value_of (Repr.Unknown k n d) = unknown k n d.now
 
 -- its fields, and its text
 abbrev pub option_fields : OptionValue → List (List ℕ)
@@ -103,9 +97,9 @@ pub record BeginsWith (bytes : List ℕ) (v : OptionValue) : Type 0 where
 abbrev pub IsCanonical : OptionValue → Type 0
 IsCanonical pad1 = Unit {0}
 IsCanonical (pad_n n) = n < 256
-IsCanonical (router_alert a) = IsProper alert.Unknown alert_rows a × (alert_number a < 2 ^ 16)
+IsCanonical (router_alert a) = IsProper RouterAlert.Unknown alert_rows a × (alert_number a < 2 ^ 16)
 IsCanonical (unknown k n d) =
-    IsProper kind.Unknown type_rows k × (k ≢ kind.Pad1) × (k ≢ kind.PadN) × (k ≢ kind.RouterAlert)
+    IsProper Kind.Unknown type_rows k × (k ≢ Kind.Pad1) × (k ≢ Kind.PadN) × (k ≢ Kind.RouterAlert)
     × (type_number k < 256) × (n < 256) × (n ≤ length d)
 
 -- the normal form: data as long as it is counted

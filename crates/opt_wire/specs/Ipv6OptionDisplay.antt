@@ -1,43 +1,37 @@
 -- The printed texts of options and their parts.
 use Rattle.std.specs.Prelude.{ℕ, List, [], ◌∷◌, Option, None, Some, codes, decimal}
-use Rattle.wirebase.specs.Display.{pieces}
-use Rattle.opt_wire.specs.declared.ipv6option.tables.Type as Kind
-use Rattle.opt_wire.specs.declared.ipv6option.tables.Type.TheVariants as kind
-use Rattle.opt_wire.specs.declared.ipv6option.tables.RouterAlert.{RouterAlert}
-use Rattle.opt_wire.specs.declared.ipv6option.tables.RouterAlert.TheVariants as alert
-use Rattle.opt_wire.specs.declared.ipv6option.tables.FailureType.{FailureType}
-use Rattle.opt_wire.specs.declared.ipv6option.tables.FailureType.TheVariants.{Skip, Discard, DiscardSendAll}
-use Rattle.opt_wire.specs.declared.ipv6option.tables.FailureType.TheVariants.{DiscardSendUnicast}
+use Rattle.opt_wire.specs.Words.{FailureType, RouterAlert, pieces}
+use Rattle.opt_wire.specs.declared.ipv6option.tables.Type.{«Type» as Kind}
 use Rattle.opt_wire.specs.Ipv6Option.{OptionValue, pad1, pad_n, router_alert, unknown}
 
 -- a type, by its name
-abbrev pub type_display : Kind.Type → List ℕ
-type_display kind.Pad1 = codes "Pad1"
-type_display kind.PadN = codes "PadN"
-type_display kind.RouterAlert = codes "RouterAlert"
-type_display kind.Rpl = codes "RPL"
-type_display (kind.Unknown n) = decimal n
+abbrev pub type_display : Kind → List ℕ
+type_display Kind.Pad1 = codes "Pad1"
+type_display Kind.PadN = codes "PadN"
+type_display Kind.RouterAlert = codes "RouterAlert"
+type_display Kind.Rpl = codes "RPL"
+type_display (Kind.Unknown n) = decimal n
 
 -- the value of a router alert
 abbrev pub alert_text : RouterAlert → List ℕ
-alert_text alert.MulticastListenerDiscovery = codes "multicast listener discovery"
-alert_text alert.Rsvp = codes "RSVP"
-alert_text alert.ActiveNetworks = codes "active networks"
-alert_text (alert.Unknown n) = decimal n
+alert_text RouterAlert.MulticastListenerDiscovery = codes "multicast listener discovery"
+alert_text RouterAlert.Rsvp = codes "RSVP"
+alert_text RouterAlert.ActiveNetworks = codes "active networks"
+alert_text (RouterAlert.Unknown n) = decimal n
 
 -- the value of a router alert as it is printed in an option, by its name
 abbrev pub alert_display : RouterAlert → List ℕ
-alert_display alert.MulticastListenerDiscovery = codes "MulticastListenerDiscovery"
-alert_display alert.Rsvp = codes "Rsvp"
-alert_display alert.ActiveNetworks = codes "ActiveNetworks"
-alert_display (alert.Unknown n) = pieces (codes "Unknown(" ∷ decimal n ∷ codes ")" ∷ [])
+alert_display RouterAlert.MulticastListenerDiscovery = codes "MulticastListenerDiscovery"
+alert_display RouterAlert.Rsvp = codes "Rsvp"
+alert_display RouterAlert.ActiveNetworks = codes "ActiveNetworks"
+alert_display (RouterAlert.Unknown n) = pieces (codes "Unknown(" ∷ decimal n ∷ codes ")" ∷ [])
 
 -- what a node does with an option that it does not know
 abbrev pub failure_display : FailureType → List ℕ
-failure_display Skip = codes "skip"
-failure_display Discard = codes "discard"
-failure_display DiscardSendAll = codes "discard and send error"
-failure_display DiscardSendUnicast = codes "discard and send error if unicast"
+failure_display FailureType.Skip = codes "skip"
+failure_display FailureType.Discard = codes "discard"
+failure_display FailureType.DiscardSendAll = codes "discard and send error"
+failure_display FailureType.DiscardSendUnicast = codes "discard and send error if unicast"
 
 -- an option; three of the four end with a space
 abbrev pub option_display : OptionValue → List ℕ

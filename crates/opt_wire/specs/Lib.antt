@@ -13,3 +13,4 @@ pub mod NdiscOptionBlocks
 pub mod NdiscOptionRefusal
 pub mod NdiscOptionRepr
 pub mod NdiscOptionTables
+pub mod Words

@@ -38,7 +38,7 @@
 -- +---------------------------------------------------------------+
 use Rattle.std.specs.Prelude.{◌≡◌, ℕ, ◌+◌, ◌-◌, ◌*◌, ◌≤◌, min, List, length}
 use Rattle.std.specs.Borrow.{Bor}
-use Rattle.wirebase.specs.Bytes.{Field, field, Reaches, byte_of}
+use Rattle.opt_wire.specs.Words.{Field, Reaches, byte_of, field}
 use Rattle.opt_wire.specs.declared.ndiscoption.NdiscOption.{NdiscOption}
 
 -- the buffer of a view, and the view with another buffer

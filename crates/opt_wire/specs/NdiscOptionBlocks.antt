@@ -1,13 +1,12 @@
 -- The options of a message of neighbor discovery in turn (RFC 4861 section 4.6): blocks one after another.
-use Rattle.std.specs.Prelude.{◌≡◌, ◌⊎◌, ℕ, zero, suc, ◌*◌, ◌==◌, nat_le, Bool, true, false, ◌&&◌, if◌then◌else◌}
-use Rattle.std.specs.Prelude.{List, [], ◌∷◌, ◌++◌, length, take, drop, Option, None, Some, Result, Ok, Err}
-use Rattle.wirebase.specs.Bytes.{byte_of}
+use Rattle.std.specs.Prelude.{◌≡◌, ◌⊎◌, ℕ, zero, suc, ◌*◌, ◌==◌, nat_le, Bool, true, false, ◌&&◌, if◌then◌else◌, List}
+use Rattle.std.specs.Prelude.{[], ◌∷◌, ◌++◌, length, take, drop, Option, None, Some, Result, Ok, Err}
+use Rattle.opt_wire.specs.Words.{byte_of}
 use Rattle.opt_wire.specs.NdiscOption.{type_field, units_in, BeginsWithBlock}
 use Rattle.opt_wire.specs.NdiscOptionTables.{type_of}
 use Rattle.opt_wire.specs.NdiscOptionRepr.{OptionValue, value_of, BeginsWith}
 use Rattle.opt_wire.specs.NdiscOptionRefusal.{Refuses}
 use Rattle.opt_wire.specs.declared.ndiscoption.refusal.Refusal.{Refusal}
-use Rattle.opt_wire.specs.declared.ndiscoption.refusal.Refusal.TheVariants.{Short, Zero, Cut, Length}
 use Rattle.opt_wire.specs.declared.ndiscoption.repr.Repr.{Repr}
 
 -- an answer: all the bytes of a block, or why none follows
@@ -51,10 +50,10 @@ begins_with_block bytes =
 
 -- why bytes begin with no block, by whether they are 8 or more, count one unit or more, and hold all that they count
 abbrev pub reason_by : Bool → Bool → Bool → List ℕ → Refusal
-reason_by false some whole bytes = Short
-reason_by true false whole bytes = Zero
-reason_by true true false bytes = Cut (8 * units_in bytes)
-reason_by true true true bytes = Length (type_of (byte_of type_field bytes)) (units_in bytes)
+reason_by false some whole bytes = Refusal.Short
+reason_by true false whole bytes = Refusal.Zero
+reason_by true true false bytes = Refusal.Cut (8 * units_in bytes)
+reason_by true true true bytes = Refusal.Length (type_of (byte_of type_field bytes)) (units_in bytes)
 
 abbrev pub reason_of : List ℕ → Refusal
 reason_of bytes =

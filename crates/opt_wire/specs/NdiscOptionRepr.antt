@@ -2,19 +2,14 @@
 -- format.
 use Rattle.std.specs.Prelude.{◌≡◌, ◌≢◌, ℕ, ◌+◌, ◌-◌, ◌*◌, ◌/◌, ◌≤◌, ◌<◌, ◌^◌, nat_lt, if◌then◌else◌, List, [], ◌∷◌}
 use Rattle.std.specs.Prelude.{◌++◌, codes, decimal, length, replicate}
-use Rattle.wirebase.specs.Bytes.{bytes_of, byte_of, number_of, over}
-use Rattle.wirebase.specs.ByteWriter.{be8, be16, be32, fields}
-use Rattle.wirebase.specs.Display.{pieces}
+use Rattle.opt_wire.specs.Words.{Format, IpProtocol, IsProper, RoundTrips, be16, be32, be8, byte_of, bytes_of, fields}
+use Rattle.opt_wire.specs.Words.{number_of, over, pieces, protocol_number, protocol_rows}
 use Rattle.wirebase.specs.Duration.{micros_of, seconds_of, whole_seconds, duration_text}
 use Rattle.wirebase.specs.Hexadecimal.{hex_colons, octets_text}
-use Rattle.wirebase.specs.Format.{Format, RoundTrips}
 use Rattle.wirebase.specs.HardwareAddress.{raw_bytes}
-use Rattle.wirebase.specs.Ip.{protocol_number, protocol_rows}
 use Rattle.wirebase.specs.Ipv6.{IsPacket, payload_field, header_text, header_display}
 use Rattle.wirebase.specs.Ipv6Address.{octets_of, address_text, IsLinkLocal}
-use Rattle.wirebase.specs.Numbered.{IsProper}
 use Rattle.wirebase.specs.declared.duration.Duration.{Duration}
-use Rattle.wirebase.specs.declared.ip.IpProtocol.TheVariants as protocol
 use Rattle.wirebase.specs.declared.ipv6.Ipv6Repr.{Ipv6Repr}
 use Rattle.opt_wire.specs.NdiscOption.{type_field, prefix_len_field, prefix_flags_field, valid_lifetime_field}
 use Rattle.opt_wire.specs.NdiscOption.{preferred_lifetime_field, prefix_field, mtu_field, units_in, data_field}
@@ -22,7 +17,6 @@ use Rattle.opt_wire.specs.NdiscOption.{link_addr_field, redirected_field, Begins
 use Rattle.opt_wire.specs.NdiscOptionTables.{flag_bits, flags_text, known, IsKnown, HasAddrconf}
 use Rattle.opt_wire.specs.declared.ndiscoption.repr.PrefixInformation.{PrefixInformation}
 use Rattle.opt_wire.specs.declared.ndiscoption.repr.Repr.{Repr}
-use Rattle.opt_wire.specs.declared.ndiscoption.repr.Repr.TheVariants as repr
 
 -- an option by its content: a link-layer address of the source or of the target, a prefix, a redirected packet by its
 -- header and its payload, an MTU, or a type, units and data
@@ -35,12 +29,12 @@ pub data OptionValue : Type 0 where
   unknown : ℕ → ℕ → List ℕ → OptionValue
 
 abbrev pub value_of : Repr → OptionValue
-value_of (repr.SourceLinkLayerAddr address) = source (raw_bytes address)
-value_of (repr.TargetLinkLayerAddr address) = target (raw_bytes address)
-value_of (repr.PrefixInformation p) = prefix_information p
-value_of (repr.RedirectedHeader r) = redirected r.header r.«data».now
-value_of (repr.Mtu n) = mtu n
-value_of (repr.Unknown t n d) = unknown t n d.now
+value_of (Repr.SourceLinkLayerAddr address) = source (raw_bytes address)
+value_of (Repr.TargetLinkLayerAddr address) = target (raw_bytes address)
+value_of (Repr.PrefixInformation p) = prefix_information p
+value_of (Repr.RedirectedHeader r) = redirected r.header r.«data».now
+value_of (Repr.Mtu n) = mtu n
+value_of (Repr.Unknown t n d) = unknown t n d.now
 
 -- hosts may make addresses of the prefix (RFC 4862 section 5.5.3, a to c)
 pub record IsValidPrefix (p : PrefixInformation) : Type 0 where
@@ -177,7 +171,7 @@ pub record IsCanonicalPrefix (p : PrefixInformation) : Type 0 where
   pub preferred : HasSeconds p.preferred_lifetime
 
 pub record IsCanonicalRedirected (h : Ipv6Repr) (d : List ℕ) : Type 0 where
-  pub proper : IsProper protocol.Unknown protocol_rows h.next_header
+  pub proper : IsProper IpProtocol.Unknown protocol_rows h.next_header
   pub protocol : protocol_number h.next_header < 256
   pub hops : h.hop_limit < 256
   pub payload : h.payload_len ≡ length d

@@ -1,38 +1,37 @@
 -- The numbers of a neighbor discovery option: its type, and the flags of a prefix.
 use Rattle.std.specs.Prelude.{◌≡◌, ℕ, ◌==◌, if◌then◌else◌, List, [], ◌∷◌, codes, decimal}
 use Rattle.std.specs.Int.RustNames.{bit_and}
-use Rattle.wirebase.specs.Numbered.{rows_of, case_in}
-use Rattle.opt_wire.specs.declared.ndiscoption.tables.Type as Kind
-use Rattle.opt_wire.specs.declared.ndiscoption.tables.Type.TheVariants as kind
+use Rattle.opt_wire.specs.Words.{case_in, rows_of}
+use Rattle.opt_wire.specs.declared.ndiscoption.tables.Type.{«Type» as Kind}
 use Rattle.opt_wire.specs.declared.ndiscoption.tables.PrefixInfoFlags.{PrefixInfoFlags}
 
 -- option types (RFC 4861 section 4.6)
-abbrev pub type_number : Kind.Type → ℕ
-type_number kind.SourceLinkLayerAddr = 1
-type_number kind.TargetLinkLayerAddr = 2
-type_number kind.PrefixInformation = 3
-type_number kind.RedirectedHeader = 4
-type_number kind.Mtu = 5
-type_number (kind.Unknown n) = n
+abbrev pub type_number : Kind → ℕ
+type_number Kind.SourceLinkLayerAddr = 1
+type_number Kind.TargetLinkLayerAddr = 2
+type_number Kind.PrefixInformation = 3
+type_number Kind.RedirectedHeader = 4
+type_number Kind.Mtu = 5
+type_number (Kind.Unknown n) = n
 
-abbrev pub types : List Kind.Type
+abbrev pub types : List Kind
 types =
-    kind.SourceLinkLayerAddr ∷ kind.TargetLinkLayerAddr ∷ kind.PrefixInformation ∷ kind.RedirectedHeader ∷ kind.Mtu ∷ []
+    Kind.SourceLinkLayerAddr ∷ Kind.TargetLinkLayerAddr ∷ Kind.PrefixInformation ∷ Kind.RedirectedHeader ∷ Kind.Mtu ∷ []
 
-abbrev pub type_rows : List (Kind.Type × ℕ)
+abbrev pub type_rows : List (Kind × ℕ)
 type_rows = rows_of type_number types
 
-abbrev pub type_of : ℕ → Kind.Type
-type_of n = case_in kind.Unknown type_rows n
+abbrev pub type_of : ℕ → Kind
+type_of n = case_in Kind.Unknown type_rows n
 
 -- the printed text of a type
-abbrev pub type_text : Kind.Type → List ℕ
-type_text kind.SourceLinkLayerAddr = codes "source link-layer address"
-type_text kind.TargetLinkLayerAddr = codes "target link-layer address"
-type_text kind.PrefixInformation = codes "prefix information"
-type_text kind.RedirectedHeader = codes "redirected header"
-type_text kind.Mtu = codes "mtu"
-type_text (kind.Unknown n) = decimal n
+abbrev pub type_text : Kind → List ℕ
+type_text Kind.SourceLinkLayerAddr = codes "source link-layer address"
+type_text Kind.TargetLinkLayerAddr = codes "target link-layer address"
+type_text Kind.PrefixInformation = codes "prefix information"
+type_text Kind.RedirectedHeader = codes "redirected header"
+type_text Kind.Mtu = codes "mtu"
+type_text (Kind.Unknown n) = decimal n
 
 -- each flag of a prefix with its bit (RFC 4861 section 4.6.2)
 abbrev pub flag_rows : List (List ℕ × ℕ)

@@ -1,6 +1,4 @@
-use Rattle.std.proofs.Common.{◌≡◌, ◌≤◌, length, drop, map}
-use Rattle.wirebase.specs.ByteWriter.{sheet, free, put_all, the_slice}
-use Rattle.opt_wire.specs.Ipv6Option.{value_of}
+use Rattle.opt_wire.proofs.Words.{◌≡◌, ◌≤◌, drop, free, length, map, put_all, sheet, the_slice, value_of}
 use Rattle.opt_wire.specs.Ipv6Hbh.{header_fields, text_len, HaveData}
 use Rattle.opt_wire.proofs.ipv6hbh.put_options.Given as goal
 

@@ -1,11 +1,7 @@
-use Rattle.std.proofs.Common.{◌++◌, ◌∷◌, List, length, map, Ok, Result, sym, ap, ◌∙◌, arith}
-use Rattle.std.proofs.lemmas.List.{append-nil, length-map}
-use Rattle.std.proofs.lemmas.Bool.{eqb-true}
-use Rattle.wirebase.specs.declared.error.Error.{Error}
+use Rattle.opt_wire.proofs.Words.{◌++◌, ◌∙◌, ◌∷◌, Answer, Error, List, Ok, Result, ap, append-nil, arith, eqb-true}
+use Rattle.opt_wire.proofs.Words.{length, length-map, map, sym, value_of}
 use Rattle.wirebase.specs.Answers.{seen}
 use Rattle.opt_wire.specs.declared.ipv6option.Repr.{Repr}
-use Rattle.opt_wire.specs.Ipv6Option.{value_of}
-use Rattle.opt_wire.specs.Ipv6OptionAnswers.{Answer}
 use Rattle.opt_wire.proofs.Ipv6HbhGrammar.{header-end, header-full, header-refused}
 use Rattle.opt_wire.proofs.ipv6hbh.read_options.Goals as goal
 

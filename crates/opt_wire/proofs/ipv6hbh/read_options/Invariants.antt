@@ -1,6 +1,4 @@
-use Rattle.std.proofs.Common.{◌≤◌, ◌++◌, length, map, Ok}
-use Rattle.opt_wire.specs.Ipv6Option.{value_of}
-use Rattle.opt_wire.specs.Ipv6OptionAnswers.{Tile}
+use Rattle.opt_wire.proofs.Words.{◌++◌, ◌≤◌, Ok, Tile, length, map, value_of}
 use Rattle.opt_wire.proofs.ipv6hbh.read_options.Given as goal
 
 abbrev pub invariant-loop-option : goal.invariant-loop-option

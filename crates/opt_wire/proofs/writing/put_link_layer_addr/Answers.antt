@@ -1,5 +1,4 @@
-use Rattle.std.proofs.Common.{◌≡◌, ℕ, List, arith}
-use Rattle.wirebase.specs.ByteWriter.{be8, fields}
+use Rattle.opt_wire.proofs.Words.{◌≡◌, List, ℕ, arith, be8, fields}
 use Rattle.opt_wire.proofs.FieldsAtOnce.{all_bytes, bytes_from}
 use Rattle.opt_wire.proofs.writing.put_link_layer_addr.Goals as goal
 

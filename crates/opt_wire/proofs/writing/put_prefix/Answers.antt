@@ -1,6 +1,4 @@
-use Rattle.std.proofs.Common.{sym}
-use Rattle.std.proofs.lemmas.List.{append-nil}
-use Rattle.wirebase.specs.ByteWriter.{be8, be32, fields}
+use Rattle.opt_wire.proofs.Words.{append-nil, be32, be8, fields, sym}
 use Rattle.opt_wire.proofs.FieldsAtOnce.{puts-then, puts-fields}
 use Rattle.opt_wire.proofs.writing.put_prefix.Goals as goal
 

@@ -1,4 +1,4 @@
-use Rattle.std.proofs.Common.{refl, arith}
+use Rattle.opt_wire.proofs.Words.{arith, refl}
 use Rattle.opt_wire.specs.Ipv6ExtHeader.{view_octets}
 use Rattle.opt_wire.proofs.Ipv6ExtHeaderText.{whole-read}
 use Rattle.opt_wire.proofs.ipv6ext_header.Repr.refusal.Goals as goal

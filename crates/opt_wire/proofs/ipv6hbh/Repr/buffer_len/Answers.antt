@@ -1,5 +1,4 @@
-use Rattle.std.proofs.Common.{List, map, sym, ap, ◌∙◌, arith}
-use Rattle.std.proofs.lemmas.List.{take_all}
+use Rattle.opt_wire.proofs.Words.{◌∙◌, List, ap, arith, map, sym, take_all}
 use Rattle.opt_wire.specs.declared.ipv6option.Repr.{Repr}
 use Rattle.opt_wire.specs.Ipv6Option.{value_of as option_value}
 use Rattle.opt_wire.specs.Ipv6Hbh.{value_of, text_len}

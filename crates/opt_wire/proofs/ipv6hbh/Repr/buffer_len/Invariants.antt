@@ -1,5 +1,4 @@
-use Rattle.std.proofs.Common.{◌≡◌, ◌≤◌, ◌*◌, take, map}
-use Rattle.opt_wire.specs.Ipv6Option.{value_of}
+use Rattle.opt_wire.proofs.Words.{◌*◌, ◌≡◌, ◌≤◌, map, take, value_of}
 use Rattle.opt_wire.specs.Ipv6Hbh.{text_len}
 use Rattle.opt_wire.proofs.ipv6hbh.Repr.buffer_len.Given as goal
 

@@ -1,5 +1,4 @@
-use Rattle.std.proofs.Common.{arith}
-use Rattle.wirebase.proofs.Format.{all_rewrites}
+use Rattle.opt_wire.proofs.Words.{all_rewrites, arith}
 use Rattle.opt_wire.specs.Ipv6Hbh.{view_octets, value_of, format}
 use Rattle.opt_wire.proofs.Ipv6HbhFormat.{header_format}
 use Rattle.opt_wire.proofs.ipv6hbh.Repr.parse.Goals as goal

@@ -1,6 +1,5 @@
-use Rattle.std.proofs.Common.{List, ℕ, map, refl, subst}
+use Rattle.opt_wire.proofs.Words.{List, ℕ, map, refl, subst, value_of}
 use Rattle.std.specs.Borrow.{Bor}
-use Rattle.opt_wire.specs.Ipv6Option.{value_of}
 use Rattle.opt_wire.specs.Ipv6Hbh.{inner, IsHeader}
 use Rattle.opt_wire.proofs.Ipv6HbhGrammar.{header-unique}
 use Rattle.opt_wire.proofs.ipv6hbh.Repr.read.Goals as goal

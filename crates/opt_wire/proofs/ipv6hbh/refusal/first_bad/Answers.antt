@@ -1,6 +1,4 @@
-use Rattle.std.proofs.Common.{refl, sym, ap, ◌∙◌, length, arith}
-use Rattle.std.proofs.lemmas.Bool.{eqb-true, eqb-false}
-use Rattle.opt_wire.specs.Ipv6HbhRefusal.{none}
+use Rattle.opt_wire.proofs.Words.{◌∙◌, ap, arith, eqb-false, eqb-true, length, none, refl, sym}
 use Rattle.opt_wire.proofs.Ipv6HbhBehind.{next_place, read-end, read-full, read-broken}
 use Rattle.opt_wire.proofs.ipv6hbh.refusal.first_bad.Goals as goal
 

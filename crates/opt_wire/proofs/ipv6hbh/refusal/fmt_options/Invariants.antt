@@ -1,7 +1,5 @@
-use Rattle.std.proofs.Common.{map, take}
+use Rattle.opt_wire.proofs.Words.{map, options_display, take, value_of}
 use Rattle.std.specs.Fmt.{HasWritten, IsPlainFormatter}
-use Rattle.opt_wire.specs.Ipv6Option.{value_of}
-use Rattle.opt_wire.specs.Ipv6HbhRefusal.{options_display}
 use Rattle.opt_wire.proofs.ipv6hbh.refusal.fmt_options.Given as goal
 
 abbrev pub invariant-loop-option : goal.invariant-loop-option

@@ -1,5 +1,4 @@
-use Rattle.std.proofs.Common.{arith}
-use Rattle.wirebase.proofs.Chains.{chain}
+use Rattle.opt_wire.proofs.Words.{arith, chain}
 use Rattle.opt_wire.proofs.Ipv6OptionFormat.{option_emits}
 use Rattle.opt_wire.proofs.ipv6option.Repr.emit_into.Goals as goal
 

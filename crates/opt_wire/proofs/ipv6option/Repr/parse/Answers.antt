@@ -1,5 +1,5 @@
-use Rattle.wirebase.proofs.Format.{all_rewrites}
-use Rattle.opt_wire.specs.Ipv6Option.{view_octets, value_of, format}
+use Rattle.opt_wire.proofs.Words.{all_rewrites, value_of}
+use Rattle.opt_wire.specs.Ipv6Option.{view_octets, format}
 use Rattle.opt_wire.proofs.Ipv6OptionFormat.{option_format}
 use Rattle.opt_wire.proofs.Ipv6OptionGrammar.{complete}
 use Rattle.opt_wire.proofs.ipv6option.Repr.parse.Goals as goal

@@ -1,5 +1,4 @@
-use Rattle.std.proofs.Common.{refl, sym, ap, ◌∙◌}
-use Rattle.byteorder.specs.Endian.{big_number}
+use Rattle.opt_wire.proofs.Words.{◌∙◌, ap, big_number, refl, sym}
 use Rattle.opt_wire.specs.Ipv6OptionTables.{alert_of}
 use Rattle.opt_wire.specs.Ipv6Option.{inner}
 use Rattle.opt_wire.proofs.Ipv6OptionGrammar.{front_of-pads, front_of-alert, front_of-other, begins_with}

@@ -1,4 +1,4 @@
-use Rattle.std.proofs.Common.{sym, ◌∙◌, arith}
+use Rattle.opt_wire.proofs.Words.{◌∙◌, arith, sym}
 use Rattle.opt_wire.specs.Ipv6Option.{view_octets, BeginsWhole}
 use Rattle.opt_wire.proofs.Ipv6OptionGrammar.{misfit}
 use Rattle.opt_wire.proofs.ipv6option.refusal.why_none.Goals as goal

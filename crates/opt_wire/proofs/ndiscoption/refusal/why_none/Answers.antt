@@ -1,6 +1,4 @@
-use Rattle.std.proofs.Common.{ap, ◌∙◌, arith}
-use Rattle.opt_wire.specs.NdiscOption.{view_octets}
-use Rattle.opt_wire.specs.NdiscOptionTables.{type_of}
+use Rattle.opt_wire.proofs.Words.{◌∙◌, ap, arith, type_of, view_octets}
 use Rattle.opt_wire.specs.NdiscOptionRefusal.{HasUnits}
 use Rattle.opt_wire.proofs.NdiscOptionRefusals.{misfit}
 use Rattle.opt_wire.proofs.ndiscoption.refusal.why_none.Goals as goal

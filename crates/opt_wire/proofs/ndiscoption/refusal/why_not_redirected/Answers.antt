@@ -1,6 +1,5 @@
-use Rattle.std.proofs.Common.{◌≡◌, ◌≤◌, length, sym, ap, ◌∙◌, arith}
+use Rattle.opt_wire.proofs.Words.{◌∙◌, ◌≡◌, ◌≤◌, ap, arith, length, sym, view_octets}
 use Rattle.wirebase.specs.Ipv6.{inner, payload_len_in, version_in, BeginsWhole}
-use Rattle.opt_wire.specs.NdiscOption.{view_octets}
 use Rattle.opt_wire.specs.NdiscOptionRefusal.{HasPacket, packet_in}
 use Rattle.opt_wire.proofs.NdiscOptionRefusals.{length-packet, other_version}
 use Rattle.opt_wire.proofs.ndiscoption.refusal.why_not_redirected.Goals as goal

@@ -1,8 +1,6 @@
-use Rattle.std.proofs.Common.{◌<◌, ℕ, length, drop, sym, ap, ◌∙◌, inl, inr, arith}
-use Rattle.std.proofs.lemmas.Bool.{eqb-true, eqb-false}
+use Rattle.opt_wire.proofs.Words.{◌<◌, ◌∙◌, ℕ, ap, arith, drop, eqb-false, eqb-true, inl, inr, length, sym, value_of}
 use Rattle.std.proofs.lemmas.List.{take_rest}
 use Rattle.wirebase.proofs.Answers.{answer-progress}
-use Rattle.opt_wire.specs.Ipv6Option.{value_of}
 use Rattle.opt_wire.proofs.Ipv6OptionTiles.{next-option, next-refusal, next-end}
 use Rattle.opt_wire.proofs.ipv6option.options.Ipv6OptionsIteratorIterator.next.Goals as goal
 

@@ -1,5 +1,4 @@
-use Rattle.std.proofs.Common.{◌<◌, [], length, refl, sym, ◌∙◌, inl, arith}
-use Rattle.std.proofs.lemmas.Bool.{eqb-true, eqb-false}
+use Rattle.opt_wire.proofs.Words.{[], ◌<◌, ◌∙◌, arith, eqb-false, eqb-true, inl, length, refl, sym}
 use Rattle.opt_wire.proofs.NdiscOptionTiles.{next-end, next-block, next-refusal, gives, first_off}
 use Rattle.opt_wire.proofs.ndiscoption.options.NdiscOptionsIterator.next.Goals as goal
 

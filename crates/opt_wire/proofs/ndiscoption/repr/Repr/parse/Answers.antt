@@ -1,5 +1,4 @@
-use Rattle.wirebase.proofs.Format.{all_rewrites}
-use Rattle.opt_wire.specs.NdiscOption.{view_octets}
+use Rattle.opt_wire.proofs.Words.{all_rewrites, view_octets}
 use Rattle.opt_wire.specs.NdiscOptionRepr.{value_of, format}
 use Rattle.opt_wire.proofs.NdiscOptionFormat.{ndisc_option_format}
 use Rattle.opt_wire.proofs.NdiscOptionGrammar.{complete}

@@ -1,5 +1,4 @@
-use Rattle.std.proofs.Common.{refl, sym, ◌∙◌}
-use Rattle.opt_wire.specs.NdiscOption.{view_octets}
+use Rattle.opt_wire.proofs.Words.{◌∙◌, refl, sym, view_octets}
 use Rattle.opt_wire.proofs.NdiscOptionGrammar.{redirected-packet}
 use Rattle.opt_wire.proofs.ndiscoption.repr.Repr.read.Goals as goal
 
