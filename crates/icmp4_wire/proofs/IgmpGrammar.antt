@@ -1,12 +1,9 @@
 -- The grammar of messages: what the bytes say where they pass the checks, one value at most, and none where a check
 -- fails.
-use Rattle.std.proofs.Common.{◌≡◌, inl, inr, ℕ, List, [], ◌∷◌, Some, None, refl, sym, ap, subst, ◌∙◌}
-use Rattle.wirebase.specs.Bytes.{Reaches, byte_of, bytes_of}
+use Rattle.icmp4_wire.proofs.Words.{[], ◌∙◌, ◌∷◌, ◌≡◌, Ipv4Address, List, None, Reaches, Repr, Some, ℕ, ap, byte_of}
+use Rattle.icmp4_wire.proofs.Words.{bytes_of, inl, inr, number-case_in, refl, subst, sym}
 use Rattle.wirebase.specs.Ipv4.{octets_of}
-use Rattle.wirebase.specs.declared.ipv4.Ipv4Address.{Ipv4Address}
-use Rattle.wirebase.proofs.Numbered.{number-case_in}
 use Rattle.icmp4_wire.specs.declared.igmp.refusal.Refusal.{Refusal}
-use Rattle.icmp4_wire.specs.declared.igmp.repr.Repr.{Repr}
 use Rattle.icmp4_wire.specs.declared.igmp.tables.Message.{Message}
 use Rattle.icmp4_wire.specs.Igmp.{message_number, type_field, code_field, group_field, type_in, address_of, group_in}
 use Rattle.icmp4_wire.specs.Igmp.{IsGroup, value_of, IsMessage}

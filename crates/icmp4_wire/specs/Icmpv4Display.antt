@@ -1,13 +1,8 @@
 -- The printed texts of messages of ICMPv4 and their parts.
 use Rattle.std.specs.Prelude.{ℕ, List, [], ◌∷◌, codes, decimal, length, nat_lt, if◌then◌else◌}
+use Rattle.icmp4_wire.specs.Words.{DstUnreachable, ParamProblem, Redirect, TimeExceeded, code_field, pieces, type_field}
 use Rattle.wirebase.specs.Bytes.{byte_of}
-use Rattle.wirebase.specs.Display.{pieces}
-use Rattle.wirebase.specs.Icmp.{type_field, code_field}
 use Rattle.icmp4_wire.specs.declared.icmpv4.tables.Message.{Message}
-use Rattle.icmp4_wire.specs.declared.icmpv4.tables.DstUnreachable.{DstUnreachable}
-use Rattle.icmp4_wire.specs.declared.icmpv4.tables.TimeExceeded.{TimeExceeded}
-use Rattle.icmp4_wire.specs.declared.icmpv4.tables.Redirect.{Redirect}
-use Rattle.icmp4_wire.specs.declared.icmpv4.tables.ParamProblem.{ParamProblem}
 use Rattle.icmp4_wire.specs.Icmpv4Tables.{message_of, unreachable_of, time_exceeded_of}
 use Rattle.icmp4_wire.specs.Icmpv4.{MessageValue, echo_request, echo_reply, unreachable, time_exceeded}
 

@@ -1,8 +1,6 @@
 -- Why octets are not a message of ICMPv4 (RFC 792): the first check that fails.
 use Rattle.std.specs.Prelude.{ℕ, List, [], ◌∷◌, codes, decimal}
-use Rattle.wirebase.specs.Checks.{Fails}
-use Rattle.wirebase.specs.Display.{pieces}
-use Rattle.wirebase.specs.declared.capabilities.ChecksumCapabilities.{ChecksumCapabilities}
+use Rattle.icmp4_wire.specs.Words.{ChecksumCapabilities, Fails, pieces}
 use Rattle.icmp4_wire.specs.declared.icmpv4.refusal.Refusal.{Refusal}
 use Rattle.icmp4_wire.specs.Icmpv4.{MessageValue, checks, IsMessage}
 

@@ -1,9 +1,7 @@
 -- The printed texts of messages of IGMP and their parts.
 use Rattle.std.specs.Prelude.{ℕ, List, [], ◌∷◌, codes, decimal}
-use Rattle.wirebase.specs.Display.{pieces}
+use Rattle.icmp4_wire.specs.Words.{IgmpVersion, address_text, pieces}
 use Rattle.wirebase.specs.Duration.{duration_text}
-use Rattle.wirebase.specs.Ipv4.{address_text}
-use Rattle.icmp4_wire.specs.declared.igmp.repr.IgmpVersion.{IgmpVersion}
 use Rattle.icmp4_wire.specs.declared.igmp.tables.Message.{Message}
 use Rattle.icmp4_wire.specs.declared.igmp.repr.Repr.{Repr}
 

@@ -1,8 +1,6 @@
 -- Why octets are not a message of IGMP (RFC 2236 section 2): the first check that fails.
 use Rattle.std.specs.Prelude.{ℕ, List, [], ◌∷◌, codes, decimal}
-use Rattle.wirebase.specs.Checks.{Fails}
-use Rattle.wirebase.specs.Display.{pieces}
-use Rattle.wirebase.specs.Ipv4.{address_text}
+use Rattle.icmp4_wire.specs.Words.{Fails, address_text, pieces}
 use Rattle.icmp4_wire.specs.declared.igmp.refusal.Refusal.{Refusal}
 use Rattle.icmp4_wire.specs.declared.igmp.repr.Repr.{Repr}
 use Rattle.icmp4_wire.specs.Igmp.{checks, IsMessage}

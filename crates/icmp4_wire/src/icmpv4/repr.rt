@@ -126,7 +126,6 @@ impl<'a> Repr<'a> {
     }
 
     // The error in octets of such a type, whatever their checksum.
-    #[tactic(auto, using(crate::proofs::Icmpv4Grammar::contents))]
     fn read_error(packet: &Packet<&'a [u8]>) -> Result<Repr<'a>>
         requires whole { Reaches header (view_octets packet.now) }
         requires error { (type_in (view_octets packet.now) ≡ AnyMessage.DstUnreachable)

@@ -1,5 +1,4 @@
-use Rattle.std.proofs.Common.{List, ℕ, inr, subst, rules}
-use Rattle.wirebase.specs.Checks.{Passes}
+use Rattle.icmp4_wire.proofs.Words.{List, Passes, ℕ, inr, rules, subst}
 use Rattle.icmp4_wire.specs.Icmpv4.{view_octets, quote_checks}
 use Rattle.icmp4_wire.proofs.Icmpv4Grammar.{passes_read, error_passes, echo_fails}
 use Rattle.icmp4_wire.proofs.icmpv4.refusal.why.Goals as goal

@@ -1,4 +1,4 @@
-use Rattle.std.proofs.Common.{◌∙◌, rules}
+use Rattle.icmp4_wire.proofs.Words.{◌∙◌, rules}
 use Rattle.icmp4_wire.specs.Igmp.{view_octets}
 use Rattle.icmp4_wire.proofs.IgmpGrammar.{unread_group}
 use Rattle.icmp4_wire.proofs.igmp.refusal.why.Goals as goal

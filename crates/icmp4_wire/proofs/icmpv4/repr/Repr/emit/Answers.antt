@@ -1,5 +1,4 @@
-use Rattle.std.proofs.Common.{sym}
-use Rattle.wirebase.proofs.Chains.{lent}
+use Rattle.icmp4_wire.proofs.Words.{lent, sym}
 use Rattle.icmp4_wire.specs.Icmpv4.{value_of, Emits}
 use Rattle.icmp4_wire.proofs.icmpv4.repr.Repr.emit.Goals as goal
 

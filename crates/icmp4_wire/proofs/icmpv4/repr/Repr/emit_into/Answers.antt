@@ -1,4 +1,4 @@
-use Rattle.std.proofs.Common.{ℕ, List, ap, ◌∙◌}
+use Rattle.icmp4_wire.proofs.Words.{◌∙◌, List, ℕ, ap}
 use Rattle.icmp4_wire.specs.Icmpv4.{seal}
 use Rattle.icmp4_wire.proofs.Icmpv4Format.{message_emits}
 use Rattle.icmp4_wire.proofs.icmpv4.repr.Repr.emit_into.Goals as goal

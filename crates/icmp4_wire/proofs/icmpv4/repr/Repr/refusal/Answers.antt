@@ -1,4 +1,4 @@
-use Rattle.std.proofs.Common.{refl}
+use Rattle.icmp4_wire.proofs.Words.{refl}
 use Rattle.icmp4_wire.specs.Icmpv4.{value_of}
 use Rattle.icmp4_wire.proofs.icmpv4.repr.Repr.refusal.Goals as goal
 

@@ -1,5 +1,4 @@
-use Rattle.std.proofs.Common.{sym, arith}
-use Rattle.wirebase.proofs.Chains.{lent}
+use Rattle.icmp4_wire.proofs.Words.{arith, lent, sym}
 use Rattle.icmp4_wire.specs.Igmp.{Emits}
 use Rattle.icmp4_wire.proofs.igmp.repr.Repr.emit.Goals as goal
 
