@@ -1,10 +1,7 @@
 -- Whole addresses in bytes, taken one after another.
-use Rattle.std.proofs.Common.{◌≡◌, ℕ, zero, suc, ◌+◌, ◌-◌, ◌≤◌, ◌<◌, List, [], ◌∷◌, ◌++◌, length, take, drop}
-use Rattle.std.proofs.Common.{refl, sym, ap, ◌∙◌, arith}
-use Rattle.std.proofs.lemmas.List.{append_assoc, append-nil}
-use Rattle.wirebase.specs.Ipv4.{octets_of}
-use Rattle.wirebase.specs.declared.ipv4.Ipv4Address.{Ipv4Address}
-use Rattle.dhcp_wire.specs.Dhcpv4OptionValue.{addresses_in, first_address}
+use Rattle.dhcp_wire.proofs.Words.{[], ◌++◌, ◌+◌, ◌-◌, ◌<◌, ◌∙◌, ◌∷◌, ◌≡◌, ◌≤◌, Ipv4Address, List, ℕ, addresses_in, ap}
+use Rattle.dhcp_wire.proofs.Words.{append-nil, append_assoc, arith, drop, first_address, length, octets_of, refl, suc}
+use Rattle.dhcp_wire.proofs.Words.{sym, take, zero}
 use Rattle.dhcp_wire.proofs.Dhcpv4OptionAddresses.{addresses_short}
 
 address-more : (bytes : List ℕ) (address : Ipv4Address) → 4 ≤ length bytes → octets_of address ≡ take 4 bytes

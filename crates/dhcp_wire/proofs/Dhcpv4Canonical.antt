@@ -1,34 +1,19 @@
 -- A value that was read is canonical: it can be written again.
-use Rattle.std.proofs.Common.{◌≡◌, ℕ, suc, ◌+◌, ◌-◌, ◌≤◌, ◌<◌, ◌^◌, Bool, true, false, cond, eqb, List, []}
-use Rattle.std.proofs.Common.{◌∷◌, ◌++◌, length, take, drop, flat_map, slice_index, Option, None, Some, refl, sym, ap}
-use Rattle.std.proofs.Common.{subst}
-use Rattle.std.proofs.Common.{◌∙◌, ◌⊎◌, inl, inr, arith, length-append}
-use Rattle.std.specs.Option.{option_map, option_or}
-use Rattle.std.proofs.lemmas.List.{append-nil, take-append-drop, length-take}
-use Rattle.byteorder.specs.Endian.{big_number}
-use Rattle.byteorder.specs.Numbers.{big_from-lt}
-use Rattle.wirebase.specs.Bytes.{IsBytes, part, byte_of}
-use Rattle.wirebase.specs.ByteWriter.{be8, be16, be32}
+use Rattle.dhcp_wire.proofs.Words.{[], ◌++◌, ◌+◌, ◌-◌, ◌<◌, ◌^◌, ◌∙◌, ◌∷◌, ◌≡◌, ◌≤◌, ◌⊎◌, AllShort, AreAdditional, Bool}
+use Rattle.dhcp_wire.proofs.Words.{Ipv4Address, IsBelow, IsBytes, IsCanonical, IsFew, IsPacket, IsProper, List}
+use Rattle.dhcp_wire.proofs.Words.{MessageType, None, Option, OptionValue, Options, Some, Value, ℕ, addresses_in, ap}
+use Rattle.dhcp_wire.proofs.Words.{append-nil, arith, be16, be32, be8, big_from-lt, big_number, byte_of, case-read}
+use Rattle.dhcp_wire.proofs.Words.{cond, drop, ended, eqb, ethernet_type, false, flat_map, goes_on, inl, inr, last_of}
+use Rattle.dhcp_wire.proofs.Words.{length, length-append, length-take, lone, none, number_in, octets_of, of_slot}
+use Rattle.dhcp_wire.proofs.Words.{of_slots, op_field, option, option_map, option_or, option_text, options_of}
+use Rattle.dhcp_wire.proofs.Words.{options_text, padded, part, refl, said, servers_in, slice_index, slots_of, subst}
+use Rattle.dhcp_wire.proofs.Words.{suc, sym, take, take-append-drop, text, text_len, torn, true, type_in, with_options}
 use Rattle.wirebase.specs.Ethernet.{octets_of as ethernet_octets}
-use Rattle.wirebase.specs.Ipv4.{octets_of}
-use Rattle.wirebase.specs.Numbered.{IsProper}
-use Rattle.wirebase.specs.declared.ipv4.Ipv4Address.{Ipv4Address}
 use Rattle.wirebase.proofs.ByteParts.{IsBytes-drop, IsBytes-front, IsBytes-rest}
-use Rattle.wirebase.proofs.Numbered.{case-read}
-use Rattle.wirebase.specs.LastOf.{last_of}
 use Rattle.dhcp_wire.specs.declared.dhcpv4.option_kinds.TheConstants.{OPT_DHCP_MESSAGE_TYPE, OPT_DOMAIN_NAME_SERVER}
 use Rattle.dhcp_wire.specs.declared.dhcpv4.option_kinds.TheConstants.{OPT_IP_LEASE_TIME, OPT_MAX_DHCP_MESSAGE_SIZE}
 use Rattle.dhcp_wire.specs.declared.dhcpv4.option_kinds.TheConstants.{OPT_PARAMETER_REQUEST_LIST}
-use Rattle.dhcp_wire.specs.declared.dhcpv4.option_kinds.TheConstants.{OPT_REBINDING_TIME_VALUE}
-use Rattle.dhcp_wire.specs.declared.dhcpv4.option_kinds.TheConstants.{OPT_RENEWAL_TIME_VALUE}
-use Rattle.dhcp_wire.specs.declared.dhcpv4.tables.MessageType.{MessageType}
-use Rattle.dhcp_wire.specs.Dhcpv4.{Value, of_slot, of_slots, slots_of, options_of, options_text, text}
-use Rattle.dhcp_wire.specs.Dhcpv4.{said, number_in, servers_in, type_in, with_options, IsPacket}
-use Rattle.dhcp_wire.specs.Dhcpv4Format.{AllShort, AreAdditional, IsBelow, IsFew, IsCanonical, text_len}
-use Rattle.dhcp_wire.specs.Dhcpv4Options.{OptionValue, option, option_text, Options, none, ended, padded, lone, torn}
-use Rattle.dhcp_wire.specs.Dhcpv4Options.{goes_on}
-use Rattle.dhcp_wire.specs.Dhcpv4OptionValue.{addresses_in}
-use Rattle.dhcp_wire.specs.Dhcpv4Packet.{op_field, ethernet_type}
+use Rattle.dhcp_wire.specs.declared.dhcpv4.option_kinds.TheConstants.{OPT_REBINDING_TIME_VALUE, OPT_RENEWAL_TIME_VALUE}
 use Rattle.dhcp_wire.specs.Dhcpv4Tables.{message_number, messages, message_of, message_rows}
 use Rattle.dhcp_wire.proofs.Dhcpv4Data.{octets-len, be16-len, be32-len}
 use Rattle.dhcp_wire.proofs.Dhcpv4Kept.{given-last, no-additional}

@@ -1,13 +1,7 @@
 -- How many bytes the data of options take.
-use Rattle.std.proofs.Common.{◌≡◌, ℕ, ◌*◌, List, [], ◌∷◌, length, flat_map}
-use Rattle.std.proofs.Common.{refl, ap, ◌∙◌, arith, length-append}
-use Rattle.std.proofs.lemmas.Grind.{common_steps}
-use Rattle.std.proofs.lemmas.List.Concat.{flat_map-cons}
-use Rattle.wirebase.specs.ByteWriter.{Sheet, put, be8, be16, be32, fields}
-use Rattle.wirebase.specs.Ipv4.{octets_of}
-use Rattle.wirebase.specs.declared.ipv4.Ipv4Address.{Ipv4Address}
-use Rattle.wirebase.proofs.Chains.{put-append, put-fields, whole-sheet}
-use Rattle.wirebase.proofs.Pieces.{length-big_bytes}
+use Rattle.dhcp_wire.proofs.Words.{[], ◌*◌, ◌∙◌, ◌∷◌, ◌≡◌, Ipv4Address, List, Sheet, ℕ, ap, arith, be16, be32, be8}
+use Rattle.dhcp_wire.proofs.Words.{common_steps, fields, flat_map, flat_map-cons, length, length-append}
+use Rattle.dhcp_wire.proofs.Words.{length-big_bytes, octets_of, put, put-append, put-fields, refl, whole-sheet}
 
 pub be8-len : (n : ℕ) → length (be8 n) ≡ 1
 unfolding be8

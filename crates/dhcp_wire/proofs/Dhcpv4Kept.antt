@@ -1,22 +1,11 @@
 -- What the options of a packet give, one after another; and bytes have one value.
-use Rattle.std.proofs.Common.{◌≡◌, ℕ, List, [], ◌∷◌, Option, None, Some, refl, sym, ap, subst, ◌∙◌}
-use Rattle.std.specs.Option.{option_or}
-use Rattle.wirebase.specs.Bytes.{byte_of}
-use Rattle.wirebase.specs.Ethernet.{Ethernet}
-use Rattle.wirebase.specs.Ethernet.{octets_of as ethernet_octets}
-use Rattle.wirebase.specs.Ipv4.{octets_of}
-use Rattle.wirebase.specs.LastOf.{last_of}
-use Rattle.wirebase.specs.declared.ipv4.Ipv4Address.{Ipv4Address}
-use Rattle.wirebase.proofs.LastOf.{or-assoc, or-none}
+use Rattle.dhcp_wire.proofs.Words.{[], ◌∙◌, ◌∷◌, ◌≡◌, AreOfEthernet, HasHeader, Ipv4Address, IsPacket, List}
+use Rattle.dhcp_wire.proofs.Words.{MessageType, None, Option, OptionValue, Some, Value, ℕ, ap, byte_of, ethernet_at}
+use Rattle.dhcp_wire.proofs.Words.{first_address, fixed_value, given, last_of, list_of, octets_of, op_field, option_or}
+use Rattle.dhcp_wire.proofs.Words.{options_in, or-assoc, or-none, refl, said, subst, sym, type_among, with_options}
+use Rattle.wirebase.specs.Ethernet.{Ethernet, octets_of as ethernet_octets}
 use Rattle.wirebase.proofs.Numbered.{number-case_in}
-use Rattle.dhcp_wire.specs.declared.dhcpv4.tables.MessageType.{MessageType}
 use Rattle.dhcp_wire.specs.declared.dhcpv4.tables.OpCode.{OpCode}
-use Rattle.dhcp_wire.specs.Dhcpv4.{Value, HasHeader, IsPacket, AreOfEthernet, said, type_among, given}
-use Rattle.dhcp_wire.specs.Dhcpv4.{with_options, ethernet_at, fixed_value}
-use Rattle.dhcp_wire.specs.Dhcpv4Options.{OptionValue}
-use Rattle.dhcp_wire.specs.Dhcpv4OptionsAhead.{list_of}
-use Rattle.dhcp_wire.specs.Dhcpv4OptionValue.{first_address}
-use Rattle.dhcp_wire.specs.Dhcpv4Packet.{op_field, options_in}
 use Rattle.dhcp_wire.specs.Dhcpv4Tables.{opcode_number, opcode_of}
 use Rattle.dhcp_wire.proofs.Dhcpv4Lists.{list-options, options-unique}
 

@@ -1,18 +1,12 @@
 -- The format of DHCP packets: their bytes have one value, which is canonical, and what was written is read back.
-use Rattle.std.proofs.Common.{◌≡◌, ◌≢◌, ◌↔◌, IsOk, ℕ, ◌≤◌, List, [], ◌∷◌, ◌++◌, length, drop}
-use Rattle.std.proofs.Common.{Result, Ok, Err}
-use Rattle.std.proofs.Common.{OnOk, is_ok, true}
-use Rattle.std.proofs.Common.{refl, sym, ap, subst, ◌∙◌, arith, length-append}
-use Rattle.std.proofs.lemmas.List.{append_assoc}
+use Rattle.dhcp_wire.proofs.Words.{[], ◌++◌, ◌↔◌, ◌∙◌, ◌∷◌, ◌≡◌, ◌≢◌, ◌≤◌, AllShort, Emits, Err, Error, IsCanonical}
+use Rattle.dhcp_wire.proofs.Words.{IsFormat, IsOk, IsPacket, List, Ok, OnOk, OptionValue, Result, Value, ℕ, ap}
+use Rattle.dhcp_wire.proofs.Words.{append_assoc, arith, drop, format, header_text, is_ok, length, length-append, norm}
+use Rattle.dhcp_wire.proofs.Words.{of_slots, option_text, options_of, options_text, over, over-exact, over-fits, refl}
+use Rattle.dhcp_wire.proofs.Words.{round_trips, same_text, slots_of, subst, sym, text, true}
 use Rattle.std.proofs.lemmas.Result.{on_ok_weaker}
-use Rattle.wirebase.specs.Bytes.{over}
 use Rattle.wirebase.specs.Format.{SameText}
-use Rattle.wirebase.specs.declared.error.Error.{Error}
-use Rattle.wirebase.proofs.Format.{IsFormat, round_trips, same_text}
-use Rattle.wirebase.proofs.Pieces.{over-fits, over-exact}
-use Rattle.dhcp_wire.specs.Dhcpv4.{Value, of_slots, slots_of, options_of, options_text, header_text, text, IsPacket}
-use Rattle.dhcp_wire.specs.Dhcpv4Format.{AllShort, CanEmit, IsCanonical, norm, format, Emits}
-use Rattle.dhcp_wire.specs.Dhcpv4Options.{OptionValue, option_text}
+use Rattle.dhcp_wire.specs.Dhcpv4Format.{CanEmit}
 use Rattle.dhcp_wire.proofs.Dhcpv4Canonical.{canonical-read}
 use Rattle.dhcp_wire.proofs.Dhcpv4Packet.{Emitted}
 use Rattle.dhcp_wire.proofs.Dhcpv4Lengths.{text_len-options, text_len-whole}

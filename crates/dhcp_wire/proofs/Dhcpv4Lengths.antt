@@ -1,11 +1,8 @@
 -- How many bytes a value takes.
-use Rattle.std.proofs.Common.{◌≡◌, ℕ, ◌+◌, List, [], ◌∷◌, ◌++◌, length, Option, None, Some}
-use Rattle.std.proofs.Common.{refl, sym, ap, ◌∙◌, arith, length-append}
-use Rattle.std.proofs.lemmas.Grind.{common_steps}
-use Rattle.dhcp_wire.specs.Dhcpv4.{Value, Slot, of_slot, of_slots, slots_of, options_of, options_text, header_text}
-use Rattle.dhcp_wire.specs.Dhcpv4.{text}
-use Rattle.dhcp_wire.specs.Dhcpv4Format.{data_len, slots_len, fields_len, options_len, text_len}
-use Rattle.dhcp_wire.specs.Dhcpv4Options.{OptionValue, option, option_text}
+use Rattle.dhcp_wire.proofs.Words.{[], ◌++◌, ◌+◌, ◌∙◌, ◌∷◌, ◌≡◌, List, None, Option, OptionValue, Slot, Some, Value, ℕ}
+use Rattle.dhcp_wire.proofs.Words.{ap, arith, common_steps, data_len, fields_len, header_text, length, length-append}
+use Rattle.dhcp_wire.proofs.Words.{of_slot, of_slots, option, option_text, options_len, options_of, options_text, refl}
+use Rattle.dhcp_wire.proofs.Words.{slots_len, slots_of, sym, text, text_len}
 use Rattle.dhcp_wire.proofs.Dhcpv4Packet.{header_len-240}
 
 pub text_len-options : (v : Value) → length (text v) ≡ 240 + (length (options_text (options_of v)) + 1)

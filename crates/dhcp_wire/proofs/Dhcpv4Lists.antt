@@ -1,15 +1,12 @@
 -- The list of the options in bytes: there is one, and it is as it is computed.
-use Rattle.std.proofs.Common.{◌≡◌, ◌≢◌, ℕ, zero, suc, ◌≤◌, ◌<◌, true, false, eqb, ltb, List, [], ◌∷◌}
-use Rattle.std.proofs.Common.{◌++◌, length, take, drop, slice_index, Some, refl, sym, ap, subst, ◌∙◌, inl, inr, ◌⊎◌}
-use Rattle.std.proofs.Common.{arith, length-append, length-drop}
-use Rattle.std.proofs.lemmas.Bool.{le-ltb, lt-ltb, ne_eqb, cases_lt, cases_eq}
-use Rattle.std.proofs.lemmas.List.{take-append-drop, take_at, drop_at, length-take-le}
+use Rattle.dhcp_wire.proofs.Words.{[], ◌++◌, ◌<◌, ◌∙◌, ◌∷◌, ◌≡◌, ◌≢◌, ◌≤◌, ◌⊎◌, HasNoPadding, IsKind, List, OptionValue}
+use Rattle.dhcp_wire.proofs.Words.{Options, Some, ℕ, ap, arith, cases_eq, cases_lt, drop, drop_at, ended, eqb, false}
+use Rattle.dhcp_wire.proofs.Words.{goes_on, inl, inr, le-ltb, length, length-append, length-drop, length-take-le}
+use Rattle.dhcp_wire.proofs.Words.{list_of, lone, lt-ltb, ltb, ne_eqb, none, option, padded, refl, slice_index, subst}
+use Rattle.dhcp_wire.proofs.Words.{suc, sym, take, take-append-drop, take_at, torn, true, value_of_option, zero}
 use Rattle.std.specs.Iterator.{MakesProgress, at_most}
 use Rattle.dhcp_wire.specs.declared.dhcpv4.options.DhcpOption.{DhcpOption}
-use Rattle.dhcp_wire.specs.Dhcpv4Options.{OptionValue, value_of_option, option, IsKind, Options, none}
-use Rattle.dhcp_wire.specs.Dhcpv4Options.{ended, padded, lone, torn, goes_on}
-use Rattle.dhcp_wire.specs.Dhcpv4OptionsAhead.{after_kind, counted, options_within, list_of}
-use Rattle.dhcp_wire.specs.Dhcpv4Options.{HasNoPadding}
+use Rattle.dhcp_wire.specs.Dhcpv4OptionsAhead.{after_kind, counted, options_within}
 
 -- a kind that data follows
 at_kind : (most kind : ℕ) (rest : List ℕ) → IsKind kind → options_within (suc most) (kind ∷ rest)

@@ -1,8 +1,7 @@
 -- The addresses in bytes.
-use Rattle.std.proofs.Common.{◌≡◌, ℕ, ◌≤◌, ◌<◌, List, [], ◌∷◌, length, drop, Some, refl, ap, arith}
+use Rattle.dhcp_wire.proofs.Words.{[], ◌<◌, ◌∷◌, ◌≡◌, ◌≤◌, Ipv4Address, List, Some, ℕ, addresses_in, ap, arith, drop}
+use Rattle.dhcp_wire.proofs.Words.{first_address, length, refl}
 use Rattle.std.specs.Iterator.{MakesProgress, at_most}
-use Rattle.wirebase.specs.declared.ipv4.Ipv4Address.{Ipv4Address}
-use Rattle.dhcp_wire.specs.Dhcpv4OptionValue.{addresses_in, first_address}
 
 pub addresses_short : (bytes : List ℕ) → length bytes < 4 → addresses_in bytes ≡ []
 unfolding addresses_in

@@ -1,17 +1,11 @@
 -- A packet as it is written: the header, and the options after it.
-use Rattle.std.proofs.Common.{◌≡◌, ℕ, ◌+◌, ◌-◌, ◌≤◌, ◌↔◌, List, [], ◌∷◌, ◌++◌, length, take, drop, IsOk, OnOk, OnErr}
-use Rattle.std.proofs.Common.{Result, Ok, Err, refl, sym, ap, subst, ◌∙◌, arith, length-append, length-drop}
-use Rattle.std.proofs.lemmas.List.{append_assoc, append-nil, drop-drop, drop_all, take_all}
-use Rattle.wirebase.specs.Bytes.{over}
-use Rattle.wirebase.specs.ByteWriter.{Writer, Sheet, sheet, written, free as free_bytes, blank, put, put_all, be8, be16}
-use Rattle.wirebase.specs.ByteWriter.{be32, fields, Puts, IsBlank}
-use Rattle.wirebase.specs.declared.error.Error.{Error}
-use Rattle.wirebase.proofs.Chains.{put-fields, whole-sheet}
-use Rattle.wirebase.proofs.Pieces.{over-fits}
-use Rattle.dhcp_wire.specs.Dhcpv4.{Value, options_of, options_text, header_fields, header_text}
-use Rattle.dhcp_wire.specs.Dhcpv4Writing.{WritesOptions}
-use Rattle.dhcp_wire.specs.Dhcpv4Format.{texts_before, AllShort}
-use Rattle.dhcp_wire.specs.Dhcpv4Options.{OptionValue}
+use Rattle.dhcp_wire.proofs.Words.{[], ◌++◌, ◌+◌, ◌-◌, ◌↔◌, ◌∙◌, ◌∷◌, ◌≡◌, ◌≤◌, AllShort, Err, Error, IsBlank, IsOk}
+use Rattle.dhcp_wire.proofs.Words.{List, Ok, OnErr, OnOk, OptionValue, Puts, Result, Sheet, Value, Writer}
+use Rattle.dhcp_wire.proofs.Words.{WritesOptions, ℕ, ap, append-nil, append_assoc, arith, be16, be32, be8, drop}
+use Rattle.dhcp_wire.proofs.Words.{drop-drop, drop_all, fields, header_fields, header_text, length, length-append}
+use Rattle.dhcp_wire.proofs.Words.{length-drop, options_of, options_text, over, over-fits, put, put-fields, refl, sheet}
+use Rattle.dhcp_wire.proofs.Words.{subst, sym, take, take_all, texts_before, whole-sheet}
+use Rattle.wirebase.specs.ByteWriter.{written, free as free_bytes, blank, put_all}
 use Rattle.dhcp_wire.proofs.Dhcpv4Writing.{length-before}
 
 pub header_len-240 : (v : Value) → length (header_text v) ≡ 240

@@ -1,16 +1,10 @@
 -- Padding that is passed over eight octets at a time.
-use Rattle.std.proofs.Common.{◌≡◌, ◌≢◌, ℕ, zero, suc, ◌+◌, ◌-◌, ◌*◌, ◌/◌, ◌^◌, ◌≤◌, ◌<◌, List, [], ◌∷◌, length}
-use Rattle.std.proofs.Common.{take, drop, refl, sym, ap, subst, ◌∙◌, inl, inr, arith}
-use Rattle.std.proofs.lemmas.Bool.{cases_lt}
-use Rattle.std.proofs.lemmas.List.{take_rest}
+use Rattle.dhcp_wire.proofs.Words.{[], ◌*◌, ◌+◌, ◌-◌, ◌/◌, ◌<◌, ◌^◌, ◌∙◌, ◌∷◌, ◌≡◌, ◌≢◌, ◌≤◌, HasNoPadding, IsBytes}
+use Rattle.dhcp_wire.proofs.Words.{List, ℕ, ap, arith, cases_lt, drop, inl, inr, length, list_of, little_from-cons}
+use Rattle.dhcp_wire.proofs.Words.{little_from-lt, little_number, refl, subst, suc, sym, take, take_rest, zero}
 use Rattle.std.proofs.lemmas.Nat.Bits.{bit_at-zero, bit_at_cat_low, bit_at_cat_high, same_from_bits_below}
 use Rattle.std.proofs.lemmas.Nat.Bits.{bit_at-trailing_zeros}
 use Rattle.std.specs.Int.{w64, bit_at, trailing_zeros}
-use Rattle.byteorder.specs.Endian.{little_number}
-use Rattle.byteorder.specs.Numbers.{little_from-cons, little_from-lt}
-use Rattle.wirebase.specs.Bytes.{IsBytes}
-use Rattle.dhcp_wire.specs.Dhcpv4Options.{HasNoPadding}
-use Rattle.dhcp_wire.specs.Dhcpv4OptionsAhead.{list_of}
 use Rattle.dhcp_wire.proofs.Dhcpv4Lists.{list-padding}
 
 -- a number by its lowest octet

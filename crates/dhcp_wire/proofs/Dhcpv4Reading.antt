@@ -1,38 +1,22 @@
 -- What was written is read back: the options of a text, and the last option of each kind.
-use Rattle.std.proofs.Common.{◌≡◌, ◌≢◌, ℕ, ◌^◌, Bool, true, false, cond, eqb, ◌==◌, ◌&&◌, List, [], ◌∷◌}
-use Rattle.std.proofs.Common.{◌++◌, take, drop, flat_map, Option, None, Some, if◌then◌else◌, inl, inr}
-use Rattle.std.proofs.Common.{refl, sym, ap, subst, ◌∙◌, arith, length-append}
-use Rattle.std.specs.Option.{option_map, option_or}
-use Rattle.std.proofs.lemmas.Bool.{ne_eqb, cases_eq}
-use Rattle.std.proofs.lemmas.List.{append_assoc, drop_at, take_all}
-use Rattle.std.proofs.lemmas.List.Concat.{flat_map-cons}
-use Rattle.byteorder.specs.Endian.{big_number, big_bytes}
-use Rattle.byteorder.specs.Numbers.{big_number-reads_back}
-use Rattle.wirebase.specs.Bytes.{part, byte_of}
-use Rattle.wirebase.specs.ByteWriter.{be8, be16, be32, fields}
-use Rattle.wirebase.specs.Ethernet.{Ethernet}
-use Rattle.wirebase.specs.Ethernet.{octets_of as ethernet_octets}
-use Rattle.wirebase.specs.Ipv4.{octets_of}
-use Rattle.wirebase.specs.LastOf.{last_of}
-use Rattle.wirebase.specs.Numbered.{IsProper}
-use Rattle.wirebase.specs.declared.ipv4.Ipv4Address.{Ipv4Address}
-use Rattle.wirebase.proofs.LastOf.{or-assoc, or-none}
-use Rattle.wirebase.proofs.Numbered.{case_in-unnamed}
+use Rattle.dhcp_wire.proofs.Words.{[], ◌&&◌, ◌++◌, ◌==◌, ◌^◌, ◌∙◌, ◌∷◌, ◌≡◌, ◌≢◌, AreAdditional, AreOfEthernet, Bool}
+use Rattle.dhcp_wire.proofs.Words.{HasHeader, Ipv4Address, IsBelow, IsCanonical, IsFew, IsKind, IsOfEthernet, IsOther}
+use Rattle.dhcp_wire.proofs.Words.{IsPacket, IsProper, List, MessageType, None, Option, OptionValue, Options, Slot}
+use Rattle.dhcp_wire.proofs.Words.{Some, Value, ℕ, address_in, addresses_in, ap, append_assoc, arith, be16, be32, be8}
+use Rattle.dhcp_wire.proofs.Words.{big_bytes, big_number, big_number-reads_back, byte_of, case_in-unnamed, cases_eq}
+use Rattle.dhcp_wire.proofs.Words.{cond, drop, drop_at, ended, eqb, ethernet_type, false, fields, fixed_value, flags_of}
+use Rattle.dhcp_wire.proofs.Words.{flat_map, flat_map-cons, goes_on, has_broadcast, header_text, identifier_in}
+use Rattle.dhcp_wire.proofs.Words.{if◌then◌else◌, inl, inr, last_of, length-append, ne_eqb, norm, number_in, octets_of}
+use Rattle.dhcp_wire.proofs.Words.{of_slot, of_slots, op_field, option, option_map, option_or, option_text, options_of}
+use Rattle.dhcp_wire.proofs.Words.{options_text, or-assoc, or-none, part, refl, said, servers_in, slots_of, subst, sym}
+use Rattle.dhcp_wire.proofs.Words.{take, take_all, true, type_among, type_in, with_options}
+use Rattle.wirebase.specs.Ethernet.{Ethernet, octets_of as ethernet_octets}
 use Rattle.dhcp_wire.specs.declared.dhcpv4.option_kinds.TheConstants.{OPT_CLIENT_ID, OPT_DHCP_MESSAGE_TYPE}
 use Rattle.dhcp_wire.specs.declared.dhcpv4.option_kinds.TheConstants.{OPT_DOMAIN_NAME_SERVER, OPT_IP_LEASE_TIME}
 use Rattle.dhcp_wire.specs.declared.dhcpv4.option_kinds.TheConstants.{OPT_MAX_DHCP_MESSAGE_SIZE, OPT_REQUESTED_IP}
 use Rattle.dhcp_wire.specs.declared.dhcpv4.option_kinds.TheConstants.{OPT_PARAMETER_REQUEST_LIST, OPT_ROUTER}
 use Rattle.dhcp_wire.specs.declared.dhcpv4.option_kinds.TheConstants.{OPT_REBINDING_TIME_VALUE, OPT_SUBNET_MASK}
 use Rattle.dhcp_wire.specs.declared.dhcpv4.option_kinds.TheConstants.{OPT_RENEWAL_TIME_VALUE, OPT_SERVER_IDENTIFIER}
-use Rattle.dhcp_wire.specs.declared.dhcpv4.tables.MessageType.{MessageType}
-use Rattle.dhcp_wire.specs.Dhcpv4.{Value, Slot, of_slot, of_slots, slots_of, options_of, options_text, header_text}
-use Rattle.dhcp_wire.specs.Dhcpv4.{flags_of, said, number_in, address_in, identifier_in, servers_in, type_in}
-use Rattle.dhcp_wire.specs.Dhcpv4.{type_among, with_options, fixed_value, IsOfEthernet, AreOfEthernet, has_broadcast}
-use Rattle.dhcp_wire.specs.Dhcpv4.{HasHeader, IsPacket}
-use Rattle.dhcp_wire.specs.Dhcpv4Format.{IsOther, AreAdditional, IsBelow, IsFew, IsCanonical, norm}
-use Rattle.dhcp_wire.specs.Dhcpv4Options.{OptionValue, option, option_text, IsKind, Options, ended, goes_on}
-use Rattle.dhcp_wire.specs.Dhcpv4OptionValue.{addresses_in}
-use Rattle.dhcp_wire.specs.Dhcpv4Packet.{op_field, ethernet_type}
 use Rattle.dhcp_wire.specs.Dhcpv4Tables.{opcode_number, operation_of, message_number, message_rows}
 use Rattle.dhcp_wire.proofs.Dhcpv4Packet.{header_len-240}
 use Rattle.dhcp_wire.proofs.Dhcpv4Writing.{both}

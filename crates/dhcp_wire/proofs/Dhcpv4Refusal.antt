@@ -1,11 +1,9 @@
 -- How options end, by what the bytes begin with.
-use Rattle.std.proofs.Common.{◌≡◌, ◌≢◌, ℕ, ◌≤◌, ◌<◌, List, [], ◌∷◌, ◌++◌, length, take, drop, Option, None, Some}
-use Rattle.std.proofs.Common.{refl, sym, ap, subst, ◌∙◌, arith, ◌↔◌, IsNone, IsSome}
-use Rattle.std.specs.Prelude.{Result, Ok, Err, OnOk, OnErr, is_err, is_some, true, false}
-use Rattle.std.proofs.lemmas.List.{take-append-drop, length-take-le}
-use Rattle.dhcp_wire.specs.Dhcpv4Options.{option}
-use Rattle.dhcp_wire.specs.Dhcpv4Refusal.{Ends, with_bytes, with_mark, before_length, within_data, past_padding}
-use Rattle.dhcp_wire.specs.Dhcpv4Refusal.{past_option}
+use Rattle.dhcp_wire.proofs.Words.{[], ◌++◌, ◌<◌, ◌↔◌, ◌∙◌, ◌∷◌, ◌≡◌, ◌≢◌, ◌≤◌, Ends, Err, IsNone, IsSome, List, None}
+use Rattle.dhcp_wire.proofs.Words.{Ok, OnErr, OnOk, Option, Result, Some, ℕ, ap, arith, drop, false, length}
+use Rattle.dhcp_wire.proofs.Words.{length-take-le, option, refl, subst, sym, take, take-append-drop, true}
+use Rattle.std.specs.Prelude.{is_err, is_some}
+use Rattle.dhcp_wire.specs.Dhcpv4Refusal.{with_bytes, with_mark, before_length, within_data, past_padding, past_option}
 
 pub ends-none : (bytes : List ℕ) → length bytes ≡ 0 → Ends bytes None
 ends-none [] e = with_bytes

@@ -1,10 +1,8 @@
 -- The text before the first zero of a field.
-use Rattle.std.proofs.Common.{◌≡◌, ◌≢◌, ℕ, suc, ◌+◌, ◌<◌, List, [], ◌∷◌, ◌++◌, length, take, drop, get_or, refl, sym}
-use Rattle.std.proofs.Common.{ap, subst, ◌∙◌, arith, add-one, drop-cons}
+use Rattle.dhcp_wire.proofs.Words.{[], ◌++◌, ◌+◌, ◌<◌, ◌∙◌, ◌∷◌, ◌≡◌, ◌≢◌, HasNoZero, IsTextIn, IsUtf8, List, ℕ}
+use Rattle.dhcp_wire.proofs.Words.{add-one, ap, arith, drop, drop-cons, get_or, length, length-take-le, refl, subst}
+use Rattle.dhcp_wire.proofs.Words.{suc, sym, take, take-append-drop}
 use Rattle.std.proofs.Math.Seq.{take-suc}
-use Rattle.std.proofs.lemmas.List.{take-append-drop, length-take-le}
-use Rattle.std.specs.Str.{IsUtf8}
-use Rattle.dhcp_wire.specs.Dhcpv4Packet.{HasNoZero, IsTextIn}
 
 no_zero-append : (a b : List ℕ) → HasNoZero a → HasNoZero b → HasNoZero (a ++ b)
 no_zero-append [] b h k = k

@@ -1,14 +1,8 @@
 -- Lemmas for a writer of options.
-use Rattle.std.proofs.Common.{◌≡◌, ℕ, ◌+◌, ◌≤◌, List, [], ◌∷◌, length, drop}
-use Rattle.std.proofs.Common.{refl, sym, ap, ◌∙◌, arith}
-use Rattle.std.proofs.lemmas.Grind.{common_steps}
-use Rattle.std.proofs.lemmas.List.{append-nil}
+use Rattle.dhcp_wire.proofs.Words.{[], ◌+◌, ◌∙◌, ◌∷◌, ◌≡◌, ◌≤◌, IsBlank, List, OptionValue, Puts, Writer, ℕ, ap}
+use Rattle.dhcp_wire.proofs.Words.{append-nil, arith, be8, common_steps, drop, fields, length, option_text, over}
+use Rattle.dhcp_wire.proofs.Words.{over-exact, over-fits, over-puts, refl, sym}
 use Rattle.std.proofs.lemmas.Slice.{take-put_mid, drop-put_mid}
-use Rattle.wirebase.specs.Bytes.{over}
-use Rattle.wirebase.specs.ByteWriter.{Writer, be8, fields, IsBlank, Puts}
-use Rattle.wirebase.proofs.Chains.{over-puts}
-use Rattle.wirebase.proofs.Pieces.{over-exact, over-fits}
-use Rattle.dhcp_wire.specs.Dhcpv4Options.{OptionValue, option_text}
 
 -- an option, field by field
 option-fields : (o : OptionValue) → fields (be8 o.kind ∷ be8 (length o.body) ∷ o.body ∷ []) ≡ option_text o

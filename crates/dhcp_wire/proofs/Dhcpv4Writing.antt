@@ -1,18 +1,13 @@
 -- Options written one after another, as far as there is room.
-use Rattle.std.proofs.Common.{◌≡◌, ℕ, ◌+◌, ◌-◌, ◌≤◌, ◌<◌, ◌↔◌, Bool, true, false, ◌&&◌, cond, List, [], ◌∷◌}
-use Rattle.std.proofs.Common.{◌++◌, length, drop, IsOk, OnOk, OnErr, is_ok, Option, None, Some, Result, Ok, Err}
-use Rattle.std.proofs.Common.{refl, sym, ap, subst, ◌∙◌, arith, length-append, length-drop}
+use Rattle.dhcp_wire.proofs.Words.{[], ◌&&◌, ◌++◌, ◌+◌, ◌-◌, ◌<◌, ◌↔◌, ◌∙◌, ◌∷◌, ◌≡◌, ◌≤◌, AllShort, Bool, Err, Error}
+use Rattle.dhcp_wire.proofs.Words.{IsOk, List, None, Ok, OnErr, OnOk, Option, OptionValue, Result, Slot, Some, Value}
+use Rattle.dhcp_wire.proofs.Words.{WritesOptions, ℕ, ap, append-nil, append_assoc, arith, common_steps, cond, drop}
+use Rattle.dhcp_wire.proofs.Words.{drop-drop, false, fits, is_ok, length, length-append, length-drop, of_slot, of_slots}
+use Rattle.dhcp_wire.proofs.Words.{option, option_text, options_of, options_text, over-fits, progress, refl, slot}
+use Rattle.dhcp_wire.proofs.Words.{slots_of, step_all, step_slot, subst, sym, texts_before, true}
 use Rattle.std.proofs.lemmas.Bool.Decides.{nat_tests}
-use Rattle.std.proofs.lemmas.Grind.{common_steps}
-use Rattle.std.proofs.lemmas.List.{append_assoc, append-nil, drop-drop}
-use Rattle.wirebase.specs.declared.error.Error.{Error}
-use Rattle.wirebase.proofs.Pieces.{over-fits}
 use Rattle.dhcp_wire.specs.declared.dhcpv4.options.DhcpOptionWriter.{DhcpOptionWriter}
-use Rattle.dhcp_wire.specs.Dhcpv4.{Value, Slot, slot, of_slot, of_slots, slots_of, options_of, options_text}
-use Rattle.dhcp_wire.specs.Dhcpv4Format.{fits, texts_before, AllShort}
-use Rattle.dhcp_wire.specs.Dhcpv4Writing.{Progress, at, progress, WritesOptions, fitted, step}
-use Rattle.dhcp_wire.specs.Dhcpv4Writing.{slot_step, step_slot, steps, step_all}
-use Rattle.dhcp_wire.specs.Dhcpv4Options.{OptionValue, option, option_text}
+use Rattle.dhcp_wire.specs.Dhcpv4Writing.{Progress, at, fitted, step, slot_step, steps}
 use Rattle.dhcp_wire.specs.Dhcpv4Writer.{Fits, IsUnchanged, settled, free}
 
 -- ---- after a refusal

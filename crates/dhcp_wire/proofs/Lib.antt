@@ -13,3 +13,4 @@ pub mod Dhcpv4Refusal
 pub mod Dhcpv4Text
 pub mod Dhcpv4Writes
 pub mod Dhcpv4Writing
+pub mod Words

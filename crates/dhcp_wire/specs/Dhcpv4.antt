@@ -1,17 +1,13 @@
 -- The content of a DHCP packet: its value, its text, and the grammar that reads it (RFC 2131, RFC 2132).
-use Rattle.std.specs.Prelude.{◌≡◌, ℕ, ◌==◌, ◌&&◌, Bool, true, false, List, [], ◌∷◌, ◌++◌, length, take, drop}
-use Rattle.std.specs.Prelude.{map, flat_map, replicate, slice_index, if◌then◌else◌, Option, None, Some}
+use Rattle.std.specs.Prelude.{◌≡◌, ℕ, ◌==◌, ◌&&◌, Bool, true, false, List, [], ◌∷◌, ◌++◌, length, take, drop, map}
+use Rattle.std.specs.Prelude.{flat_map, replicate, slice_index, if◌then◌else◌, Option, None, Some}
 use Rattle.std.specs.Option.{option_map, option_or}
 use Rattle.std.specs.Int.RustNames.{bit_and}
 use Rattle.byteorder.specs.Endian.{big_number}
-use Rattle.wirebase.specs.Bytes.{Reaches, byte_of, bytes_of, number_of}
+use Rattle.dhcp_wire.specs.Words.{Ipv4Address, MessageType, Reaches, byte_of, bytes_of, last_of, number_of, octets_of}
 use Rattle.wirebase.specs.ByteWriter.{be8, be16, be32, fields}
-use Rattle.wirebase.specs.Ethernet.{Ethernet}
-use Rattle.wirebase.specs.Ethernet.{octets_of as ethernet_octets}
+use Rattle.wirebase.specs.Ethernet.{Ethernet, octets_of as ethernet_octets}
 use Rattle.wirebase.specs.HardwareAddress.{ethernet_of}
-use Rattle.wirebase.specs.Ipv4.{octets_of}
-use Rattle.wirebase.specs.LastOf.{last_of}
-use Rattle.wirebase.specs.declared.ipv4.Ipv4Address.{Ipv4Address}
 use Rattle.dhcp_wire.specs.declared.dhcpv4.option_kinds.TheConstants.{OPT_CLIENT_ID, OPT_DHCP_MESSAGE_TYPE}
 use Rattle.dhcp_wire.specs.declared.dhcpv4.option_kinds.TheConstants.{OPT_DOMAIN_NAME_SERVER, OPT_IP_LEASE_TIME}
 use Rattle.dhcp_wire.specs.declared.dhcpv4.option_kinds.TheConstants.{OPT_MAX_DHCP_MESSAGE_SIZE, OPT_REQUESTED_IP}
@@ -19,7 +15,6 @@ use Rattle.dhcp_wire.specs.declared.dhcpv4.option_kinds.TheConstants.{OPT_PARAME
 use Rattle.dhcp_wire.specs.declared.dhcpv4.option_kinds.TheConstants.{OPT_REBINDING_TIME_VALUE, OPT_SUBNET_MASK}
 use Rattle.dhcp_wire.specs.declared.dhcpv4.option_kinds.TheConstants.{OPT_RENEWAL_TIME_VALUE, OPT_SERVER_IDENTIFIER}
 use Rattle.dhcp_wire.specs.declared.dhcpv4.repr.Repr.{Repr}
-use Rattle.dhcp_wire.specs.declared.dhcpv4.tables.MessageType.{MessageType}
 use Rattle.dhcp_wire.specs.Dhcpv4Options.{OptionValue, option, option_text, value_of_option, Options}
 use Rattle.dhcp_wire.specs.Dhcpv4OptionValue.{addresses_in, first_address}
 use Rattle.dhcp_wire.specs.Dhcpv4Packet.{op_field, htype_field, hlen_field, xid_field, secs_field, flags_field}

@@ -1,17 +1,10 @@
 -- The printed texts of packets of DHCP and their parts.
-use Rattle.std.specs.Prelude.{ℕ, Bool, true, false, List, [], ◌∷◌, ◌++◌, codes, decimal, length, flat_map}
-use Rattle.std.specs.Prelude.{Option, None, Some, ◌==◌, if◌then◌else◌}
+use Rattle.std.specs.Prelude.{ℕ, Bool, true, false, List, [], ◌∷◌, ◌++◌, codes, decimal, length, flat_map, Option, None}
+use Rattle.std.specs.Prelude.{Some, ◌==◌, if◌then◌else◌}
 use Rattle.std.specs.Int.RustNames.{bit_and}
 use Rattle.std.specs.Option.{option_map}
-use Rattle.wirebase.specs.Ethernet.{Ethernet}
-use Rattle.wirebase.specs.Hexadecimal.{hex_colons}
-use Rattle.wirebase.specs.Ethernet.{octets_of as ethernet_octets}
-use Rattle.wirebase.specs.Ipv4.{address_text}
-use Rattle.wirebase.specs.Display.{pieces}
-use Rattle.dhcp_wire.specs.declared.dhcpv4.tables.MessageType.{MessageType}
-use Rattle.dhcp_wire.specs.declared.dhcpv4.tables.MessageType.TheVariants as message
-use Rattle.dhcp_wire.specs.declared.dhcpv4.tables.OpCode.{OpCode}
-use Rattle.dhcp_wire.specs.declared.dhcpv4.tables.OpCode.TheVariants as opcode
+use Rattle.dhcp_wire.specs.Words.{MessageType, OpCode, address_text, hex_colons, pieces}
+use Rattle.wirebase.specs.Ethernet.{Ethernet, octets_of as ethernet_octets}
 use Rattle.dhcp_wire.specs.Dhcpv4.{Value}
 use Rattle.dhcp_wire.specs.Dhcpv4Tables.{broadcast_bit}
 
@@ -21,21 +14,21 @@ unknown_display n = pieces (codes "unknown " ∷ decimal n ∷ [])
 
 -- an operation (RFC 2131 section 2)
 abbrev pub opcode_display : OpCode → List ℕ
-opcode_display opcode.Request = codes "BOOTREQUEST"
-opcode_display opcode.Reply = codes "BOOTREPLY"
-opcode_display (opcode.Unknown n) = unknown_display n
+opcode_display OpCode.Request = codes "BOOTREQUEST"
+opcode_display OpCode.Reply = codes "BOOTREPLY"
+opcode_display (OpCode.Unknown n) = unknown_display n
 
 -- a type of message (RFC 2132 section 9.6)
 abbrev pub message_display : MessageType → List ℕ
-message_display message.Discover = codes "DISCOVER"
-message_display message.Offer = codes "OFFER"
-message_display message.Request = codes "REQUEST"
-message_display message.Decline = codes "DECLINE"
-message_display message.Ack = codes "ACK"
-message_display message.Nak = codes "NAK"
-message_display message.Release = codes "RELEASE"
-message_display message.Inform = codes "INFORM"
-message_display (message.Unknown n) = unknown_display n
+message_display MessageType.Discover = codes "DISCOVER"
+message_display MessageType.Offer = codes "OFFER"
+message_display MessageType.Request = codes "REQUEST"
+message_display MessageType.Decline = codes "DECLINE"
+message_display MessageType.Ack = codes "ACK"
+message_display MessageType.Nak = codes "NAK"
+message_display MessageType.Release = codes "RELEASE"
+message_display MessageType.Inform = codes "INFORM"
+message_display (MessageType.Unknown n) = unknown_display n
 
 -- the flag that has a name (RFC 2131 section 2), or a line where it is not set
 abbrev pub flags_display : ℕ → List ℕ

@@ -1,12 +1,8 @@
 -- The result of writing a DHCP packet, and the format: which values their own text gives back, and as which values.
 use Rattle.std.specs.Prelude.{◌≡◌, ◌≢◌, ℕ, ◌+◌, ◌-◌, ◌≤◌, ◌<◌, ◌^◌, ◌↔◌, Bool, nat_le, ◌&&◌, List, [], ◌∷◌, ◌++◌}
 use Rattle.std.specs.Prelude.{length, if◌then◌else◌, Option, None, Some, Result, IsOk, OnOk, OnErr}
-use Rattle.wirebase.specs.Bytes.{over}
+use Rattle.dhcp_wire.specs.Words.{Error, Ipv4Address, IsProper, MessageType, over}
 use Rattle.wirebase.specs.Format.{Format, RoundTrips}
-use Rattle.wirebase.specs.Numbered.{IsProper}
-use Rattle.wirebase.specs.declared.error.Error.{Error}
-use Rattle.wirebase.specs.declared.ipv4.Ipv4Address.{Ipv4Address}
-use Rattle.dhcp_wire.specs.declared.dhcpv4.tables.MessageType.{MessageType}
 use Rattle.dhcp_wire.specs.Dhcpv4.{Value, Slot, slots_of, text, header_text, options_of, IsPacket}
 use Rattle.dhcp_wire.specs.Dhcpv4Options.{OptionValue, option_text, IsKind}
 use Rattle.dhcp_wire.specs.Dhcpv4Tables.{message_rows}

@@ -1,9 +1,7 @@
 -- The printed texts of options.
-use Rattle.std.specs.Prelude.{ℕ, ◌==◌, ◌||◌, ◌&&◌, nat_le, if◌then◌else◌, List, [], ◌∷◌, ◌++◌, flat_map}
-use Rattle.std.specs.Prelude.{Option, None, Some, codes, decimal}
-use Rattle.wirebase.specs.Display.{pieces}
-use Rattle.wirebase.specs.Hexadecimal.{encode_lower, hex_colons}
-use Rattle.wirebase.specs.Ipv4.{address_text}
+use Rattle.std.specs.Prelude.{ℕ, ◌==◌, ◌||◌, ◌&&◌, nat_le, if◌then◌else◌, List, [], ◌∷◌, ◌++◌, flat_map, Option, None}
+use Rattle.std.specs.Prelude.{Some, codes, decimal}
+use Rattle.dhcp_wire.specs.Words.{address_text, encode_lower, hex_colons, pieces}
 use Rattle.dhcp_wire.specs.Dhcpv4Display.{commas, message_display}
 use Rattle.dhcp_wire.specs.Dhcpv4Options.{OptionValue}
 use Rattle.dhcp_wire.specs.Dhcpv4OptionTable.{name_of, format_of}

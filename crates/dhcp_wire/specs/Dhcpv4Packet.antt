@@ -31,7 +31,7 @@
 -- (*) In the RFC chaddr has 16 bytes and sname begins at byte 44; here sname begins after the 6 octets.
 use Rattle.std.specs.Prelude.{◌≡◌, ◌≢◌, ℕ, List, [], ◌∷◌, ◌++◌, drop}
 use Rattle.std.specs.Str.{IsUtf8}
-use Rattle.wirebase.specs.Bytes.{Field, field}
+use Rattle.dhcp_wire.specs.Words.{Field, field}
 use Rattle.wirebase.specs.Hardware.{hardware_number}
 use Rattle.wirebase.specs.declared.hardware.Hardware.{Hardware}
 use Rattle.dhcp_wire.specs.declared.dhcpv4.packet.Packet.{Packet}

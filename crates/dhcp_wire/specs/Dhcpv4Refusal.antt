@@ -2,17 +2,14 @@
 use Rattle.std.specs.Prelude.{◌≡◌, ◌≢◌, ℕ, ◌<◌, ◌⊎◌, List, [], ◌∷◌, ◌++◌, length, slice_index, Option, None, Some}
 use Rattle.std.specs.Prelude.{codes, decimal}
 use Rattle.std.specs.Option.{option_map}
-use Rattle.wirebase.specs.Bytes.{Reaches, byte_of, number_of}
-use Rattle.wirebase.specs.Display.{pieces}
-use Rattle.wirebase.specs.LastOf.{last_of}
+use Rattle.dhcp_wire.specs.Words.{Reaches, byte_of, last_of, number_of, pieces}
 use Rattle.dhcp_wire.specs.declared.dhcpv4.option_kinds.TheConstants.{OPT_CLIENT_ID, OPT_DHCP_MESSAGE_TYPE}
 use Rattle.dhcp_wire.specs.declared.dhcpv4.refusal.Refusal.{Refusal}
-use Rattle.dhcp_wire.specs.declared.dhcpv4.refusal.Refusal.TheVariants as refusal
 use Rattle.dhcp_wire.specs.Dhcpv4.{Value, said, type_among, IsOfEthernet, AreOfEthernet, HasHeader, IsPacket}
 use Rattle.dhcp_wire.specs.Dhcpv4Display.{message_display, opcode_display}
 use Rattle.dhcp_wire.specs.Dhcpv4Options.{OptionValue, option_text, IsKind, Options}
-use Rattle.dhcp_wire.specs.Dhcpv4Packet.{op_field, htype_field, hlen_field, magic_field, options_in}
-use Rattle.dhcp_wire.specs.Dhcpv4Packet.{ethernet_type, ethernet_len, magic_cookie}
+use Rattle.dhcp_wire.specs.Dhcpv4Packet.{op_field, htype_field, hlen_field, magic_field, options_in, ethernet_type}
+use Rattle.dhcp_wire.specs.Dhcpv4Packet.{ethernet_len, magic_cookie}
 use Rattle.dhcp_wire.specs.Dhcpv4Tables.{message_of, opcode_of}
 
 -- the octets are a packet
@@ -55,42 +52,44 @@ last_type options = last_of (said OPT_DHCP_MESSAGE_TYPE Some) options
 
 -- the octets are refused, and by this check first
 abbrev pub Refuses : List ℕ → Refusal → Type 0
-Refuses bytes refusal.Short = length bytes < 240
-Refuses bytes (refusal.HardwareType n) = Reaches magic_field bytes × (byte_of htype_field bytes ≡ n) × (n ≢ ethernet_type)
-Refuses bytes (refusal.HardwareLen n) =
-    Reaches magic_field bytes × (byte_of htype_field bytes ≡ ethernet_type) × (byte_of hlen_field bytes ≡ n) × (n ≢ ethernet_len)
-Refuses bytes refusal.MagicCookie =
+Refuses bytes Refusal.Short = length bytes < 240
+Refuses bytes (Refusal.HardwareType n) =
+    Reaches magic_field bytes × (byte_of htype_field bytes ≡ n) × (n ≢ ethernet_type)
+Refuses bytes (Refusal.HardwareLen n) =
+    Reaches magic_field bytes × (byte_of htype_field bytes ≡ ethernet_type) × (byte_of hlen_field bytes ≡ n)
+    × (n ≢ ethernet_len)
+Refuses bytes Refusal.MagicCookie =
     Reaches magic_field bytes × (byte_of htype_field bytes ≡ ethernet_type) × (byte_of hlen_field bytes ≡ ethernet_len)
     × (number_of magic_field bytes ≢ magic_cookie)
-Refuses bytes (refusal.ClientIdentifier hardware) =
+Refuses bytes (Refusal.ClientIdentifier hardware) =
     (options : List OptionValue) × HasHeader bytes × Options (options_in bytes) options
     × IsFirstOther hardware options
-Refuses bytes (refusal.Operation message op) =
+Refuses bytes (Refusal.Operation message op) =
     (options : List OptionValue) × (n : ℕ) × HasNoType bytes options × (last_type options ≡ Some (n ∷ []))
     × (message ≡ message_of n) × (op ≡ opcode_of (byte_of op_field bytes))
-Refuses bytes (refusal.MessageTypeLen n) =
+Refuses bytes (Refusal.MessageTypeLen n) =
     (options : List OptionValue) × HasNoType bytes options × (option_map length (last_type options) ≡ Some n)
     × (n ≢ 1)
-Refuses bytes (refusal.OptionCut kind) =
+Refuses bytes (Refusal.OptionCut kind) =
     (options : List OptionValue) × HasNoType bytes options × (last_type options ≡ None)
     × Ends (options_in bytes) (Some kind)
-Refuses bytes refusal.NoMessageType =
+Refuses bytes Refusal.NoMessageType =
     (options : List OptionValue) × HasNoType bytes options × (last_type options ≡ None)
     × Ends (options_in bytes) None
 
 -- the printed text of each
 abbrev pub refusal_display : Refusal → List ℕ
-refusal_display refusal.Short = codes "fewer than 240 bytes"
-refusal_display (refusal.HardwareType n) =
+refusal_display Refusal.Short = codes "fewer than 240 bytes"
+refusal_display (Refusal.HardwareType n) =
     pieces (codes "hardware type " ∷ decimal n ∷ codes " is not Ethernet" ∷ [])
-refusal_display (refusal.HardwareLen n) =
+refusal_display (Refusal.HardwareLen n) =
     pieces (codes "a hardware address has " ∷ decimal n ∷ codes " bytes, not 6" ∷ [])
-refusal_display refusal.MagicCookie = codes "the magic cookie is missing"
-refusal_display (refusal.ClientIdentifier n) =
+refusal_display Refusal.MagicCookie = codes "the magic cookie is missing"
+refusal_display (Refusal.ClientIdentifier n) =
     pieces (codes "the client identifier is of hardware type " ∷ decimal n ∷ codes ", not Ethernet" ∷ [])
-refusal_display (refusal.Operation message op) =
+refusal_display (Refusal.Operation message op) =
     pieces (codes "message type " ∷ message_display message ∷ codes " does not go with " ∷ opcode_display op ∷ [])
-refusal_display (refusal.MessageTypeLen n) =
+refusal_display (Refusal.MessageTypeLen n) =
     pieces (codes "the message type has " ∷ decimal n ∷ codes " bytes, not 1" ∷ [])
-refusal_display (refusal.OptionCut kind) = pieces (codes "option " ∷ decimal kind ∷ codes " is cut" ∷ [])
-refusal_display refusal.NoMessageType = codes "there is no message type"
+refusal_display (Refusal.OptionCut kind) = pieces (codes "option " ∷ decimal kind ∷ codes " is cut" ∷ [])
+refusal_display Refusal.NoMessageType = codes "there is no message type"

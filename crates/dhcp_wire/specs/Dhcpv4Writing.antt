@@ -2,8 +2,7 @@
 -- nothing was refused.
 use Rattle.std.specs.Prelude.{ℕ, ◌+◌, Bool, true, false, List, [], ◌∷◌, ◌++◌, length, drop, Option, None, Some, Result}
 use Rattle.std.specs.Prelude.{is_ok, ◌≡◌, ◌≤◌, ◌↔◌, IsOk, OnOk, OnErr}
-use Rattle.wirebase.specs.Bytes.{over}
-use Rattle.wirebase.specs.declared.error.Error.{Error}
+use Rattle.dhcp_wire.specs.Words.{Error, over}
 use Rattle.dhcp_wire.specs.declared.dhcpv4.options.DhcpOptionWriter.{DhcpOptionWriter}
 use Rattle.dhcp_wire.specs.Dhcpv4.{Slot, options_text}
 use Rattle.dhcp_wire.specs.Dhcpv4Format.{fits, texts_before, AllShort}

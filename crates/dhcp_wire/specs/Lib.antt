@@ -11,3 +11,4 @@ pub mod Dhcpv4Refusal
 pub mod Dhcpv4Tables
 pub mod Dhcpv4Writer
 pub mod Dhcpv4Writing
+pub mod Words

@@ -1,5 +1,4 @@
-use Rattle.std.proofs.Common.{take}
-use Rattle.dhcp_wire.specs.Dhcpv4Packet.{HasNoZero}
+use Rattle.dhcp_wire.proofs.Words.{HasNoZero, take}
 use Rattle.dhcp_wire.proofs.dhcpv4.boot_names.before_zero.Given as goal
 
 abbrev pub invariant-loop-i : goal.invariant-loop-i

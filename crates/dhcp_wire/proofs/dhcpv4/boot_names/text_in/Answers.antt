@@ -1,6 +1,4 @@
-use Rattle.std.proofs.Common.{List, ℕ, sym, subst, ◌∙◌}
-use Rattle.std.specs.Str.{IsUtf8}
-use Rattle.dhcp_wire.specs.Dhcpv4Packet.{IsTextIn}
+use Rattle.dhcp_wire.proofs.Words.{◌∙◌, IsTextIn, IsUtf8, List, ℕ, subst, sym}
 use Rattle.dhcp_wire.proofs.Dhcpv4Text.{no_text, text-is, text-in}
 use Rattle.dhcp_wire.proofs.dhcpv4.boot_names.text_in.Goals as goal
 

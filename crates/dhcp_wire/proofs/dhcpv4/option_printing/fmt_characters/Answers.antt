@@ -1,6 +1,5 @@
-use Rattle.std.proofs.Common.{◌≡◌, ℕ, ◌+◌, ◌<◌, List, ◌++◌, flat_map, length, take, get_or, IsOk, rules, arith}
-use Rattle.std.proofs.lemmas.Grind.{common_steps, put_two}
-use Rattle.dhcp_wire.specs.Dhcpv4OptionDisplay.{character}
+use Rattle.dhcp_wire.proofs.Words.{◌++◌, ◌+◌, ◌<◌, ◌≡◌, IsOk, List, ℕ, arith, character, common_steps, flat_map, get_or}
+use Rattle.dhcp_wire.proofs.Words.{length, put_two, rules, take}
 use Rattle.dhcp_wire.proofs.dhcpv4.option_printing.fmt_characters.Goals as goal
 
 one_more : (each : ℕ → List ℕ) (bytes : List ℕ) (i : ℕ) → i < length bytes

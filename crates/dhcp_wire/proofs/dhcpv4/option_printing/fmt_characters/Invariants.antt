@@ -1,6 +1,4 @@
-use Rattle.std.proofs.Common.{flat_map, take}
-use Rattle.std.specs.Fmt.{HasWritten, IsPlainFormatter}
-use Rattle.dhcp_wire.specs.Dhcpv4OptionDisplay.{character}
+use Rattle.dhcp_wire.proofs.Words.{HasWritten, IsPlainFormatter, character, flat_map, take}
 use Rattle.dhcp_wire.proofs.dhcpv4.option_printing.fmt_characters.Given as goal
 
 abbrev pub invariant-loop-byte : goal.invariant-loop-byte

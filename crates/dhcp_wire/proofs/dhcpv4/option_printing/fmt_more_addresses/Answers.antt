@@ -1,8 +1,7 @@
 -- Each turn writes one address after a comma.
-use Rattle.std.proofs.Common.{ℕ, List, ◌++◌, codes, flat_map, IsOk, sym, ap, ◌∙◌, append_assoc, rules}
+use Rattle.dhcp_wire.proofs.Words.{◌++◌, ◌∙◌, Ipv4Address, IsOk, List, ℕ, address_text, ap, append_assoc, codes}
+use Rattle.dhcp_wire.proofs.Words.{flat_map, rules, sym}
 use Rattle.std.proofs.Output.{has_written_append}
-use Rattle.wirebase.specs.Ipv4.{address_text}
-use Rattle.wirebase.specs.declared.ipv4.Ipv4Address.{Ipv4Address}
 use Rattle.dhcp_wire.proofs.dhcpv4.option_printing.fmt_more_addresses.Goals as goal
 
 abbrev behind_comma : Ipv4Address → List ℕ

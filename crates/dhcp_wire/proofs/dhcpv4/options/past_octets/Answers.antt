@@ -1,5 +1,4 @@
-use Rattle.std.proofs.Common.{ℕ, ◌∷◌, suc, drop, ap, sym, ◌∙◌, add-one, drop-cons}
-use Rattle.dhcp_wire.specs.Dhcpv4OptionsAhead.{list_of}
+use Rattle.dhcp_wire.proofs.Words.{◌∙◌, ◌∷◌, ℕ, add-one, ap, drop, drop-cons, list_of, suc, sym}
 use Rattle.dhcp_wire.proofs.Dhcpv4Lists.{list-padding}
 use Rattle.dhcp_wire.proofs.dhcpv4.options.past_octets.Goals as goal
 

@@ -1,5 +1,4 @@
-use Rattle.std.proofs.Common.{◌≡◌, drop}
-use Rattle.dhcp_wire.specs.Dhcpv4OptionsAhead.{list_of}
+use Rattle.dhcp_wire.proofs.Words.{◌≡◌, drop, list_of}
 use Rattle.dhcp_wire.proofs.dhcpv4.options.past_octets.Given as goal
 
 abbrev pub invariant-loop-i : goal.invariant-loop-i

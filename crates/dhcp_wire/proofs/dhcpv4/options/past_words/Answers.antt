@@ -1,4 +1,4 @@
-use Rattle.std.proofs.Common.{◌∙◌, arith}
+use Rattle.dhcp_wire.proofs.Words.{◌∙◌, arith}
 use Rattle.dhcp_wire.proofs.Dhcpv4Padding.{word_begins, word_passes}
 use Rattle.dhcp_wire.proofs.dhcpv4.options.past_words.Goals as goal
 

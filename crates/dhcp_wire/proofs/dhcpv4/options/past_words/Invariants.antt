@@ -1,5 +1,4 @@
-use Rattle.std.proofs.Common.{◌≡◌, length}
-use Rattle.dhcp_wire.specs.Dhcpv4OptionsAhead.{list_of}
+use Rattle.dhcp_wire.proofs.Words.{◌≡◌, length, list_of}
 use Rattle.dhcp_wire.proofs.dhcpv4.options.past_words.Given as goal
 
 abbrev pub invariant-loop-rest : goal.invariant-loop-rest

@@ -1,4 +1,4 @@
-use Rattle.std.proofs.Common.{rules, ◌≡◌, ◌∷◌, drop}
+use Rattle.dhcp_wire.proofs.Words.{◌∷◌, ◌≡◌, drop, rules}
 use Rattle.dhcp_wire.proofs.Dhcpv4Writes.{mark-first}
 use Rattle.dhcp_wire.proofs.dhcpv4.options.write_end.Goals as goal
 

@@ -1,7 +1,4 @@
-use Rattle.std.proofs.Common.{rules, ◌≡◌, ◌∷◌, [], length, arith}
-use Rattle.std.proofs.lemmas.Grind.{common_steps}
-use Rattle.wirebase.specs.ByteWriter.{Puts, be8}
-use Rattle.dhcp_wire.specs.Dhcpv4Options.{option, option_text}
+use Rattle.dhcp_wire.proofs.Words.{[], ◌∷◌, ◌≡◌, Puts, arith, be8, common_steps, length, option, option_text, rules}
 use Rattle.dhcp_wire.proofs.Dhcpv4Writes.{option-whole}
 use Rattle.dhcp_wire.proofs.dhcpv4.options.write_option.Goals as goal
 

@@ -1,6 +1,5 @@
-use Rattle.std.proofs.Common.{◌≡◌, ◌<◌, ◌≤◌, ◌-◌, ◌++◌, ◌+◌, ℕ, length, take, sym, ap, ◌∙◌, arith}
-use Rattle.std.proofs.lemmas.Bool.{eqb-true, eqb-false}
-use Rattle.dhcp_wire.specs.Dhcpv4OptionValue.{addresses_in}
+use Rattle.dhcp_wire.proofs.Words.{◌++◌, ◌+◌, ◌-◌, ◌<◌, ◌∙◌, ◌≡◌, ◌≤◌, ℕ, addresses_in, ap, arith, eqb-false, eqb-true}
+use Rattle.dhcp_wire.proofs.Words.{length, sym, take}
 use Rattle.dhcp_wire.proofs.Dhcpv4Addresses.{taken-more, taken-short, taken-full}
 use Rattle.dhcp_wire.proofs.dhcpv4.options_seen.addresses.Goals as goal
 

@@ -1,5 +1,4 @@
-use Rattle.std.proofs.Common.{◌≡◌, ◌≤◌, ◌-◌, ◌++◌, length, take}
-use Rattle.dhcp_wire.specs.Dhcpv4OptionValue.{addresses_in}
+use Rattle.dhcp_wire.proofs.Words.{◌++◌, ◌-◌, ◌≡◌, ◌≤◌, addresses_in, length, take}
 use Rattle.dhcp_wire.proofs.dhcpv4.options_seen.addresses.Given as goal
 
 abbrev pub invariant-loop-rest : goal.invariant-loop-rest

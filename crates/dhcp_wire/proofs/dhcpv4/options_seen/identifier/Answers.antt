@@ -1,8 +1,5 @@
-use Rattle.std.proofs.Common.{◌≡◌, ℕ, Bool, cond, eqb, List, length, drop, Some, None, sym, ap, ◌∙◌, rules, arith}
-use Rattle.std.specs.Option.{option_map}
-use Rattle.std.proofs.lemmas.Grind.{common_steps}
-use Rattle.std.proofs.lemmas.List.{take_rest}
-use Rattle.dhcp_wire.specs.Dhcpv4.{ethernet_at}
+use Rattle.dhcp_wire.proofs.Words.{◌∙◌, ◌≡◌, Bool, List, None, Some, ℕ, ap, arith, common_steps, cond, drop, eqb}
+use Rattle.dhcp_wire.proofs.Words.{ethernet_at, length, option_map, rules, sym, take_rest}
 use Rattle.dhcp_wire.proofs.dhcpv4.options_seen.identifier.Goals as goal
 
 pub returns : goal.returns

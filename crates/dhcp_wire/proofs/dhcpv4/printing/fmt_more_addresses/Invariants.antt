@@ -1,6 +1,4 @@
-use Rattle.std.proofs.Common.{◌++◌, codes, flat_map, take}
-use Rattle.std.specs.Fmt.{HasWritten, IsPlainFormatter}
-use Rattle.wirebase.specs.Ipv4.{address_text}
+use Rattle.dhcp_wire.proofs.Words.{◌++◌, HasWritten, IsPlainFormatter, address_text, codes, flat_map, take}
 use Rattle.dhcp_wire.proofs.dhcpv4.printing.fmt_more_addresses.Given as goal
 
 abbrev pub invariant-loop-address : goal.invariant-loop-address

@@ -1,5 +1,4 @@
-use Rattle.std.proofs.Common.{◌++◌, codes, decimal, flat_map, take}
-use Rattle.std.specs.Fmt.{HasWritten, IsPlainFormatter}
+use Rattle.dhcp_wire.proofs.Words.{◌++◌, HasWritten, IsPlainFormatter, codes, decimal, flat_map, take}
 use Rattle.dhcp_wire.proofs.dhcpv4.printing.fmt_more_kinds.Given as goal
 
 abbrev pub invariant-loop-kind : goal.invariant-loop-kind

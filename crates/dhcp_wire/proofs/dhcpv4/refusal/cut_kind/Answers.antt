@@ -1,4 +1,4 @@
-use Rattle.std.proofs.Common.{None}
+use Rattle.dhcp_wire.proofs.Words.{None}
 use Rattle.dhcp_wire.proofs.Dhcpv4Refusal.{ends-none, ends-mark, ends-padding, ends-lone, ends-torn, ends-option}
 use Rattle.dhcp_wire.proofs.dhcpv4.refusal.cut_kind.Goals as goal
 

@@ -1,5 +1,4 @@
-use Rattle.std.proofs.Common.{ℕ, length, Option}
-use Rattle.dhcp_wire.specs.Dhcpv4Refusal.{Ends}
+use Rattle.dhcp_wire.proofs.Words.{Ends, Option, ℕ, length}
 use Rattle.dhcp_wire.proofs.dhcpv4.refusal.cut_kind.Given as goal
 
 -- as what is left ends, so do all

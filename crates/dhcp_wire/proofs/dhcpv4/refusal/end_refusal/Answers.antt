@@ -1,8 +1,4 @@
-use Rattle.std.proofs.Common.{List, ℕ, Some, None, subst}
-use Rattle.std.proofs.lemmas.List.{take_rest}
-use Rattle.dhcp_wire.specs.Dhcpv4OptionsAhead.{list_of}
-use Rattle.dhcp_wire.specs.Dhcpv4Packet.{inner, options_in}
-use Rattle.dhcp_wire.specs.Dhcpv4Refusal.{Ends}
+use Rattle.dhcp_wire.proofs.Words.{Ends, List, None, Some, ℕ, inner, list_of, options_in, subst, take_rest}
 use Rattle.dhcp_wire.proofs.dhcpv4.refusal.end_refusal.Goals as goal
 
 pub returns-in-Some : goal.returns-in-Some

@@ -1,9 +1,5 @@
-use Rattle.std.proofs.Common.{◌≡◌, List, refl, sym, subst, ◌∙◌, inl, inr}
-use Rattle.dhcp_wire.specs.Dhcpv4.{AreOfEthernet}
-use Rattle.dhcp_wire.specs.Dhcpv4Options.{OptionValue}
-use Rattle.dhcp_wire.specs.Dhcpv4OptionsAhead.{list_of}
-use Rattle.dhcp_wire.specs.Dhcpv4Packet.{inner, options_in}
-use Rattle.dhcp_wire.specs.Dhcpv4Refusal.{IsFirstOther}
+use Rattle.dhcp_wire.proofs.Words.{◌∙◌, ◌≡◌, AreOfEthernet, IsFirstOther, List, OptionValue, inl, inner, inr, list_of}
+use Rattle.dhcp_wire.proofs.Words.{options_in, refl, subst, sym}
 use Rattle.dhcp_wire.proofs.Dhcpv4Lists.{list-options}
 use Rattle.dhcp_wire.proofs.dhcpv4.refusal.identifier_refusal.Goals as goal
 

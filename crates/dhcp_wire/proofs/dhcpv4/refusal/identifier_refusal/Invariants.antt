@@ -1,8 +1,4 @@
-use Rattle.std.proofs.Common.{ℕ}
-use Rattle.dhcp_wire.specs.Dhcpv4.{AreOfEthernet}
-use Rattle.dhcp_wire.specs.Dhcpv4OptionsAhead.{list_of}
-use Rattle.dhcp_wire.specs.Dhcpv4Packet.{inner, options_in}
-use Rattle.dhcp_wire.specs.Dhcpv4Refusal.{IsFirstOther}
+use Rattle.dhcp_wire.proofs.Words.{AreOfEthernet, IsFirstOther, ℕ, inner, list_of, options_in}
 use Rattle.dhcp_wire.proofs.dhcpv4.refusal.identifier_refusal.Given as goal
 
 -- what holds of the options that are left holds of all

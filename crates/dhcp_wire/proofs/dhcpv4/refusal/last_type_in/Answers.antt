@@ -1,9 +1,4 @@
-use Rattle.std.proofs.Common.{◌≡◌, List, sym, ap, ◌∙◌}
-use Rattle.wirebase.proofs.LastOf.{or-none}
-use Rattle.dhcp_wire.specs.Dhcpv4Options.{OptionValue}
-use Rattle.dhcp_wire.specs.Dhcpv4OptionsAhead.{list_of}
-use Rattle.dhcp_wire.specs.Dhcpv4Packet.{inner, options_in}
-use Rattle.dhcp_wire.specs.Dhcpv4Refusal.{last_type}
+use Rattle.dhcp_wire.proofs.Words.{◌∙◌, ◌≡◌, List, OptionValue, ap, inner, last_type, list_of, options_in, or-none, sym}
 use Rattle.dhcp_wire.proofs.Dhcpv4Lists.{list-options}
 use Rattle.dhcp_wire.proofs.dhcpv4.refusal.last_type_in.Goals as goal
 

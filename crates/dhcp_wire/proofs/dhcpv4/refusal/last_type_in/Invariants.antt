@@ -1,8 +1,4 @@
-use Rattle.std.proofs.Common.{◌≡◌}
-use Rattle.std.specs.Option.{option_map, option_or}
-use Rattle.dhcp_wire.specs.Dhcpv4OptionsAhead.{list_of}
-use Rattle.dhcp_wire.specs.Dhcpv4Packet.{inner, options_in}
-use Rattle.dhcp_wire.specs.Dhcpv4Refusal.{last_type}
+use Rattle.dhcp_wire.proofs.Words.{◌≡◌, inner, last_type, list_of, option_map, option_or, options_in}
 use Rattle.dhcp_wire.proofs.dhcpv4.refusal.last_type_in.Given as goal
 
 -- the last of the options that are left, or else the last that was met

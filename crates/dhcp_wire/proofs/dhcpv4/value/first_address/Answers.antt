@@ -1,8 +1,6 @@
 -- The address at the front.
-use Rattle.std.proofs.Common.{◌≡◌, ℕ, ◌∷◌, List, drop, ap, sym, ◌∙◌, rules, arith}
-use Rattle.std.proofs.lemmas.Grind.{common_steps}
-use Rattle.wirebase.specs.declared.ipv4.Ipv4Address.{Ipv4Address}
-use Rattle.dhcp_wire.specs.Dhcpv4OptionValue.{addresses_in, first_address}
+use Rattle.dhcp_wire.proofs.Words.{◌∙◌, ◌∷◌, ◌≡◌, Ipv4Address, List, ℕ, addresses_in, ap, arith, common_steps, drop}
+use Rattle.dhcp_wire.proofs.Words.{first_address, rules, sym}
 use Rattle.dhcp_wire.proofs.Dhcpv4OptionAddresses.{addresses_short, addresses_more}
 use Rattle.dhcp_wire.proofs.dhcpv4.value.first_address.Goals as goal
 

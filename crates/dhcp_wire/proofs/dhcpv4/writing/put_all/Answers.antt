@@ -1,4 +1,4 @@
-use Rattle.std.proofs.Common.{arith}
+use Rattle.dhcp_wire.proofs.Words.{arith}
 use Rattle.dhcp_wire.proofs.Dhcpv4Writing.{emission, emitted_step}
 use Rattle.dhcp_wire.proofs.dhcpv4.writing.put_all.Goals as goal
 

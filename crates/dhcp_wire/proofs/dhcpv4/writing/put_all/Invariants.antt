@@ -1,6 +1,4 @@
-use Rattle.std.proofs.Common.{◌≡◌, Ok, drop, map}
-use Rattle.dhcp_wire.specs.Dhcpv4Writing.{progress, step_all}
-use Rattle.dhcp_wire.specs.Dhcpv4Options.{value_of_option}
+use Rattle.dhcp_wire.proofs.Words.{◌≡◌, Ok, drop, map, progress, step_all, value_of_option}
 use Rattle.dhcp_wire.specs.Dhcpv4Writer.{the_slice}
 use Rattle.dhcp_wire.proofs.dhcpv4.writing.put_all.Given as goal
 

@@ -1,6 +1,5 @@
-use Rattle.std.proofs.Common.{◌≡◌, ◌+◌, ◌*◌, length, drop, flat_map}
-use Rattle.wirebase.specs.ByteWriter.{sheet, free, put, the_slice}
-use Rattle.wirebase.specs.Ipv4.{octets_of}
+use Rattle.dhcp_wire.proofs.Words.{◌*◌, ◌+◌, ◌≡◌, drop, flat_map, length, octets_of, put, sheet}
+use Rattle.wirebase.specs.ByteWriter.{free, the_slice}
 use Rattle.dhcp_wire.proofs.dhcpv4.option_data.RefArrayVecIpv4AddressMAX_DNS_SERVER_COUNTData.put.Given as goal
 
 -- writing the rest gives the result of writing the whole

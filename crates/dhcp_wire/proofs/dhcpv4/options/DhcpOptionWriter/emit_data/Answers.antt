@@ -1,4 +1,4 @@
-use Rattle.std.proofs.Common.{arith}
+use Rattle.dhcp_wire.proofs.Words.{arith}
 use Rattle.dhcp_wire.proofs.Dhcpv4Writes.{writes}
 use Rattle.dhcp_wire.proofs.dhcpv4.options.DhcpOptionWriter.emit_data.Goals as goal
 

@@ -1,8 +1,4 @@
-use Rattle.std.proofs.Common.{Ok, sym, ap, ◌∙◌}
-use Rattle.std.specs.Option.{option_map}
-use Rattle.dhcp_wire.specs.Dhcpv4.{slot}
-use Rattle.dhcp_wire.specs.Dhcpv4Writing.{progress, step_slot}
-use Rattle.dhcp_wire.specs.Dhcpv4Options.{option}
+use Rattle.dhcp_wire.proofs.Words.{◌∙◌, Ok, ap, option, option_map, progress, slot, step_slot, sym}
 use Rattle.dhcp_wire.proofs.Dhcpv4Writing.{emitted_step}
 use Rattle.dhcp_wire.proofs.dhcpv4.options.DhcpOptionWriter.put.Goals as goal
 

@@ -1,5 +1,4 @@
-use Rattle.std.proofs.Common.{sym, ◌∙◌, inl, inr}
-use Rattle.std.proofs.lemmas.List.{take_rest}
+use Rattle.dhcp_wire.proofs.Words.{◌∙◌, inl, inr, sym, take_rest}
 use Rattle.dhcp_wire.proofs.Dhcpv4Lists.{list-short, front-cut, front-option, option-progress}
 use Rattle.dhcp_wire.proofs.dhcpv4.options.OptionsIterIterator.next.Goals.{then-kind-via-then-kind}
 use Rattle.dhcp_wire.proofs.dhcpv4.options.OptionsIterIterator.next.Goals.{then-kind-via-else-kind+then-rest-count}

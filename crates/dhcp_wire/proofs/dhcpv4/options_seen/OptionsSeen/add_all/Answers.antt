@@ -1,12 +1,6 @@
-use Rattle.std.proofs.Common.{◌≡◌, ℕ, true, false, List, [], ◌∷◌, Option, sym, ap, subst, ◌∙◌}
-use Rattle.std.specs.Option.{option_or}
-use Rattle.wirebase.specs.Bytes.{byte_of}
-use Rattle.wirebase.proofs.LastOf.{or-assoc}
-use Rattle.dhcp_wire.specs.declared.dhcpv4.tables.MessageType.{MessageType}
-use Rattle.dhcp_wire.specs.Dhcpv4.{AreOfEthernet, Value, value_of, type_among, with_options}
-use Rattle.dhcp_wire.specs.Dhcpv4Options.{OptionValue, value_of_option}
-use Rattle.dhcp_wire.specs.Dhcpv4OptionsAhead.{list_of}
-use Rattle.dhcp_wire.specs.Dhcpv4Packet.{inner, op_field, options_in}
+use Rattle.dhcp_wire.proofs.Words.{[], ◌∙◌, ◌∷◌, ◌≡◌, AreOfEthernet, List, MessageType, Option, OptionValue, Value, ℕ}
+use Rattle.dhcp_wire.proofs.Words.{ap, byte_of, false, inner, list_of, op_field, option_or, options_in, or-assoc, subst}
+use Rattle.dhcp_wire.proofs.Words.{sym, true, type_among, value_of, value_of_option, with_options}
 use Rattle.dhcp_wire.specs.Dhcpv4Tables.{opcode_number}
 use Rattle.dhcp_wire.proofs.Dhcpv4Kept.{with-none, with-more, opcode_back}
 use Rattle.dhcp_wire.proofs.Dhcpv4Lists.{list-options}

@@ -1,9 +1,5 @@
-use Rattle.std.proofs.Common.{◌≡◌}
-use Rattle.std.specs.Option.{option_or}
-use Rattle.wirebase.specs.Bytes.{byte_of}
-use Rattle.dhcp_wire.specs.Dhcpv4.{AreOfEthernet, value_of, type_among, with_options}
-use Rattle.dhcp_wire.specs.Dhcpv4OptionsAhead.{list_of}
-use Rattle.dhcp_wire.specs.Dhcpv4Packet.{inner, op_field, options_in}
+use Rattle.dhcp_wire.proofs.Words.{◌≡◌, AreOfEthernet, byte_of, inner, list_of, op_field, option_or, options_in}
+use Rattle.dhcp_wire.proofs.Words.{type_among, value_of, with_options}
 use Rattle.dhcp_wire.proofs.dhcpv4.options_seen.OptionsSeen.add_all.Given as goal
 
 -- doing the rest gives the result of doing the whole

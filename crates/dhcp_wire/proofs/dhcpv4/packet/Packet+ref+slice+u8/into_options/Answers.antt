@@ -1,7 +1,4 @@
-use Rattle.std.proofs.Common.{ℕ, List, subst, sym}
-use Rattle.std.proofs.lemmas.List.{take_rest}
-use Rattle.dhcp_wire.specs.Dhcpv4Options.{Options}
-use Rattle.dhcp_wire.specs.Dhcpv4Packet.{inner}
+use Rattle.dhcp_wire.proofs.Words.{List, Options, ℕ, inner, subst, sym, take_rest}
 use Rattle.dhcp_wire.proofs.dhcpv4.packet.Packet+ref+slice+u8.into_options.Goals as goal
 
 pub returns-clause-options : goal.returns-clause-options

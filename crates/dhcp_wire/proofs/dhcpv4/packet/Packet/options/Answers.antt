@@ -1,6 +1,4 @@
-use Rattle.std.proofs.Common.{ℕ, List, drop, subst, sym, ap, ◌∙◌}
-use Rattle.std.proofs.lemmas.List.{take_rest}
-use Rattle.dhcp_wire.specs.Dhcpv4Options.{Options}
+use Rattle.dhcp_wire.proofs.Words.{◌∙◌, List, Options, ℕ, ap, drop, subst, sym, take_rest}
 use Rattle.dhcp_wire.proofs.dhcpv4.packet.Packet.options.Goals as goal
 
 pub returns-clause-options : goal.returns-clause-options

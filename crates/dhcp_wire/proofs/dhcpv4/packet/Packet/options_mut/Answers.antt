@@ -1,5 +1,4 @@
-use Rattle.std.proofs.Common.{arith}
-use Rattle.wirebase.proofs.Pieces.{pieces}
+use Rattle.dhcp_wire.proofs.Words.{arith, pieces}
 use Rattle.dhcp_wire.proofs.dhcpv4.packet.Packet.options_mut.Goals as goal
 
 pub returns : goal.returns

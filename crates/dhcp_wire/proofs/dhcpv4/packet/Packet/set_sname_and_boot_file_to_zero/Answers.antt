@@ -1,5 +1,4 @@
-use Rattle.std.proofs.Common.{arith}
-use Rattle.wirebase.proofs.Pieces.{pieces}
+use Rattle.dhcp_wire.proofs.Words.{arith, pieces}
 use Rattle.dhcp_wire.proofs.dhcpv4.packet.Packet.set_sname_and_boot_file_to_zero.Goals as goal
 
 pub returns-clause-writes : goal.returns-clause-writes

@@ -1,6 +1,5 @@
-use Rattle.std.proofs.Common.{◌≡◌, ℕ, ◌+◌, length, map, sym, ap, ◌∙◌, arith}
-use Rattle.dhcp_wire.specs.Dhcpv4.{value_of, options_text, text}
-use Rattle.dhcp_wire.specs.Dhcpv4Options.{value_of_option}
+use Rattle.dhcp_wire.proofs.Words.{◌+◌, ◌∙◌, ◌≡◌, ℕ, ap, arith, length, map, options_text, sym, text, value_of}
+use Rattle.dhcp_wire.proofs.Words.{value_of_option}
 use Rattle.dhcp_wire.proofs.Dhcpv4Lengths.{lengths, text_len-fields, text_len-whole}
 use Rattle.dhcp_wire.proofs.dhcpv4.repr.Repr.buffer_len.Goals as goal
 

@@ -1,6 +1,4 @@
-use Rattle.std.proofs.Common.{◌≡◌, ◌+◌, length, drop, map}
-use Rattle.dhcp_wire.specs.Dhcpv4.{value_of, options_text, text}
-use Rattle.dhcp_wire.specs.Dhcpv4Options.{value_of_option}
+use Rattle.dhcp_wire.proofs.Words.{◌+◌, ◌≡◌, drop, length, map, options_text, text, value_of, value_of_option}
 use Rattle.dhcp_wire.proofs.dhcpv4.repr.Repr.buffer_len.Given as goal
 
 -- what is counted, and what is left to count

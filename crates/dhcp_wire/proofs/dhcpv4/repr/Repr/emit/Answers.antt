@@ -1,7 +1,4 @@
-use Rattle.std.proofs.Common.{ℕ, List, sym, ap}
-use Rattle.wirebase.proofs.Chains.{lent}
-use Rattle.dhcp_wire.specs.Dhcpv4.{value_of}
-use Rattle.dhcp_wire.specs.Dhcpv4Format.{Emits}
+use Rattle.dhcp_wire.proofs.Words.{Emits, List, ℕ, ap, lent, sym, value_of}
 use Rattle.dhcp_wire.proofs.dhcpv4.repr.Repr.emit.Goals as goal
 
 pub returns-clause-place : goal.returns-clause-place

@@ -1,5 +1,4 @@
-use Rattle.std.proofs.Common.{rules, ◌∙◌}
-use Rattle.dhcp_wire.specs.Dhcpv4.{value_of}
+use Rattle.dhcp_wire.proofs.Words.{◌∙◌, rules, value_of}
 use Rattle.dhcp_wire.proofs.Dhcpv4Laws.{emits}
 use Rattle.dhcp_wire.proofs.Dhcpv4Packet.{laid_behind}
 use Rattle.dhcp_wire.proofs.dhcpv4.repr.Repr.emit_into.Goals as goal

@@ -1,5 +1,4 @@
-use Rattle.std.proofs.Common.{None, []}
-use Rattle.dhcp_wire.specs.declared.dhcpv4.tables.MessageType.{MessageType}
+use Rattle.dhcp_wire.proofs.Words.{[], MessageType, None}
 use Rattle.dhcp_wire.proofs.Dhcpv4Kept.{address-at, ethernet-at}
 use Rattle.dhcp_wire.proofs.dhcpv4.repr.Repr.of.Goals as goal
 

@@ -1,8 +1,4 @@
-use Rattle.std.proofs.Common.{refl, sym, ◌∙◌}
-use Rattle.wirebase.proofs.Format.{rewrites}
-use Rattle.dhcp_wire.specs.Dhcpv4.{value_of}
-use Rattle.dhcp_wire.specs.Dhcpv4Format.{format}
-use Rattle.dhcp_wire.specs.Dhcpv4Packet.{inner}
+use Rattle.dhcp_wire.proofs.Words.{◌∙◌, format, inner, refl, rewrites, sym, value_of}
 use Rattle.dhcp_wire.proofs.Dhcpv4Kept.{packet-made, packet-typed, packet-unique, good_options, given-last}
 use Rattle.dhcp_wire.proofs.Dhcpv4Laws.{dhcp_format}
 use Rattle.dhcp_wire.proofs.dhcpv4.repr.Repr.parse.Goals as goal

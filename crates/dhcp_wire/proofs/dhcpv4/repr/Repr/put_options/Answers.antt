@@ -1,5 +1,4 @@
-use Rattle.std.proofs.Common.{rules, ◌≡◌, Err}
-use Rattle.dhcp_wire.specs.Dhcpv4.{value_of}
+use Rattle.dhcp_wire.proofs.Words.{◌≡◌, Err, rules, value_of}
 use Rattle.dhcp_wire.proofs.Dhcpv4Writing.{fields-refused, fields-written}
 use Rattle.dhcp_wire.proofs.dhcpv4.repr.Repr.put_options.Goals as goal
 

@@ -1,6 +1,4 @@
-use Rattle.std.proofs.Common.{refl, sym, ◌∙◌}
-use Rattle.dhcp_wire.specs.Dhcpv4.{value_of}
-use Rattle.dhcp_wire.specs.Dhcpv4Packet.{inner, options_in}
+use Rattle.dhcp_wire.proofs.Words.{◌∙◌, inner, options_in, refl, sym, value_of}
 use Rattle.dhcp_wire.proofs.Dhcpv4Kept.{packet-made, packet-typed, good_options, given-last}
 use Rattle.dhcp_wire.proofs.Dhcpv4Lists.{list-options}
 use Rattle.dhcp_wire.proofs.Dhcpv4Refusal.{when-ok, when-err, when-some, when-none}

@@ -1,6 +1,4 @@
-use Rattle.std.proofs.Common.{rules, ◌≡◌, Err, arith}
-use Rattle.std.proofs.lemmas.Grind.{common_steps}
-use Rattle.dhcp_wire.specs.Dhcpv4.{value_of, options_of}
+use Rattle.dhcp_wire.proofs.Words.{◌≡◌, Err, arith, common_steps, options_of, rules, value_of}
 use Rattle.dhcp_wire.proofs.Dhcpv4Writing.{writes-refused, writes-ended}
 use Rattle.dhcp_wire.proofs.dhcpv4.repr.Repr.write_options.Goals as goal
 

@@ -1,6 +1,4 @@
-use Rattle.std.proofs.Common.{List, Option, ap}
-use Rattle.wirebase.specs.declared.ipv4.Ipv4Address.{Ipv4Address}
-use Rattle.dhcp_wire.specs.Dhcpv4.{value_of}
+use Rattle.dhcp_wire.proofs.Words.{Ipv4Address, List, Option, ap, value_of}
 use Rattle.dhcp_wire.proofs.dhcpv4.repr.ReprClone.clone.Goals as goal
 
 pub returns : goal.returns

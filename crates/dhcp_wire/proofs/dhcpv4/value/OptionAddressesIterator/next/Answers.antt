@@ -1,5 +1,5 @@
 -- The address at the front is given.
-use Rattle.std.proofs.Common.{refl, sym, ◌∙◌}
+use Rattle.dhcp_wire.proofs.Words.{◌∙◌, refl, sym}
 use Rattle.dhcp_wire.proofs.Dhcpv4OptionAddresses.{address_progress}
 use Rattle.dhcp_wire.proofs.dhcpv4.value.OptionAddressesIterator.next.Goals as goal
 
