@@ -1,7 +1,7 @@
 -- The texts of options one after another.
 use Rattle.opt_wire.proofs.Words.{[], ◌++◌, ◌+◌, ◌<◌, ◌∙◌, ◌∷◌, ◌≡◌, List, OptionValue, ℕ, ap, arith, fields, get_or}
-use Rattle.opt_wire.proofs.Words.{length, length-append, map, map_more, pad1, pad_n, refl, router_alert, sum_by-cons}
-use Rattle.opt_wire.proofs.Words.{sum_by_push, sym, take, unknown}
+use Rattle.opt_wire.proofs.Words.{length, length-append, map, map_more, refl, sum_by-cons}
+use Rattle.opt_wire.proofs.Words.{sum_by_push, sym, take}
 use Rattle.opt_wire.specs.declared.ipv6option.Repr.{Repr}
 use Rattle.opt_wire.specs.Ipv6Option as option
 use Rattle.opt_wire.specs.Ipv6Hbh.{text, text_len, HaveData, norm}
@@ -42,5 +42,3 @@ norm-text [] = refl
 norm-text (v ∷ options) =
     ap (λ (l : List ℕ). l ++ text (norm options)) (texts.norm-text v)
     ∙ ap (λ (l : List ℕ). option.text v ++ l) (norm-text options)
-
-pub ruleset sizes = (length-texts, sum_by-cons)

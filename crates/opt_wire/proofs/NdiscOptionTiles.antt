@@ -1,19 +1,19 @@
 -- The tiling of bytes by blocks: it exists, and it is one.
 use Rattle.opt_wire.proofs.Words.{[], ◌&&◌, ◌*◌, ◌++◌, ◌<◌, ◌∙◌, ◌∷◌, ◌≡◌, ◌≤◌, BeginsWithBlock, Bool, Err, IfOk, IsErr}
 use Rattle.opt_wire.proofs.Words.{List, Ok, Result, Some, ℕ, ap, arith, byte_of, drop, drop_at, false, inl, inr, le-leb}
-use Rattle.opt_wire.proofs.Words.{leb-false, leb-true, length, length-drop, length-take-le, lt-leb, nat_le, refl, subst}
-use Rattle.opt_wire.proofs.Words.{suc, sym, take, take-append-drop, take_at, true, type_field, type_of, units_in, zero}
+use Rattle.opt_wire.proofs.Words.{leb-false, leb-true, length, length-drop, length-take-le, nat_le, refl, subst}
+use Rattle.opt_wire.proofs.Words.{suc, sym, take, take-append-drop, take_at, true, type_field, units_in, zero}
 use Rattle.std.specs.Iterator.{MakesProgress, at_most}
 use Rattle.std.specs.Result.{IfErr}
 use Rattle.opt_wire.specs.NdiscOptionRepr.{value_of, BeginsWith}
 use Rattle.opt_wire.specs.NdiscOptionBlocks.{Answer, Tile, ends, goes_on, breaks, GivesOption, least_units, IsUnread}
 use Rattle.opt_wire.specs.NdiscOptionBlocks.{begins_with_block, reason_by, reason_of, after_block, blocks_within}
 use Rattle.opt_wire.specs.NdiscOptionBlocks.{blocks_of}
-use Rattle.opt_wire.specs.NdiscOptionRefusal.{HasUnits, Refuses, IsMisfit}
+use Rattle.opt_wire.specs.NdiscOptionRefusal.{checks, Refuses}
 use Rattle.opt_wire.specs.declared.ndiscoption.refusal.Refusal.{Refusal}
 use Rattle.opt_wire.specs.declared.ndiscoption.repr.Repr.{Repr}
-use Rattle.opt_wire.specs.declared.ndiscoption.tables.Type.{«Type» as Kind}
-use Rattle.opt_wire.proofs.NdiscOptionRefusals.{tested, block, packet-block, misfit}
+use Rattle.wirebase.proofs.Checks.{fails_one}
+use Rattle.opt_wire.proofs.NdiscOptionRefusals.{no_block}
 
 -- ---- whether the bytes begin with a block
 
@@ -64,72 +64,29 @@ begins-block bytes b =
 
 -- ---- why they don't
 
--- a redirected packet that is no block has too few units
-few_units : (bytes : List ℕ) → HasUnits bytes → (BeginsWithBlock bytes → ⊥) → byte_of type_field bytes ≡ 4
-    → units_in bytes < 6
-few_units bytes units none four = elim (tested (nat_le 6 (units_in bytes))) [
-  | inl a ↦
-      let fits : 6 ≤ units_in bytes = leb-true 6 (units_in bytes) a in
-      absurd (none (block bytes units (λ e. absurd (omega (arith, e, four))) (λ e. fits)))
-  | inr a ↦ leb-false 6 (units_in bytes) a
-]
-
 told_by : (bytes : List ℕ) → (BeginsWithBlock bytes → ⊥) → (fixed some whole : Bool)
     → nat_le 8 (length bytes) ≡ fixed → nat_le 1 (units_in bytes) ≡ some
     → nat_le (8 * units_in bytes) (length bytes) ≡ whole → Refuses bytes (reason_by fixed some whole bytes)
-told_by bytes none false some whole f s w = leb-false 8 (length bytes) f
+told_by bytes none false some whole f s w =
+    let short = leb-false 8 (length bytes) f in inl (λ fixed. omega (arith, fixed, short), refl)
 told_by bytes none true false whole f s w =
-    let no_units : units_in bytes < 1 = leb-false 1 (units_in bytes) s in
-    (leb-true 8 (length bytes) f, omega (arith, no_units))
+    let zero_units = leb-false 1 (units_in bytes) s in
+    inr (leb-true 8 (length bytes) f, inl (λ some. omega (arith, some, zero_units), refl))
 told_by bytes none true true false f s w =
-    let fixed = leb-true 8 (length bytes) f in
-    let some = leb-true 1 (units_in bytes) s in
     let cut = leb-false (8 * units_in bytes) (length bytes) w in
-    (fixed, some, cut, refl)
+    inr (
+      leb-true 8 (length bytes) f,
+      inr (leb-true 1 (units_in bytes) s, inl (λ whole. omega (arith, whole, cut), refl)),
+    )
 told_by bytes none true true true f s w =
-    let units : HasUnits bytes = record {
-      fixed = leb-true 8 (length bytes) f;
-      some = leb-true 1 (units_in bytes) s;
-      whole = leb-true (8 * units_in bytes) (length bytes) w;
-    } in
-    (units, refl, misfit bytes units (λ read. none read.1.block) (few_units bytes units none))
+    no_block bytes (
+      leb-true 8 (length bytes) f,
+      (leb-true 1 (units_in bytes) s, (leb-true (8 * units_in bytes) (length bytes) w, tt)),
+    ) none
 
 -- the reason that is computed holds of the bytes
-pub reason-told : (bytes : List ℕ) → (BeginsWithBlock bytes → ⊥) → Refuses bytes (reason_of bytes)
+reason-told : (bytes : List ℕ) → (BeginsWithBlock bytes → ⊥) → Refuses bytes (reason_of bytes)
 reason-told bytes none = told_by bytes none _ _ _ refl refl refl
-
-misfit_type : (bytes : List ℕ) (k : Kind) (n : ℕ) → IsMisfit bytes k n → type_of (byte_of type_field bytes) ≡ k
-misfit_type bytes Kind.SourceLinkLayerAddr n m = absurd m
-misfit_type bytes Kind.TargetLinkLayerAddr n m = absurd m
-misfit_type bytes Kind.PrefixInformation n m = ap type_of m.0
-misfit_type bytes Kind.RedirectedHeader n m = ap type_of m.0
-misfit_type bytes Kind.Mtu n m = ap type_of m.0
-misfit_type bytes (Kind.Unknown t) n m = absurd m
-
--- and no other does
-reason-one : (bytes : List ℕ) (refusal : Refusal) → (BeginsWithBlock bytes → ⊥) → Refuses bytes refusal
-    → reason_of bytes ≡ refusal
-reason-one bytes Refusal.Short none h = rw (lt-leb 8 (length bytes) h) refl
-reason-one bytes Refusal.Zero none h =
-    let no_units : units_in bytes < 1 = omega (arith, h.1) in
-    rw (le-leb 8 (length bytes) h.0, lt-leb 1 (units_in bytes) no_units) refl
-reason-one bytes (Refusal.Cut n) none h =
-    let cut : length bytes < 8 * units_in bytes = omega (arith, h.2, h.3) in
-    rw (
-      le-leb 8 (length bytes) h.0,
-      le-leb 1 (units_in bytes) h.1,
-      lt-leb (8 * units_in bytes) (length bytes) cut,
-    ) (ap Refusal.Cut (sym h.3))
-reason-one bytes (Refusal.Length k n) none h =
-    let units : HasUnits bytes = h.0 in
-    let same_type : type_of (byte_of type_field bytes) ≡ k = misfit_type bytes k n h.2 in
-    rw (
-      le-leb 8 (length bytes) units.fixed,
-      le-leb 1 (units_in bytes) units.some,
-      le-leb (8 * units_in bytes) (length bytes) units.whole,
-    ) (ap (λ (t : Kind). Refusal.Length t (units_in bytes)) same_type ∙ ap (λ (m : ℕ). Refusal.Length k m) (sym h.1))
-reason-one bytes (Refusal.PacketCut n) none h = absurd (none (packet-block bytes h.0))
-reason-one bytes (Refusal.PacketVersion n) none h = absurd (none (packet-block bytes h.0))
 
 abbrev refused : Refusal → List Answer
 refused refusal = Err refusal ∷ []
@@ -181,7 +138,7 @@ tile-unique bytes answers others (goes_on f r b l t e) (breaks x some none told)
 tile-unique bytes answers others (breaks x some none told) ends = absurd (some refl)
 tile-unique bytes answers others (breaks x some none told) (goes_on f r b l t e) = absurd (none b)
 tile-unique bytes answers others (breaks x some none told) (breaks y more nothing said) =
-    ap refused (sym (reason-one bytes x none told) ∙ reason-one bytes y none said)
+    ap refused (fails_one (checks bytes) x y told said)
 
 -- ---- what a call of `next` gives
 

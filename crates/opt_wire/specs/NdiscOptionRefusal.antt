@@ -1,9 +1,9 @@
 -- Why bytes begin with no option of neighbor discovery (RFC 4861 section 4.6), and the printed text of that reason.
-use Rattle.std.specs.Prelude.{◌≡◌, ◌≢◌, ℕ, ◌+◌, ◌*◌, ◌≤◌, ◌<◌, List, [], ◌∷◌, length, codes, decimal}
-use Rattle.opt_wire.specs.Words.{byte_of, bytes_of, pieces}
+use Rattle.std.specs.Prelude.{◌≡◌, ℕ, ◌+◌, ◌*◌, ◌≤◌, List, [], ◌∷◌, ◌++◌, length, codes, decimal}
+use Rattle.opt_wire.specs.Words.{Check, Fails, byte_of, bytes_of, check, pieces}
 use Rattle.wirebase.specs.Ipv6 as ipv6
 use Rattle.opt_wire.specs.NdiscOption.{type_field, units_in, redirected_field}
-use Rattle.opt_wire.specs.NdiscOptionTables.{type_text}
+use Rattle.opt_wire.specs.NdiscOptionTables.{type_of, type_text}
 use Rattle.opt_wire.specs.NdiscOptionRepr.{OptionValue, BeginsWith}
 use Rattle.opt_wire.specs.declared.ndiscoption.tables.Type.{«Type» as Kind}
 use Rattle.opt_wire.specs.declared.ndiscoption.refusal.Refusal.{Refusal}
@@ -12,40 +12,40 @@ use Rattle.opt_wire.specs.declared.ndiscoption.refusal.Refusal.{Refusal}
 abbrev pub IsRead : List ℕ → Type 0
 IsRead bytes = (value : OptionValue) × BeginsWith bytes value
 
--- the bytes begin with one unit or more, as many as they count
-pub record HasUnits (bytes : List ℕ) : Type 0 where
-  pub fixed : 8 ≤ length bytes
-  pub some : 1 ≤ units_in bytes
-  pub whole : 8 * units_in bytes ≤ length bytes
-
--- a type that does not allow this number of units: a prefix has 4, a redirected packet 6 or more, an MTU 1
-abbrev pub IsMisfit : List ℕ → Kind → ℕ → Type 0
-IsMisfit bytes Kind.PrefixInformation n = (byte_of type_field bytes ≡ 3) × (n ≢ 4)
-IsMisfit bytes Kind.RedirectedHeader n = (byte_of type_field bytes ≡ 4) × (n < 6)
-IsMisfit bytes Kind.Mtu n = (byte_of type_field bytes ≡ 5) × (n ≢ 1)
-IsMisfit bytes _ n = ⊥
-
--- the bytes begin with a redirected packet, of units that fit it
-pub record HasPacket (bytes : List ℕ) : Type 0 where
-  pub units : HasUnits bytes
-  pub kind : byte_of type_field bytes ≡ 4
-  pub fits : 6 ≤ units_in bytes
+abbrev pub kind_in : List ℕ → Kind
+kind_in bytes = type_of (byte_of type_field bytes)
 
 abbrev pub packet_in : List ℕ → List ℕ
 packet_in bytes = bytes_of (redirected_field bytes) bytes
 
--- why other bytes are refused: they are fewer than 8, count no units, end before the units do, count units that the
--- type does not have, or redirect a packet that is cut or of another version
+-- the checks of the units: the first is there, and they are one or more, and all there
+abbrev pub unit_checks : List ℕ → List (Check Refusal)
+unit_checks bytes =
+    check (8 ≤ length bytes) Refusal.Short
+    ∷ check (1 ≤ units_in bytes) Refusal.Zero
+    ∷ check (8 * units_in bytes ≤ length bytes) (Refusal.Cut (8 * units_in bytes))
+    ∷ []
+
+-- the checks by the type: a prefix has 4 units, an MTU 1, and a redirected packet 6 or more, and it is whole and of
+-- version 6
+abbrev pub type_checks : Kind → List ℕ → List (Check Refusal)
+type_checks Kind.PrefixInformation bytes =
+    check (units_in bytes ≡ 4) (Refusal.Length Kind.PrefixInformation (units_in bytes)) ∷ []
+type_checks Kind.RedirectedHeader bytes =
+    check (6 ≤ units_in bytes) (Refusal.Length Kind.RedirectedHeader (units_in bytes))
+    ∷ check (40 + ipv6.payload_len_in (packet_in bytes) ≤ length (packet_in bytes))
+    (Refusal.PacketCut (40 + ipv6.payload_len_in (packet_in bytes)))
+    ∷ check (ipv6.version_in (packet_in bytes) ≡ 6) (Refusal.PacketVersion (ipv6.version_in (packet_in bytes)))
+    ∷ []
+type_checks Kind.Mtu bytes = check (units_in bytes ≡ 1) (Refusal.Length Kind.Mtu (units_in bytes)) ∷ []
+type_checks _ bytes = []
+
+-- all checks, in their order: bytes that pass them are read, and of others the first that fails is the reason
+abbrev pub checks : List ℕ → List (Check Refusal)
+checks bytes = unit_checks bytes ++ type_checks (kind_in bytes) bytes
+
 abbrev pub Refuses : List ℕ → Refusal → Type 0
-Refuses bytes Refusal.Short = length bytes < 8
-Refuses bytes Refusal.Zero = (8 ≤ length bytes) × (units_in bytes ≡ 0)
-Refuses bytes (Refusal.Cut n) =
-    (8 ≤ length bytes) × (1 ≤ units_in bytes) × (length bytes < n) × (n ≡ 8 * units_in bytes)
-Refuses bytes (Refusal.Length t n) = HasUnits bytes × (n ≡ units_in bytes) × IsMisfit bytes t n
-Refuses bytes (Refusal.PacketCut n) =
-    HasPacket bytes × (length (packet_in bytes) < n) × (n ≡ 40 + ipv6.payload_len_in (packet_in bytes))
-Refuses bytes (Refusal.PacketVersion n) =
-    HasPacket bytes × ipv6.BeginsWhole (packet_in bytes) × (n ≡ ipv6.version_in (packet_in bytes)) × (n ≢ 6)
+Refuses bytes why = Fails (checks bytes) why
 
 abbrev pub refusal_text : Refusal → List ℕ
 refusal_text Refusal.Short = codes "fewer than 8 bytes"
