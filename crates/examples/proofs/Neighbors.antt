@@ -109,7 +109,7 @@ pub tell_prefixes : (source destination : Ipv6Address) (bytes : List ℕ) (v : N
     → IsGoodMessageV6 source destination bytes (ndisc v) → RouterIn router v
     → (prefixes : List PrefixInformation) × TellPrefixes (options_in bytes) prefixes
 tell_prefixes source destination bytes (router_advert a) router good is =
-    let message = good.content.0 in (
+    let message = good.content in (
       filter_map prefix_in message.options,
       record {
         options = message.options;

@@ -56,7 +56,7 @@ content-canonical bytes (unreachable reason quoted d) are some small m =
       header-read_canonical (data_in bytes) quoted (IsBytes-drop 8 bytes are) m.0.header,
     )
 content-canonical bytes (too_big mtu quoted d) are some small m = (
-  omega (arith, m.2, number_of-small4 4 8 bytes refl are),
+  omega (arith, m.1, number_of-small4 4 8 bytes refl are),
   header-read_canonical (data_in bytes) quoted (IsBytes-drop 8 bytes are) m.0.header,
 )
 content-canonical bytes (time_exceeded reason quoted d) are some small m =
@@ -86,8 +86,8 @@ content-canonical bytes (echo_reply ident seq_no d) are some small m = (
   omega (arith, m.sequence, number_of-small 6 8 bytes refl are),
   omega (arith, ap (λ (l : List ℕ). length l) m.data_is, length-drop 8 bytes),
 )
-content-canonical bytes (ndisc m) are some small c = ndisc_format.accepted bytes m are small c.0
-content-canonical bytes (mld m) are some small c = mld_format.accepted bytes m are small c.0
+content-canonical bytes (ndisc m) are some small c = ndisc_format.accepted bytes m are small c
+content-canonical bytes (mld m) are some small c = mld_format.accepted bytes m are small c
 
 -- ---- the normal form
 
@@ -126,8 +126,8 @@ norm-uncut bytes (unreachable reason quoted d) are c uncut = cc (quoted-whole d 
 norm-uncut bytes (too_big mtu quoted d) are c uncut = cc (quoted-whole d (few d uncut))
 norm-uncut bytes (time_exceeded reason quoted d) are c uncut = cc (quoted-whole d (few d uncut))
 norm-uncut bytes (param_problem reason pointer quoted d) are c uncut = cc (quoted-whole d (few d uncut))
-norm-uncut bytes (ndisc m) are c uncut = cc (message-kept bytes m are c.0)
-norm-uncut bytes (mld m) are c uncut = cc (norm-read bytes m c.0)
+norm-uncut bytes (ndisc m) are c uncut = cc (message-kept bytes m are c)
+norm-uncut bytes (mld m) are c uncut = cc (norm-read bytes m c)
 norm-uncut bytes _ are c uncut = refl
 
 -- ---- all of it
@@ -140,7 +140,7 @@ module _ (capabilities : ChecksumCapabilities) (source destination : Ipv6Address
     norm_canonical = norm-canonical;
     norm_norm = norm-norm;
     norm_text = λ v c regular. ap (λ (bytes : List ℕ). seal capabilities source destination bytes) (norm-text v c);
-    accepted = λ bytes v are small m. content-canonical bytes v are m.whole.fixed small m.content;
+    accepted = λ bytes v are small m. content-canonical bytes v are m.passes.0 small m.content;
     regular = λ bytes v m e. e;
     kept = λ bytes v are c m uncut. norm-uncut bytes v are m.content uncut;
   }

@@ -1,14 +1,20 @@
 -- The grammar of ICMPv6 messages: the bytes are one message at most, by the type at their front.
-use Rattle.std.proofs.Common.{◌≡◌, ℕ, ◌≤◌, true, List, length, refl, sym, ap, ◌∙◌, arith}
-use Rattle.icmp6_wire.specs.Words.{byte_of, type_field, ChecksumCapabilities, Ipv6Address, Ipv6Repr, Message}
+use Rattle.std.proofs.Common.{◌≡◌, inl, inr, ℕ, ◌≤◌, true, false, List, [], ◌∷◌, length, refl, sym, ap, ◌∙◌, arith}
+use Rattle.icmp6_wire.specs.Words.{byte_of, type_field, ChecksumCapabilities, Ipv6Address, Ipv6Repr, Message, Passes}
+use Rattle.wirebase.proofs.Checks.{passes_fails}
 use Rattle.wirebase.proofs.Ipv6Header.{one_header}
-use Rattle.icmp6_wire.specs.Icmpv6Tables.{message_of}
+use Rattle.icmp6_wire.specs.Icmpv6Tables.{message_number, message_of, is_ndisc, is_mld}
 use Rattle.icmp6_wire.specs.Icmpv6Packet.{message_in, header_len_of, is_read, BeginsWhole}
 use Rattle.icmp6_wire.specs.Icmpv6.{MessageValue, unreachable, too_big, time_exceeded, param_problem, echo_request}
-use Rattle.icmp6_wire.specs.Icmpv6.{echo_reply, mld, ndisc, IsError, IsContent, IsMessage}
+use Rattle.icmp6_wire.specs.Icmpv6.{echo_reply, mld, ndisc, code_check, type_checks, checks, IsError, IsContent}
+use Rattle.icmp6_wire.specs.Icmpv6.{IsMessage}
+use Rattle.icmp6_wire.specs.Icmpv6Refusal.{Refuses}
 use Rattle.icmp6_wire.specs.Mld.{MldValue, query, report, records}
 use Rattle.icmp6_wire.specs.Ndisc.{NdiscValue, router_solicit, router_advert, neighbor_solicit, neighbor_advert}
-use Rattle.icmp6_wire.specs.Ndisc.{redirect}
+use Rattle.icmp6_wire.specs.Ndisc.{redirect, checks as neighbor_checks, IsMessage as IsNeighborMessage}
+use Rattle.icmp6_wire.specs.NdiscRefusal as neighbors
+use Rattle.icmp6_wire.specs.declared.icmpv6.refusal.Refusal.{Refusal}
+use Rattle.icmp6_wire.specs.declared.ndisc.refusal.Refusal.{Refusal as NeighborRefusal}
 use Rattle.icmp6_wire.proofs.MldTexts.{message-one}
 use Rattle.icmp6_wire.proofs.NdiscFormat.{message-one as neighbor-one}
 
@@ -52,14 +58,14 @@ content-value_kind bytes (time_exceeded reason quoted d) c = same_kind 3 bytes c
 content-value_kind bytes (param_problem reason pointer quoted d) c = same_kind 4 bytes c.0.kind
 content-value_kind bytes (echo_request ident seq_no d) c = same_kind 0x80 bytes c.kind
 content-value_kind bytes (echo_reply ident seq_no d) c = same_kind 0x81 bytes c.kind
-content-value_kind bytes (ndisc (router_solicit l)) c = same_kind 0x85 bytes c.0.content.0
-content-value_kind bytes (ndisc (router_advert a)) c = same_kind 0x86 bytes c.0.content.kind
-content-value_kind bytes (ndisc (neighbor_solicit t l)) c = same_kind 0x87 bytes c.0.content.0
-content-value_kind bytes (ndisc (neighbor_advert flags t l)) c = same_kind 0x88 bytes c.0.content.0
-content-value_kind bytes (ndisc (redirect t d l r)) c = same_kind 0x89 bytes c.0.content.0
-content-value_kind bytes (mld (query code group flag qrv qqic sources d)) c = same_kind 0x82 bytes c.0.kind
-content-value_kind bytes (mld (report count d)) c = same_kind 0x8f bytes c.0.kind
-content-value_kind bytes (mld (records rs)) c = absurd c.0
+content-value_kind bytes (ndisc (router_solicit l)) c = same_kind 0x85 bytes c.content.0
+content-value_kind bytes (ndisc (router_advert a)) c = same_kind 0x86 bytes c.content.kind
+content-value_kind bytes (ndisc (neighbor_solicit t l)) c = same_kind 0x87 bytes c.content.0
+content-value_kind bytes (ndisc (neighbor_advert flags t l)) c = same_kind 0x88 bytes c.content.0
+content-value_kind bytes (ndisc (redirect t d l r)) c = same_kind 0x89 bytes c.content.0
+content-value_kind bytes (mld (query code group flag qrv qqic sources d)) c = same_kind 0x82 bytes c.content.kind
+content-value_kind bytes (mld (report count d)) c = same_kind 0x8f bytes c.content.kind
+content-value_kind bytes (mld (records rs)) c = absurd c.content
 
 error-unique : (t : ℕ) (bytes : List ℕ) (quoted other : Ipv6Repr) (d e : List ℕ) → IsError t bytes quoted d
     → IsError t bytes other e → (quoted ≡ other) × (d ≡ e)
@@ -72,7 +78,7 @@ content-unique bytes (unreachable reason quoted d) (unreachable other another e)
     cc (a.1 ∙ sym b.1)
 content-unique bytes (too_big mtu quoted d) (too_big other another e) a b same =
     let quotes = error-unique 2 bytes quoted another d e a.0 b.0 in
-    cc (a.2 ∙ sym b.2)
+    cc (a.1 ∙ sym b.1)
 content-unique bytes (time_exceeded reason quoted d) (time_exceeded other another e) a b same =
     let quotes = error-unique 3 bytes quoted another d e a.0 b.0 in
     cc (a.1 ∙ sym b.1)
@@ -83,8 +89,8 @@ content-unique bytes (echo_request ident seq_no d) (echo_request other number e)
     cc (a.identifier ∙ sym b.identifier, a.sequence ∙ sym b.sequence, a.data_is ∙ sym b.data_is)
 content-unique bytes (echo_reply ident seq_no d) (echo_reply other number e) a b same =
     cc (a.identifier ∙ sym b.identifier, a.sequence ∙ sym b.sequence, a.data_is ∙ sym b.data_is)
-content-unique bytes (ndisc m) (ndisc n) a b same = ap (λ (x : NdiscValue). ndisc x) (neighbor-one bytes m n a.0 b.0)
-content-unique bytes (mld m) (mld n) a b same = ap (λ (x : MldValue). mld x) (message-one bytes m n a.0 b.0)
+content-unique bytes (ndisc m) (ndisc n) a b same = ap (λ (x : NdiscValue). ndisc x) (neighbor-one bytes m n a b)
+content-unique bytes (mld m) (mld n) a b same = ap (λ (x : MldValue). mld x) (message-one bytes m n a b)
 content-unique bytes _ _ a b same = absurd (omega arith)
 
 pub content-one : (bytes : List ℕ) (v w : MessageValue) → IsContent bytes v → IsContent bytes w → v ≡ w
@@ -98,26 +104,71 @@ message-unique capabilities source destination bytes v w a b = content-one bytes
 
 -- ---- what is read, and what is refused
 
--- bytes of one of these types that hold its header begin with a whole one
-header-known : (t n : ℕ) (bytes : List ℕ) → 8 ≤ length bytes → is_read (message_of t) ≡ true
-    → header_len_of (message_of t) ≡ n → n ≤ length bytes → byte_of type_field bytes ≡ t → BeginsWhole bytes
-header-known t n bytes some known long room kind =
+-- the messages of both protocols are read
+ndisc-read : (m : Message) → is_ndisc m ≡ true → is_read m ≡ true
+ndisc-read Message.RplControl e = cc
+ndisc-read (Message.Unknown n) e = cc
+ndisc-read _ e = refl
+
+mld-read : (m : Message) → is_mld m ≡ true → is_read m ≡ true
+mld-read Message.RplControl e = cc
+mld-read (Message.Unknown n) e = cc
+mld-read _ e = refl
+
+-- bytes of a type whose header has 8 bytes begin with a whole one
+header-known : (t : ℕ) (bytes : List ℕ) → 8 ≤ length bytes → is_read (message_of t) ≡ true
+    → header_len_of (message_of t) ≡ 8 → byte_of type_field bytes ≡ t → BeginsWhole bytes
+header-known t bytes some known long kind =
     let is : message_in bytes ≡ message_of t = ap message_of kind in
-    record {
-      fixed = some;
-      known = ap is_read is ∙ known;
-      whole = omega (arith, ap header_len_of is, long);
-    }
+    (some, (ap is_read is ∙ known, (omega (arith, ap header_len_of is, long, some), tt)))
 
 pub whole-content : (bytes : List ℕ) (v : MessageValue) → 8 ≤ length bytes → IsContent bytes v → BeginsWhole bytes
-whole-content bytes (unreachable reason quoted d) some c = header-known 1 8 bytes some refl refl some c.0.kind
-whole-content bytes (too_big mtu quoted d) some c = header-known 2 8 bytes some refl refl some c.0.kind
-whole-content bytes (time_exceeded reason quoted d) some c = header-known 3 8 bytes some refl refl some c.0.kind
-whole-content bytes (param_problem reason pointer quoted d) some c = header-known 4 8 bytes some refl refl some c.0.kind
-whole-content bytes (echo_request ident seq_no d) some c = header-known 0x80 8 bytes some refl refl some c.kind
-whole-content bytes (echo_reply ident seq_no d) some c = header-known 0x81 8 bytes some refl refl some c.kind
-whole-content bytes (ndisc m) some c = c.0.whole
-whole-content bytes (mld (query code group flag qrv qqic sources d)) some c =
-    header-known 0x82 28 bytes some refl refl c.0.whole c.0.kind
-whole-content bytes (mld (report count d)) some c = header-known 0x8f 8 bytes some refl refl c.0.whole c.0.kind
-whole-content bytes (mld (records rs)) some c = absurd c.0
+whole-content bytes (unreachable reason quoted d) some c = header-known 1 bytes some refl refl c.0.kind
+whole-content bytes (too_big mtu quoted d) some c = header-known 2 bytes some refl refl c.0.kind
+whole-content bytes (time_exceeded reason quoted d) some c = header-known 3 bytes some refl refl c.0.kind
+whole-content bytes (param_problem reason pointer quoted d) some c = header-known 4 bytes some refl refl c.0.kind
+whole-content bytes (echo_request ident seq_no d) some c = header-known 0x80 bytes some refl refl c.kind
+whole-content bytes (echo_reply ident seq_no d) some c = header-known 0x81 bytes some refl refl c.kind
+whole-content bytes (ndisc m) some c =
+    (c.passes.0, (ndisc-read (message_in bytes) c.passes.1.0, c.passes.1.1))
+whole-content bytes (mld m) some c =
+    (c.passes.0, (mld-read (message_in bytes) c.passes.1.0, c.passes.1.1))
+
+-- the one check by the type in a message that is no error
+pub code_checks : (m : Message) (bytes : List ℕ) → 128 ≤ message_number m → type_checks m bytes ≡ code_check bytes ∷ []
+code_checks Message.DstUnreachable bytes other = absurd (omega (arith, other))
+code_checks Message.PktTooBig bytes other = absurd (omega (arith, other))
+code_checks Message.TimeExceeded bytes other = absurd (omega (arith, other))
+code_checks Message.ParamProblem bytes other = absurd (omega (arith, other))
+code_checks _ bytes other = refl
+
+-- no other value is read in a message of neighbor discovery
+not_ndisc : (t : ℕ) (bytes : List ℕ) → is_ndisc (message_of t) ≡ false → byte_of type_field bytes ≡ t
+    → is_ndisc (message_in bytes) ≡ true → ⊥
+not_ndisc t bytes other kind is =
+    let never : false ≡ true = sym other ∙ sym (ap (λ (n : ℕ). is_ndisc (message_of n)) kind) ∙ is in
+    cc
+
+pub neighbor_unread : (bytes : List ℕ) → is_ndisc (message_in bytes) ≡ true
+    → ((m : NdiscValue) → IsNeighborMessage bytes m → ⊥) → (v : MessageValue) → IsContent bytes v → ⊥
+neighbor_unread bytes is none (unreachable reason quoted d) c = not_ndisc 1 bytes refl c.0.kind is
+neighbor_unread bytes is none (too_big mtu quoted d) c = not_ndisc 2 bytes refl c.0.kind is
+neighbor_unread bytes is none (time_exceeded reason quoted d) c = not_ndisc 3 bytes refl c.0.kind is
+neighbor_unread bytes is none (param_problem reason pointer quoted d) c = not_ndisc 4 bytes refl c.0.kind is
+neighbor_unread bytes is none (echo_request ident seq_no d) c = not_ndisc 0x80 bytes refl c.kind is
+neighbor_unread bytes is none (echo_reply ident seq_no d) c = not_ndisc 0x81 bytes refl c.kind is
+neighbor_unread bytes is none (ndisc m) c = none m c
+neighbor_unread bytes is none (mld (query code group flag qrv qqic sources d)) c =
+    not_ndisc 0x82 bytes refl c.content.kind is
+neighbor_unread bytes is none (mld (report count d)) c = not_ndisc 0x8f bytes refl c.content.kind is
+neighbor_unread bytes is none (mld (records rs)) c = absurd c.content
+
+-- what is refused in a message of neighbor discovery whose checks hold is an option
+pub neighbor_refused : (capabilities : ChecksumCapabilities) (source destination : Ipv6Address) (bytes : List ℕ)
+    (reason : NeighborRefusal) → Passes (checks capabilities source destination bytes)
+    → is_ndisc (message_in bytes) ≡ true → neighbors.Refuses bytes reason
+    → Refuses capabilities source destination bytes (Refusal.Ndisc reason)
+neighbor_refused capabilities source destination bytes reason passes is (inl fails) =
+    absurd (passes_fails (neighbor_checks bytes) (passes.0, (is, (passes.1.1.0, tt))) reason fails)
+neighbor_refused capabilities source destination bytes reason passes is (inr told) =
+    inr (record { passes = passes; neighbor = is; reason = reason; why_is = refl; option = told.1 })

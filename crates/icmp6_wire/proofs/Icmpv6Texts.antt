@@ -1,25 +1,27 @@
 -- The texts of ICMPv6 messages: their lengths, and what is read in them.
-use Rattle.std.proofs.Common.{◌≡◌, ℕ, ◌<◌, ◌≤◌, ◌^◌, min, List, [], ◌∷◌, ◌++◌, length, take, drop}
+use Rattle.std.proofs.Common.{◌≡◌, ℕ, ◌<◌, ◌≤◌, ◌^◌, min, true, List, [], ◌∷◌, ◌++◌, length, take, drop}
 use Rattle.std.proofs.Common.{refl, sym, ap, subst, ◌∙◌, arith, length-append}
 use Rattle.std.proofs.lemmas.List.{append-nil, length-take, take_all, take_min}
 use Rattle.byteorder.specs.Endian.{big_bytes}
 use Rattle.byteorder.specs.Numbers.{big_number-reads_back}
 use Rattle.icmp6_wire.specs.Words.{part, byte_of, number_of, be8, be16, be32, fields, code_field, checksum_field}
 use Rattle.icmp6_wire.specs.Words.{IsEcho, echo_fields, header_text, IsProper, IsGood, ChecksumCapabilities}
-use Rattle.icmp6_wire.specs.Words.{Ipv6Address, Ipv6Repr, DstUnreachable, ParamProblem, TimeExceeded}
+use Rattle.icmp6_wire.specs.Words.{Ipv6Address, Ipv6Repr, DstUnreachable, Message, ParamProblem, TimeExceeded, Check}
+use Rattle.icmp6_wire.specs.Words.{Passes, type_field, is_verified}
 use Rattle.wirebase.proofs.CapabilitySeals.{length-sealed_where, IsGood-sealed_where}
 use Rattle.wirebase.proofs.IcmpTexts.{echo_text, header_sealed, echo_read}
 use Rattle.wirebase.proofs.Ipv6Header.{length-header_text, header-read, drop-header_text}
 use Rattle.wirebase.proofs.Numbered.{case_in-unnamed}
-use Rattle.icmp6_wire.specs.Icmpv6Packet.{word_field, message_sum}
+use Rattle.icmp6_wire.specs.Icmpv6Packet.{word_field, message_in, message_sum}
 use Rattle.icmp6_wire.specs.Icmpv6Tables.{unreachable_number, unreachable_rows, unreachable_of, param_problem_number}
 use Rattle.icmp6_wire.specs.Icmpv6Tables.{param_problem_rows, param_problem_of, time_exceeded_number}
-use Rattle.icmp6_wire.specs.Icmpv6Tables.{time_exceeded_rows, time_exceeded_of}
+use Rattle.icmp6_wire.specs.Icmpv6Tables.{time_exceeded_rows, time_exceeded_of, message_of}
 use Rattle.icmp6_wire.specs.Icmpv6.{MessageValue, unreachable, too_big, time_exceeded, param_problem, echo_request}
 use Rattle.icmp6_wire.specs.Icmpv6.{echo_reply, mld, ndisc, quoted_data, error_fields, text, error_len, text_len, seal}
 use Rattle.icmp6_wire.specs.Icmpv6.{packet_text, CanEmit, IsError, IsContent, IsMessage, CanQuote, IsCanonical}
-use Rattle.icmp6_wire.specs.Icmpv6.{Fills, norm}
-use Rattle.icmp6_wire.proofs.Icmpv6Grammar.{whole-content}
+use Rattle.icmp6_wire.specs.Icmpv6.{Fills, norm, type_checks}
+use Rattle.icmp6_wire.specs.declared.icmpv6.refusal.Refusal.{Refusal}
+use Rattle.icmp6_wire.proofs.Icmpv6Grammar.{whole-content, code_checks}
 use Rattle.icmp6_wire.proofs.Icmpv6Seals.{Begins, sealed-begins}
 use Rattle.icmp6_wire.specs.Mld as listeners
 use Rattle.icmp6_wire.specs.Mld.{MldValue}
@@ -29,6 +31,7 @@ use Rattle.icmp6_wire.specs.Ndisc as neighbors
 use Rattle.icmp6_wire.specs.Ndisc.{NdiscValue}
 use Rattle.icmp6_wire.proofs.NdiscReading.{kind_of as ndisc_kind, body, text_at, begun_read}
 use Rattle.icmp6_wire.proofs.NdiscTexts.{length-text as length-ndisc, text_some as ndisc_some}
+use Rattle.icmp6_wire.proofs.NdiscTiling.{kind_read}
 
 -- ---- what an error quotes
 
@@ -136,13 +139,32 @@ unfolding part
 error_read bytes t code word quoted d c small b = rw b.whole (record {
   error = record {
     kind = refl;
-    quote = omega (arith, length-append (header_text quoted) d, length-header_text quoted);
     header = header-read quoted d c.3 c.0;
     data_is = sym (drop-header_text quoted d);
   };
   code_is = refl;
   word_is = sym (big_number-reads_back 4 word [] (omega (arith, small)));
 })
+
+-- the checks by the type, in bytes of a known type
+type_passes : (t : ℕ) (bytes : List ℕ) → byte_of type_field bytes ≡ t → Passes (type_checks (message_of t) bytes)
+    → Passes (type_checks (message_in bytes) bytes)
+type_passes t bytes kind passes =
+    subst (λ (m : Message). Passes (type_checks m bytes)) (sym (ap message_of kind)) passes
+
+code_begun : {bytes : List ℕ} {t : ℕ} {rest : List ℕ} → Begins bytes t 0 rest → 128 ≤ t
+    → Passes (type_checks (message_in bytes) bytes)
+code_begun {bytes = bytes} b other =
+    let kind = ap (λ (l : List ℕ). byte_of type_field l) b.whole in
+    subst (λ (l : List (Check Refusal)). Passes l)
+    (sym (code_checks (message_in bytes) bytes (omega (arith, other, kind, kind_read bytes (message_in bytes) refl))))
+    (ap (λ (l : List ℕ). byte_of code_field l) b.whole, tt)
+
+ndisc_large : (m : NdiscValue) → 128 ≤ ndisc_kind m
+ndisc_large m = grind arith
+
+mld_large : (m : MldValue) → 128 ≤ type_of m
+mld_large m = grind arith
 
 module _ (capabilities : ChecksumCapabilities) (source destination : Ipv6Address) where
   sealed_error : (t code word : ℕ) (quoted : Ipv6Repr) (d : List ℕ) → CanQuote quoted → word < 2 ^ 32
@@ -158,22 +180,29 @@ module _ (capabilities : ChecksumCapabilities) (source destination : Ipv6Address
       echo_read _ t ident seq_no d h k
       (header_sealed _ capabilities.icmpv6 t 0 ident seq_no d _ (echo_text t ident seq_no d))
 
+  mld_begun : (m : MldValue) → Begins (seal capabilities source destination (listeners.text m)) (type_of m) 0
+      (drop 4 (listeners.text m))
+  mld_begun m = sealed-begins capabilities.icmpv6 _ _ (type_of m) 0 _ (text-begins m)
+
+  ndisc_begun : (m : NdiscValue) → Begins (seal capabilities source destination (neighbors.text m)) (ndisc_kind m) 0
+      (body m)
+  ndisc_begun m = sealed-begins capabilities.icmpv6 _ _ (ndisc_kind m) 0 (body m) (text_at m)
+
+  error_room : (v : MessageValue) → 48 ≤ text_len v → 48 ≤ length (packet_text capabilities source destination v)
+  error_room v room = omega (arith, room, length-packet_text capabilities source destination v)
+
   sealed_mld : (m : MldValue) → listeners.IsCanonical m
       → IsContent (seal capabilities source destination (listeners.text m)) (mld (listeners.norm m))
   sealed_mld m c =
       let rest : List ℕ = drop 4 (listeners.text m) in
-      let b = sealed-begins capabilities.icmpv6 (listeners.text m)
-      (message_sum source destination (length (listeners.text m))) (type_of m) 0 rest (text-begins m) in
+      let b = mld_begun m in
       let alone = subst (λ (bytes : List ℕ). listeners.IsMessage bytes (listeners.norm m)) (text-begins m)
       (message_read m c) in
-      rw b.whole (message-unsealed (type_of m) 0 0 0 b.first b.second rest (listeners.norm m) alone, refl)
+      rw b.whole (message-unsealed (type_of m) 0 0 0 b.first b.second rest (listeners.norm m) alone)
 
   sealed_ndisc : (m : NdiscValue) → neighbors.IsCanonical m
       → IsContent (seal capabilities source destination (neighbors.text m)) (ndisc (neighbors.norm m))
-  sealed_ndisc m c =
-      let b = sealed-begins capabilities.icmpv6 (neighbors.text m)
-      (message_sum source destination (length (neighbors.text m))) (ndisc_kind m) 0 (body m) (text_at m) in
-      (begun_read _ m c b, ap (λ (bytes : List ℕ). byte_of code_field bytes) b.whole)
+  sealed_ndisc m c = begun_read _ m c (ndisc_begun m)
 
   pub content_read : (v : MessageValue) → IsCanonical v → IsContent (packet_text capabilities source destination v)
       (norm v)
@@ -182,7 +211,7 @@ module _ (capabilities : ChecksumCapabilities) (source destination : Ipv6Address
       (read.error, unreachable_of-number reason c.0 ∙ ap unreachable_of (sym read.code_is))
   content_read (too_big mtu quoted d) c =
       let read = sealed_error 2 0 mtu quoted d c.1 c.0 in
-      (read.error, read.code_is, read.word_is)
+      (read.error, read.word_is)
   content_read (time_exceeded reason quoted d) c =
       let read = sealed_error 3 (time_exceeded_number reason) 0 quoted d c.2 (omega arith) in
       (read.error, time_exceeded_of-number reason c.0 ∙ ap time_exceeded_of (sym read.code_is))
@@ -194,6 +223,33 @@ module _ (capabilities : ChecksumCapabilities) (source destination : Ipv6Address
   content_read (ndisc m) c = sealed_ndisc m c
   content_read (mld m) c = sealed_mld m c
 
+  -- its checks by the type hold too
+  type_read : (v : MessageValue) → IsCanonical v
+      → Passes (type_checks (message_in (packet_text capabilities source destination v))
+      (packet_text capabilities source destination v))
+  type_read (unreachable reason quoted d) c =
+      let read = sealed_error 1 (unreachable_number reason) 0 quoted d c.2 (omega arith) in
+      type_passes 1 _ read.error.kind (error_room (unreachable reason quoted d) (omega arith), tt)
+  type_read (too_big mtu quoted d) c =
+      let read = sealed_error 2 0 mtu quoted d c.1 c.0 in
+      type_passes 2 _ read.error.kind (error_room (too_big mtu quoted d) (omega arith), (read.code_is, tt))
+  type_read (time_exceeded reason quoted d) c =
+      let read = sealed_error 3 (time_exceeded_number reason) 0 quoted d c.2 (omega arith) in
+      type_passes 3 _ read.error.kind (error_room (time_exceeded reason quoted d) (omega arith), tt)
+  type_read (param_problem reason pointer quoted d) c =
+      let read = sealed_error 4 (param_problem_number reason) pointer quoted d c.3 c.2 in
+      type_passes 4 _ read.error.kind (error_room (param_problem reason pointer quoted d) (omega arith), tt)
+  type_read (echo_request ident seq_no d) c =
+      let bytes : List ℕ = packet_text capabilities source destination (echo_request ident seq_no d) in
+      let read = sealed_echo 0x80 ident seq_no d c.0 c.1 in
+      type_passes 0x80 bytes read.kind (read.code, tt)
+  type_read (echo_reply ident seq_no d) c =
+      let bytes : List ℕ = packet_text capabilities source destination (echo_reply ident seq_no d) in
+      let read = sealed_echo 0x81 ident seq_no d c.0 c.1 in
+      type_passes 0x81 bytes read.kind (read.code, tt)
+  type_read (ndisc m) c = code_begun (ndisc_begun m) (ndisc_large m)
+  type_read (mld m) c = code_begun (mld_begun m) (mld_large m)
+
 -- the packet of a canonical value is read as its normal form
 pub message_text : (capabilities : ChecksumCapabilities) (source destination : Ipv6Address) (v : MessageValue)
     → Fills capabilities → IsCanonical v → IsMessage capabilities source destination
@@ -203,13 +259,16 @@ message_text capabilities source destination v fills c =
     length-packet_text capabilities source destination v ∙ sym (length-text v) in
     let some : 8 ≤ length (text v) = omega (arith, text_some v, length-text v) in
     let content = content_read capabilities source destination v c in
+    let front =
+    whole-content (packet_text capabilities source destination v) (norm v) (omega (arith, some, long)) content in
+    let good : is_verified capabilities.icmpv6 ≡ true → IsGood (packet_text capabilities source destination v)
+    (message_sum source destination (length (packet_text capabilities source destination v))) = λ verified. subst
+    (λ (n : ℕ). IsGood (packet_text capabilities source destination v) (message_sum source destination n))
+    (sym long)
+    (IsGood-sealed_where checksum_field (text v) (message_sum source destination (length (text v))) refl
+    (omega (arith, some)) capabilities.icmpv6 refl fills verified) in
     record {
-      whole = whole-content (packet_text capabilities source destination v) (norm v)
-          (omega (arith, some, long)) content;
-      good = λ verified. subst
-          (λ (n : ℕ). IsGood (packet_text capabilities source destination v) (message_sum source destination n))
-          (sym long)
-          (IsGood-sealed_where checksum_field (text v) (message_sum source destination (length (text v))) refl
-          (omega (arith, some)) capabilities.icmpv6 refl fills verified);
+      passes =
+          (front.0, (front.1.0, (front.1.1.0, (good, type_read capabilities source destination v c))));
       content = content;
     }

@@ -7,7 +7,7 @@ use Rattle.byteorder.specs.Numbers.{big_number-reads_back}
 use Rattle.icmp6_wire.specs.Words.{IsBytes, part, fields, SameText, octets_of, Ipv6Address}
 use Rattle.wirebase.proofs.ByteParts.{number_of-small}
 use Rattle.wirebase.proofs.Format.{IsFormat, same_text}
-use Rattle.icmp6_wire.specs.Mld.{MldValue, query, report, records, sqrv, record_texts, text, IsQuery, IsReport}
+use Rattle.icmp6_wire.specs.Mld.{MldValue, query, report, records, sqrv, record_texts, text, IsContent}
 use Rattle.icmp6_wire.specs.Mld.{IsMessage, IsCanonical, norm, format}
 use Rattle.icmp6_wire.proofs.MldTexts.{query_text, report_text, length-records, message-one}
 
@@ -23,9 +23,9 @@ qrv_read false qrv small = omega arith
 
 query_read : (code : ℕ) (group : Ipv6Address) (flag : Bool) (qrv qqic sources : ℕ) (d : List ℕ) → code < 2 ^ 16
     → qrv < 8 → sources < 2 ^ 16
-    → IsQuery (0x82 ∷ 0 ∷ 0 ∷ 0
+    → IsMessage (0x82 ∷ 0 ∷ 0 ∷ 0
     ∷ (big_bytes 2 code ++ (0 ∷ 0 ∷ (octets_of group ++ (sqrv flag qrv ∷ qqic ∷ (big_bytes 2 sources ++ d))))))
-    code group flag qrv qqic sources d
+    (query code group flag qrv qqic sources d)
 unfolding part
 query_read code group flag qrv qqic sources d few small many =
     let behind : List ℕ = sqrv flag qrv ∷ qqic ∷ (big_bytes 2 sources ++ d) in
@@ -35,27 +35,31 @@ query_read code group flag qrv qqic sources d few small many =
     let first = get_or-append_right (octets_of group) behind 16 16 0 group.whole (omega arith) in
     let second = get_or-append_right (octets_of group) behind 16 17 0 group.whole (omega arith) in
     record {
-      kind = refl;
-      whole = omega (arith, length-append (octets_of group) behind, group.whole);
-      code_is = sym (big_number-reads_back 2 code [] (omega (arith, few)));
-      group_is = sym (take_at (octets_of group) behind 16 group.whole);
-      flag_is = rw first (flag_read flag qrv small);
-      qrv_is = rw first (qrv_read flag qrv small);
-      qqic_is = sym second;
-      sources_are =
-          sym (ap (λ (l : List ℕ). big_number 2 (take 2 l)) (past 2)
-          ∙ big_number-reads_back 2 sources [] (omega (arith, many)));
-      data_is = sym (past 4);
+      passes = (omega arith, (refl, (omega (arith, length-append (octets_of group) behind, group.whole), tt)));
+      content = record {
+        kind = refl;
+        code_is = sym (big_number-reads_back 2 code [] (omega (arith, few)));
+        group_is = sym (take_at (octets_of group) behind 16 group.whole);
+        flag_is = rw first (flag_read flag qrv small);
+        qrv_is = rw first (qrv_read flag qrv small);
+        qqic_is = sym second;
+        sources_are =
+            sym (ap (λ (l : List ℕ). big_number 2 (take 2 l)) (past 2)
+            ∙ big_number-reads_back 2 sources [] (omega (arith, many)));
+        data_is = sym (past 4);
+      };
     }
 
 report_read : (count : ℕ) (d : List ℕ) → count < 2 ^ 16
-    → IsReport (0x8f ∷ 0 ∷ 0 ∷ 0 ∷ 0 ∷ 0 ∷ (big_bytes 2 count ++ d)) count d
+    → IsMessage (0x8f ∷ 0 ∷ 0 ∷ 0 ∷ 0 ∷ 0 ∷ (big_bytes 2 count ++ d)) (report count d)
 unfolding part
 report_read count d few = record {
-  kind = refl;
-  whole = omega arith;
-  count_is = sym (big_number-reads_back 2 count [] (omega (arith, few)));
-  data_is = refl;
+  passes = (omega arith, (refl, (omega arith, tt)));
+  content = record {
+    kind = refl;
+    count_is = sym (big_number-reads_back 2 count [] (omega (arith, few)));
+    data_is = refl;
+  };
 }
 
 -- the text of a report
@@ -65,7 +69,7 @@ one_text count d =
     report_text count (d ∷ [])
     ∙ ap (λ (l : List ℕ). 0x8f ∷ 0 ∷ 0 ∷ 0 ∷ 0 ∷ 0 ∷ (big_bytes 2 count ++ l)) (append-nil d)
 
-one_report : (count : ℕ) (d : List ℕ) → count < 2 ^ 16 → IsReport (text (report count d)) count d
+one_report : (count : ℕ) (d : List ℕ) → count < 2 ^ 16 → IsMessage (text (report count d)) (report count d)
 one_report count d few = rw (one_text count d) (report_read count d few)
 
 pub norm-text : (v : MldValue) → text (norm v) ≡ text v
@@ -79,25 +83,25 @@ message_read (query code group flag qrv qqic sources d) c =
     rw (query_text code group flag qrv qqic sources d) (query_read code group flag qrv qqic sources d c.0 c.1 c.3)
 message_read (report count d) c = one_report count d c.0
 message_read (records rs) c =
-    subst (λ (bytes : List ℕ). IsReport bytes (length rs) (fields (record_texts rs))) (norm-text (records rs))
+    subst (λ (bytes : List ℕ). IsMessage bytes (norm (records rs))) (norm-text (records rs))
     (one_report (length rs) (fields (record_texts rs)) (omega (arith, c.0)))
 
 -- ---- what was read
 
-message-canonical : (bytes : List ℕ) (v : MldValue) → IsBytes bytes → length bytes ≤ 65515 → IsMessage bytes v
+content-canonical : (bytes : List ℕ) (v : MldValue) → IsBytes bytes → length bytes ≤ 65515 → IsContent bytes v
     → IsCanonical v
-message-canonical bytes (query code group flag qrv qqic sources d) are few m = (
+content-canonical bytes (query code group flag qrv qqic sources d) are few m = (
   omega (arith, m.code_is, number_of-small 4 6 bytes refl are),
   omega (arith, m.qrv_is),
   omega (arith, m.qqic_is, are 25),
   omega (arith, m.sources_are, number_of-small 26 28 bytes refl are),
-  omega (arith, ap (λ (l : List ℕ). length l) m.data_is, length-drop 28 bytes, m.whole, few),
+  omega (arith, ap (λ (l : List ℕ). length l) m.data_is, length-drop 28 bytes, few),
 )
-message-canonical bytes (report count d) are few m = (
+content-canonical bytes (report count d) are few m = (
   omega (arith, m.count_is, number_of-small 6 8 bytes refl are),
-  omega (arith, ap (λ (l : List ℕ). length l) m.data_is, length-drop 8 bytes, m.whole, few),
+  omega (arith, ap (λ (l : List ℕ). length l) m.data_is, length-drop 8 bytes, few),
 )
-message-canonical bytes (records rs) are few m = absurd m
+content-canonical bytes (records rs) are few m = absurd m
 
 -- ---- the format
 
@@ -110,7 +114,7 @@ norm-norm (records rs) = refl
 norm-norm _ = refl
 
 pub norm-read : (bytes : List ℕ) (v : MldValue) → IsMessage bytes v → norm v ≡ v
-norm-read bytes (records rs) m = absurd m
+norm-read bytes (records rs) m = absurd m.content
 norm-read bytes _ m = refl
 
 pub mld_format : IsFormat format
@@ -120,7 +124,7 @@ mld_format = record {
   norm_canonical = norm-canonical;
   norm_norm = norm-norm;
   norm_text = λ v c regular. norm-text v;
-  accepted = message-canonical;
+  accepted = λ bytes v are few m. content-canonical bytes v are few m.content;
   regular = λ bytes v m e. e;
   kept = λ bytes v are c m uncut. norm-read bytes v m;
 }
@@ -143,9 +147,14 @@ text-begins (report count d) = rw (report_text count (d ∷ [])) refl
 text-begins (records rs) = rw (report_text (length rs) (record_texts rs)) refl
 
 -- what is read does not depend on the checksum
+content-unsealed : (t code a b x y : ℕ) (rest : List ℕ) (v : MldValue) → IsContent (t ∷ code ∷ a ∷ b ∷ rest) v
+    → IsContent (t ∷ code ∷ x ∷ y ∷ rest) v
+unfolding part
+content-unsealed t code a b x y rest (query c group flag qrv qqic sources d) m = search m
+content-unsealed t code a b x y rest (report count d) m = search m
+content-unsealed t code a b x y rest (records rs) m = m
+
 pub message-unsealed : (t code a b x y : ℕ) (rest : List ℕ) (v : MldValue) → IsMessage (t ∷ code ∷ a ∷ b ∷ rest) v
     → IsMessage (t ∷ code ∷ x ∷ y ∷ rest) v
-unfolding part
-message-unsealed t code a b x y rest (query c group flag qrv qqic sources d) m = search m
-message-unsealed t code a b x y rest (report count d) m = search m
-message-unsealed t code a b x y rest (records rs) m = m
+message-unsealed t code a b x y rest v m =
+    record { passes = m.passes; content = content-unsealed t code a b x y rest v m.content }

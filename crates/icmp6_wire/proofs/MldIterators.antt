@@ -1,5 +1,5 @@
 -- The records of a report in turn, and the sources of a record: they are what is computed, and that alone.
-use Rattle.std.proofs.Common.{◌≡◌, ◌⊎◌, inl, inr, ℕ, zero, suc, ◌+◌, ◌*◌, ◌/◌, ◌-◌, ◌≤◌, ◌<◌, min, Bool, true, false}
+use Rattle.std.proofs.Common.{◌≡◌, inl, inr, ℕ, zero, suc, ◌+◌, ◌*◌, ◌/◌, ◌-◌, ◌≤◌, ◌<◌, min, Bool, true, false}
 use Rattle.std.specs.Prelude.{nat_le}
 use Rattle.std.proofs.Common.{List, [], ◌∷◌, ◌++◌, length, take, drop, Some, Ok, Err, refl, sym, ap, subst, ◌∙◌, arith}
 use Rattle.std.proofs.Common.{length-append}
@@ -12,7 +12,8 @@ use Rattle.std.proofs.lemmas.List.{take-append-drop, take-append-le, drop-append
 use Rattle.std.proofs.lemmas.List.{take_at, drop_at}
 use Rattle.byteorder.specs.Endian.{big_number}
 use Rattle.icmp6_wire.specs.Words.{part, byte_of, number_of, RecordRefusal}
-use Rattle.icmp6_wire.specs.MldRecord.{aux_data_len_field, num_srcs_field, record_len_in}
+use Rattle.wirebase.proofs.Checks.{fails_one}
+use Rattle.icmp6_wire.specs.MldRecord.{aux_data_len_field, num_srcs_field, record_len_in, record_checks}
 use Rattle.icmp6_wire.specs.MldRefusal.{RefusesRecord}
 use Rattle.icmp6_wire.specs.MldIterators.{Answer, AreRecords, ends, goes_on, breaks, first_refusal, after_record}
 use Rattle.icmp6_wire.specs.MldIterators.{records_ahead, AreSources, sources_ahead, sources_in}
@@ -52,25 +53,18 @@ front_len bytes fits =
     let whole = len_at (take n bytes) (drop n bytes) (omega (arith, long)) in
     long ∙ sym same ∙ whole
 
--- one reason alone holds of bytes
-refusal-one : (bytes : List ℕ) (one other : RecordRefusal) → RefusesRecord bytes one → RefusesRecord bytes other
-    → one ≡ other
-refusal-one bytes RecordRefusal.Short RecordRefusal.Short short also = refl
-refusal-one bytes RecordRefusal.Short RecordRefusal.Cut short cut = absurd (omega (arith, short, cut.0))
-refusal-one bytes RecordRefusal.Cut RecordRefusal.Short cut short = absurd (omega (arith, cut.0, short))
-refusal-one bytes RecordRefusal.Cut RecordRefusal.Cut cut also = refl
-
--- with it the bytes end before a record does
+-- where a reason holds, the bytes end before a record does
 refused_len : (bytes : List ℕ) (refusal : RecordRefusal) → RefusesRecord bytes refusal
     → length bytes < record_len_in bytes
-refused_len bytes RecordRefusal.Short short = omega (arith, short)
-refused_len bytes RecordRefusal.Cut cut = cut.1
+refused_len bytes refusal (inl short) = grind (arith, short.0)
+refused_len bytes refusal (inr (fixed, inl cut)) = grind (arith, cut.0)
+refused_len bytes refusal (inr (fixed, inr none)) = absurd none.1
 
 -- and where they do, the reason that is computed holds
 refused_as : (bytes : List ℕ) (fields : Bool) → nat_le 20 (length bytes) ≡ fields → length bytes < record_len_in bytes
     → RefusesRecord bytes (first_refusal fields)
-refused_as bytes true e less = (leb-true 20 (length bytes) e, less)
-refused_as bytes false e less = leb-false 20 (length bytes) e
+refused_as bytes true e less = inr (leb-true 20 (length bytes) e, inl (λ fits. omega (arith, fits, less), refl))
+refused_as bytes false e less = inl (λ fixed. omega (arith, fixed, leb-false 20 (length bytes) e), refl)
 
 first_refused : (bytes : List ℕ) → length bytes < record_len_in bytes
     → RefusesRecord bytes (first_refusal (nat_le 20 (length bytes)))
@@ -86,7 +80,7 @@ records_step n bytes go true e =
     (sym (take-append-drop len bytes))
 records_step n bytes go false e =
     let less = leb-false (record_len_in bytes) (length bytes) e in
-    breaks (first_refusal (nat_le 20 (length bytes))) (inr less) (first_refused bytes less)
+    breaks (first_refusal (nat_le 20 (length bytes))) (first_refused bytes less)
 
 pub records_of : (n : ℕ) (bytes : List ℕ) → AreRecords n bytes (records_ahead n bytes)
 unfolding records_ahead
@@ -101,15 +95,11 @@ whole_front bytes front rest l e =
     l ∙ sym (len_at front rest (omega (arith, l))) ∙ sym (ap (λ (b : List ℕ). record_len_in b) e)
 
 -- so bytes that end before it have none
-no_front : (bytes front rest : List ℕ) → length front ≡ record_len_in front → bytes ≡ front ++ rest
-    → (length bytes < 20) ⊎ (length bytes < record_len_in bytes) → ⊥
-no_front bytes front rest l e few =
+no_front : (bytes front rest : List ℕ) (refusal : RecordRefusal) → length front ≡ record_len_in front
+    → bytes ≡ front ++ rest → RefusesRecord bytes refusal → ⊥
+no_front bytes front rest refusal l e why =
     let long : length bytes ≡ length front + length rest = ap (λ (b : List ℕ). length b) e ∙ length-append front rest in
-    let same = whole_front bytes front rest l e in
-    elim few [
-      | inl less ↦ omega (arith, less, long, same)
-      | inr less ↦ omega (arith, less, long, same)
-    ]
+    omega (arith, refused_len bytes refusal why, long, whole_front bytes front rest l e)
 
 -- and there are no others
 pub records-unique : (n : ℕ) (bytes : List ℕ) (answers others : List Answer) → AreRecords n bytes answers
@@ -124,10 +114,10 @@ records-unique n bytes answers others (goes_on {n = m} {answers = a} f r l t e) 
     let rests : r ≡ s = sym (drop_at f r len one) ∙ ap (λ (b : List ℕ). drop len b) (sym e ∙ i) ∙ drop_at g s len two in
     let more : a ≡ b = records-unique m r a b t (subst (λ (x : List ℕ). AreRecords m x b) (sym rests) u) in
     ap (λ (x : List ℕ). Ok x ∷ a) fronts ∙ ap (λ (x : List Answer). Ok g ∷ x) more
-records-unique n bytes answers others (goes_on f r l t e) (breaks x few why) = absurd (no_front bytes f r l e few)
-records-unique n bytes answers others (breaks x few why) (goes_on g s k u i) = absurd (no_front bytes g s k i few)
-records-unique n bytes answers others (breaks x few why) (breaks y fewer also) =
-    ap (λ (refusal : RecordRefusal). Err refusal ∷ []) (refusal-one bytes x y why also)
+records-unique n bytes answers others (goes_on f r l t e) (breaks x why) = absurd (no_front bytes f r x l e why)
+records-unique n bytes answers others (breaks x why) (goes_on g s k u i) = absurd (no_front bytes g s x k i why)
+records-unique n bytes answers others (breaks x why) (breaks y also) =
+    ap (λ (refusal : RecordRefusal). Err refusal ∷ []) (fails_one (record_checks bytes) x y why also)
 
 -- what a call of `next` gives
 pub one_less : (n : ℕ) → (n ≡ 0 → ⊥) → n ≡ suc (n - 1)
@@ -162,7 +152,7 @@ unfolding records_ahead
 refusal_ahead zero m bytes refusal some why e = absurd (some refl)
 refusal_ahead (suc n) m bytes refusal some why e =
     let less = refused_len bytes refusal why in
-    let told = refusal-one bytes _ refusal (first_refused bytes less) why in
+    let told = fails_one (record_checks bytes) _ refusal (first_refused bytes less) why in
     refused_by (record_len_in bytes) bytes (records_ahead n) (nat_le (record_len_in bytes) (length bytes)) refl less
     ∙ ap (λ (r : RecordRefusal). Err r ∷ []) told
     ∙ ap (λ (l : List Answer). Err refusal ∷ l) (sym (none_ahead m bytes e))

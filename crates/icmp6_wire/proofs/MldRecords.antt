@@ -47,7 +47,7 @@ fields_read : (kind : RecordType) (words sources : ℕ) (group : Ipv6Address)
     → IsFields (record_type_number kind ∷ words ∷ (big_bytes 2 sources ++ octets_of group)) kind words sources group []
 unfolding part
 fields_read kind words sources group proper small = record {
-  whole = omega (arith, group.whole);
+  passes = (omega (arith, group.whole), tt);
   kind_is = record_type_of-number kind proper;
   words_are = refl;
   sources_are = sym (big_number-reads_back 2 sources [] (omega (arith, small)));

@@ -6,7 +6,7 @@ use Rattle.byteorder.specs.Endian.{big_bytes}
 use Rattle.icmp6_wire.specs.Words.{be8, be16, fields, octets_of, Ipv6Address}
 use Rattle.wirebase.proofs.Ipv6Header.{same_address}
 use Rattle.icmp6_wire.specs.Mld.{MldValue, query, report, records, sqrv, query_fields, report_fields}
-use Rattle.icmp6_wire.specs.Mld.{record_texts, text, text_len, IsMessage}
+use Rattle.icmp6_wire.specs.Mld.{record_texts, text, text_len, IsContent, IsMessage}
 use Rattle.icmp6_wire.specs.MldRecord.{RecordValue, text as record_text}
 use Rattle.icmp6_wire.proofs.MldRecords.{length-text as length-record}
 
@@ -58,8 +58,8 @@ same_flag false false P f g = refl
 same_flag true false P f g = absurd (let no = g.1 (f.0 refl) in cc)
 same_flag false true P f g = absurd (let no = f.1 (g.0 refl) in cc)
 
-pub message-one : (bytes : List ℕ) (v w : MldValue) → IsMessage bytes v → IsMessage bytes w → v ≡ w
-message-one bytes (query code group flag qrv qqic sources d) (query other another other_flag more many few e) a b =
+content-one : (bytes : List ℕ) (v w : MldValue) → IsContent bytes v → IsContent bytes w → v ≡ w
+content-one bytes (query code group flag qrv qqic sources d) (query other another other_flag more many few e) a b =
     let one = a.code_is ∙ sym b.code_is in
     let two = same_address group another (a.group_is ∙ sym b.group_is) in
     let three = same_flag flag other_flag _ a.flag_is b.flag_is in
@@ -68,10 +68,13 @@ message-one bytes (query code group flag qrv qqic sources d) (query other anothe
     let six = a.sources_are ∙ sym b.sources_are in
     let seven = a.data_is ∙ sym b.data_is in
     cc
-message-one bytes (report count d) (report other e) a b =
+content-one bytes (report count d) (report other e) a b =
     let one = a.count_is ∙ sym b.count_is in
     let two = a.data_is ∙ sym b.data_is in
     cc
-message-one bytes (records rs) w a b = absurd a
-message-one bytes v (records rs) a b = absurd b
-message-one bytes _ _ a b = absurd (omega (arith, a.kind, b.kind))
+content-one bytes (records rs) w a b = absurd a
+content-one bytes v (records rs) a b = absurd b
+content-one bytes _ _ a b = absurd (omega (arith, a.kind, b.kind))
+
+pub message-one : (bytes : List ℕ) (v w : MldValue) → IsMessage bytes v → IsMessage bytes w → v ≡ w
+message-one bytes v w a b = content-one bytes v w a.content b.content

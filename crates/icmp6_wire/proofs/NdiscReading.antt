@@ -137,7 +137,7 @@ message_at : (first second : ℕ) (v : NdiscValue) → IsCanonical v
 unfolding part body
 message_at first second (router_solicit l) c = record {
   options = read_options (options_of (router_solicit l));
-  whole = record { fixed = omega arith; known = refl; whole = omega arith };
+  passes = (omega arith, (refl, (omega arith, tt)));
   tiling = tail_blocks (router_solicit l) c;
   content = (refl, sym (one_source l));
 }
@@ -146,7 +146,7 @@ message_at first second (router_advert a) c =
     let last = of_router a.lladdr a.mtu a.prefix_info in
     record {
       options = read_options (options_of v);
-      whole = record { fixed = omega arith; known = refl; whole = omega arith };
+      passes = (omega arith, (refl, (omega arith, tt)));
       tiling = tail_blocks v c;
       content = record {
         kind = refl;
@@ -172,7 +172,7 @@ message_at first second (neighbor_solicit t l) c =
     let sixteen = t.whole in
     record {
       options = read_options (options_of v);
-      whole = record { fixed = omega arith; known = refl; whole = omega (arith, long, sixteen) };
+      passes = (omega arith, (refl, (omega (arith, long, sixteen), tt)));
       tiling = rw (drop_at (octets_of t) (tail v) 16 t.whole) (tail_blocks v c);
       content = (refl, sym (take_at (octets_of t) (tail v) 16 t.whole), sym (one_source l));
     }
@@ -182,7 +182,7 @@ message_at first second (neighbor_advert flags t l) c =
     let sixteen = t.whole in
     record {
       options = read_options (options_of v);
-      whole = record { fixed = omega arith; known = refl; whole = omega (arith, long, sixteen) };
+      passes = (omega arith, (refl, (omega (arith, long, sixteen), tt)));
       tiling = rw (drop_at (octets_of t) (tail v) 16 t.whole) (tail_blocks v c);
       content = (refl, sym c.0, sym (take_at (octets_of t) (tail v) 16 t.whole), sym (one_target l));
     }
@@ -196,7 +196,7 @@ message_at first second (redirect t d l r) c =
     let last = of_redirect l r in
     record {
       options = read_options (options_of v);
-      whole = record { fixed = omega arith; known = refl; whole = omega (arith, one, two, sixteen, more) };
+      passes = (omega arith, (refl, (omega (arith, one, two, sixteen, more), tt)));
       tiling = rw (two_dropped (octets_of t) (octets_of d) (tail v) t.whole d.whole) (tail_blocks v c);
       content = (
         refl,

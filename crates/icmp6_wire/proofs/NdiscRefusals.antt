@@ -1,19 +1,16 @@
 -- Options that are whole, whatever is read in them.
-use Rattle.std.proofs.Common.{◌≡◌, ℕ, ◌+◌, ◌≤◌, true, List, [], ◌∷◌, ◌++◌, length, drop, sym, ap, ◌∙◌}
+use Rattle.std.proofs.Common.{◌≡◌, ℕ, ◌+◌, ◌≤◌, List, [], ◌∷◌, ◌++◌, length, drop, sym, ap, ◌∙◌}
 use Rattle.std.proofs.Common.{arith, length-append}
 use Rattle.std.proofs.lemmas.List.{append-nil, append_assoc}
 use Rattle.icmp6_wire.specs.Words.{OptionValue}
-use Rattle.icmp6_wire.specs.Icmpv6Packet.{message_in, header_len_in, payload_in, BeginsWhole}
-use Rattle.icmp6_wire.specs.Icmpv6Tables.{is_ndisc}
+use Rattle.icmp6_wire.specs.Icmpv6Packet.{header_len_in, payload_in}
 use Rattle.icmp6_wire.specs.NdiscBlocks.{IsBlock, AreBlocks, ends, goes_on, skips}
 use Rattle.icmp6_wire.specs.NdiscRefusal.{AreWhole, nothing, one_more, AreWholeUpTo}
 
 -- none at first
-pub whole_none : (bytes : List ℕ) (place : ℕ) (rest : List ℕ) → BeginsWhole bytes → is_ndisc (message_in bytes) ≡ true
-    → place ≡ header_len_in bytes → rest ≡ drop place bytes → AreWholeUpTo bytes place rest
-whole_none bytes place rest begins neighbor is e = record {
-  begins = begins;
-  neighbor = neighbor;
+pub whole_none : (bytes : List ℕ) (place : ℕ) (rest : List ℕ) → place ≡ header_len_in bytes → rest ≡ drop place bytes
+    → AreWholeUpTo bytes place rest
+whole_none bytes place rest is e = record {
   options = [];
   whole = nothing;
   payload = ap (λ (n : ℕ). drop n bytes) (sym is) ∙ sym e;
@@ -30,8 +27,6 @@ append_whole options block (one_more first rest f w e) b =
 pub more_whole : (bytes : List ℕ) (place : ℕ) (text block rest : List ℕ) → IsBlock block → text ≡ block ++ rest
     → AreWholeUpTo bytes place text → AreWholeUpTo bytes (place + length block) rest
 more_whole bytes place text block rest b e a = record {
-  begins = a.begins;
-  neighbor = a.neighbor;
   options = a.options ++ block;
   whole = append_whole a.options block a.whole b;
   payload = a.payload ∙ ap (λ (l : List ℕ). a.options ++ l) e ∙ sym (append_assoc a.options block rest);

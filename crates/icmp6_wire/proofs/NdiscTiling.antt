@@ -6,12 +6,13 @@ use Rattle.std.specs.Option.{option_or}
 use Rattle.std.proofs.Math.ListN.{get_or-append}
 use Rattle.std.proofs.lemmas.List.{take_at, drop_at}
 use Rattle.icmp6_wire.specs.Words.{byte_of, type_field, last_of, keep_all, units_in, OptionValue, BeginsWith, Message}
+use Rattle.icmp6_wire.specs.Words.{Passes}
 use Rattle.wirebase.proofs.LastOf.{kept}
 use Rattle.wirebase.proofs.Numbered.{number-case_in}
 use Rattle.opt_wire.proofs.NdiscOptionGrammar.{one_option}
-use Rattle.icmp6_wire.specs.Icmpv6Packet.{message_in, BeginsWhole, payload_in}
+use Rattle.icmp6_wire.specs.Icmpv6Packet.{message_in, payload_in}
 use Rattle.icmp6_wire.specs.Icmpv6Tables.{message_number, messages}
-use Rattle.icmp6_wire.specs.Ndisc.{NdiscValue, IsContent, IsMessage}
+use Rattle.icmp6_wire.specs.Ndisc.{NdiscValue, checks, IsContent, IsMessage}
 use Rattle.icmp6_wire.specs.NdiscBlocks.{IsBlock, AreBlocks, ends, goes_on, skips, source_in, target_in}
 use Rattle.icmp6_wire.specs.NdiscBlocks.{mtu_in, prefix_in, redirected_in}
 use Rattle.icmp6_wire.specs.NdiscOptionsSeen.{Kept, nothing, keep, Says, HasBlocks, Notes, noted, passed}
@@ -132,11 +133,12 @@ kind_read bytes m is =
     ∙ ap message_number is
 
 -- a message, of which this was kept of the blocks after its header
-pub message_said : {octets bytes : List ℕ} {k : Kept} {v : NdiscValue} → BeginsWhole octets → bytes ≡ payload_in octets
+pub message_said : {octets bytes : List ℕ} {k : Kept} {v : NdiscValue} → Passes (checks octets)
+    → bytes ≡ payload_in octets
     → (s : Says bytes k) → IsContent octets s.options v → IsMessage octets v
-message_said whole payload s content = record {
+message_said passes payload s content = record {
   options = s.options;
-  whole = whole;
+  passes = passes;
   tiling = subst (λ (l : List ℕ). AreBlocks l s.options) payload s.tiling;
   content = content;
 }

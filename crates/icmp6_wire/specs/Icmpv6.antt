@@ -1,13 +1,13 @@
 -- ICMPv6 messages (RFC 4443), whose header and echoes are those of ICMP in wirebase. The word after the checksum of an
 -- error is zero, the largest packet or the pointer; the header is followed by the IPv6 header that the error is about,
 -- and the data after that.
-use Rattle.std.specs.Prelude.{◌≡◌, ◌≢◌, ℕ, ◌+◌, ◌≤◌, ◌<◌, ◌^◌, min, true, List, [], ◌∷◌, length, drop, take}
+use Rattle.std.specs.Prelude.{◌≡◌, ◌≢◌, ℕ, ◌+◌, ◌≤◌, ◌<◌, ◌^◌, min, true, List, [], ◌∷◌, ◌++◌, length, drop, take}
 use Rattle.icmp6_wire.specs.Words.{Reaches, byte_of, number_of, over, be8, be16, be32, fields, is_verified, is_computed}
 use Rattle.icmp6_wire.specs.Words.{sealed_where, IsGood, Format, RoundTrips, type_field, code_field, checksum_field}
 use Rattle.icmp6_wire.specs.Words.{header, data_in, IsEcho, echo_fields, protocol_number, protocol_rows, IsHeader}
 use Rattle.icmp6_wire.specs.Words.{header_text, IsProper, ChecksumCapabilities, Checksum, IpProtocol, Ipv6Address}
-use Rattle.icmp6_wire.specs.Words.{Ipv6Repr, DstUnreachable, ParamProblem, TimeExceeded}
-use Rattle.icmp6_wire.specs.Icmpv6Packet.{BeginsWhole, word_field, message_sum}
+use Rattle.icmp6_wire.specs.Words.{Ipv6Repr, DstUnreachable, Message, ParamProblem, TimeExceeded, Check, Passes, check}
+use Rattle.icmp6_wire.specs.Icmpv6Packet.{message_in, front_checks, word_field, message_sum}
 use Rattle.icmp6_wire.specs.Icmpv6Tables.{unreachable_number, unreachable_rows, unreachable_of, param_problem_number}
 use Rattle.icmp6_wire.specs.Icmpv6Tables.{param_problem_rows, param_problem_of, time_exceeded_number}
 use Rattle.icmp6_wire.specs.Icmpv6Tables.{time_exceeded_rows, time_exceeded_of}
@@ -15,6 +15,7 @@ use Rattle.icmp6_wire.specs.Mld as listeners
 use Rattle.icmp6_wire.specs.Mld.{MldValue}
 use Rattle.icmp6_wire.specs.Ndisc as neighbors
 use Rattle.icmp6_wire.specs.Ndisc.{NdiscValue}
+use Rattle.icmp6_wire.specs.declared.icmpv6.refusal.Refusal.{Refusal}
 use Rattle.icmp6_wire.specs.declared.icmpv6.repr.Repr.{Repr}
 
 -- A message by its content: an error with its reason, the largest packet, the time or the problem and its place, the
@@ -120,11 +121,35 @@ CanEmit (mld m) bytes = listeners.CanEmit m bytes
 
 -- ---- the grammar
 
--- An error of this type: it quotes a whole header, whose version and length are not checked; the data is all that
--- follows it.
+-- an error quotes a whole header, and the code is 0 in a message of a type that has no other (RFC 4443 section 2.1)
+abbrev pub quote_check : List ℕ → Check Refusal
+quote_check bytes = check (48 ≤ length bytes) Refusal.Quote
+
+abbrev pub code_check : List ℕ → Check Refusal
+code_check bytes = check (byte_of code_field bytes ≡ 0) (Refusal.Code (byte_of code_field bytes))
+
+-- the checks by the type
+abbrev pub type_checks : Message → List ℕ → List (Check Refusal)
+type_checks Message.DstUnreachable bytes = quote_check bytes ∷ []
+type_checks Message.PktTooBig bytes = quote_check bytes ∷ code_check bytes ∷ []
+type_checks Message.TimeExceeded bytes = quote_check bytes ∷ []
+type_checks Message.ParamProblem bytes = quote_check bytes ∷ []
+type_checks message bytes = code_check bytes ∷ []
+
+-- All checks, in their order: there are the 8 bytes of every header; the type is one that is read; there are the bytes
+-- of the header of that type; the checksum is good where it is verified; and those by the type. In a message of neighbor
+-- discovery the checks of its options follow.
+abbrev pub checks : ChecksumCapabilities → Ipv6Address → Ipv6Address → List ℕ → List (Check Refusal)
+checks capabilities source destination bytes =
+    front_checks bytes
+    ++ check (is_verified capabilities.icmpv6 ≡ true → IsGood bytes (message_sum source destination (length bytes)))
+    Refusal.Checksum
+    ∷ type_checks (message_in bytes) bytes
+
+-- An error of this type: the version and the length of the quoted header are not checked; the data is all that follows
+-- it.
 pub record IsError (t : ℕ) (bytes : List ℕ) (quoted : Ipv6Repr) (d : List ℕ) : Type 0 where
   pub kind : byte_of type_field bytes ≡ t
-  pub quote : 48 ≤ length bytes
   pub header : IsHeader (data_in bytes) quoted
   pub data_is : d ≡ drop 40 (data_in bytes)
 
@@ -132,7 +157,7 @@ abbrev pub IsContent : List ℕ → MessageValue → Type 0
 IsContent bytes (unreachable reason quoted d) =
     IsError 1 bytes quoted d × (reason ≡ unreachable_of (byte_of code_field bytes))
 IsContent bytes (too_big mtu quoted d) =
-    IsError 2 bytes quoted d × (byte_of code_field bytes ≡ 0) × (mtu ≡ number_of word_field bytes)
+    IsError 2 bytes quoted d × (mtu ≡ number_of word_field bytes)
 IsContent bytes (time_exceeded reason quoted d) =
     IsError 3 bytes quoted d × (reason ≡ time_exceeded_of (byte_of code_field bytes))
 IsContent bytes (param_problem reason pointer quoted d) =
@@ -140,14 +165,13 @@ IsContent bytes (param_problem reason pointer quoted d) =
     × (pointer ≡ number_of word_field bytes)
 IsContent bytes (echo_request ident seq_no d) = IsEcho 0x80 bytes ident seq_no d
 IsContent bytes (echo_reply ident seq_no d) = IsEcho 0x81 bytes ident seq_no d
-IsContent bytes (ndisc m) = neighbors.IsMessage bytes m × (byte_of code_field bytes ≡ 0)
-IsContent bytes (mld m) = listeners.IsMessage bytes m × (byte_of code_field bytes ≡ 0)
+IsContent bytes (ndisc m) = neighbors.IsMessage bytes m
+IsContent bytes (mld m) = listeners.IsMessage bytes m
 
--- The grammar: the header of the type is there, its checksum is good where it is verified, and the message is this one.
+-- The grammar: the bytes pass the checks, and have this content.
 pub record IsMessage (capabilities : ChecksumCapabilities) (source destination : Ipv6Address) (bytes : List ℕ)
     (v : MessageValue) : Type 0 where
-  pub whole : BeginsWhole bytes
-  pub good : is_verified capabilities.icmpv6 ≡ true → IsGood bytes (message_sum source destination (length bytes))
+  pub passes : Passes (checks capabilities source destination bytes)
   pub content : IsContent bytes v
 
 -- ---- canonical values and the normal form

@@ -2,9 +2,10 @@
 -- word after the checksum depends on the type.
 use Rattle.std.specs.Prelude.{◌≡◌, ℕ, ◌%◌, ◌^◌, ◌≤◌, Bool, true, false, List, [], ◌∷◌, length, drop}
 use Rattle.std.specs.Borrow.{Bor}
-use Rattle.icmp6_wire.specs.Words.{Field, field, Reaches, Writes, byte_of, with_field, type_field, header, pseudo_sum}
-use Rattle.icmp6_wire.specs.Words.{IpProtocol, Ipv6Address, Packet, Message}
+use Rattle.icmp6_wire.specs.Words.{Check, check, Passes, Field, field, Reaches, byte_of, with_field, type_field}
+use Rattle.icmp6_wire.specs.Words.{header, pseudo_sum, IpProtocol, Ipv6Address, Packet, Message}
 use Rattle.icmp6_wire.specs.Icmpv6Tables.{message_of}
+use Rattle.icmp6_wire.specs.declared.icmpv6.refusal.Refusal.{Refusal}
 
 -- the buffer of a view, and the view with another buffer
 abbrev pub inner : {T : Type 0} → Packet T → T
@@ -70,11 +71,21 @@ is_read Message.RplControl = false
 is_read (Message.Unknown n) = false
 is_read _ = true
 
+-- The checks of a header of some types, with their reasons, in their order: there are the 8 bytes of every header, the
+-- type is one of these, and there are the bytes of the header of that type.
+abbrev pub header_checks : {Why : Type 0} → (Message → Bool) → Why → (ℕ → Why) → Why → List ℕ → List (Check Why)
+header_checks is_one short unknown cut bytes =
+    check (Reaches header bytes) short
+    ∷ check (is_one (message_in bytes) ≡ true) (unknown (byte_of type_field bytes))
+    ∷ check (header_len_in bytes ≤ length bytes) cut
+    ∷ []
+
+abbrev pub front_checks : List ℕ → List (Check Refusal)
+front_checks = header_checks is_read Refusal.Short Refusal.UnknownType Refusal.Length
+
 -- the bytes begin with a header of a type that is read here
-pub record BeginsWhole (bytes : List ℕ) : Type 0 where
-  pub fixed : Reaches header bytes
-  pub known : is_read (message_in bytes) ≡ true
-  pub whole : header_len_in bytes ≤ length bytes
+abbrev pub BeginsWhole : List ℕ → Type 0
+BeginsWhole bytes = Passes (front_checks bytes)
 
 -- ---- what is reserved
 

@@ -2,12 +2,15 @@
 use Rattle.std.specs.Prelude.{◌≡◌, ◌↔◌, ℕ, ◌+◌, ◌*◌, ◌^◌, ◌<◌, ◌≤◌, Bool, IsTrue, List, [], ◌∷◌, length, drop, map}
 use Rattle.std.specs.Prelude.{if◌then◌else◌}
 use Rattle.std.specs.List.{AllByRecursion}
-use Rattle.icmp6_wire.specs.Words.{Reaches, byte_of, bytes_of, number_of, over, be8, be16, fields, Format, RoundTrips}
-use Rattle.icmp6_wire.specs.Words.{type_field, octets_of, IsMulticast, Ipv6Address, AddressRecordRepr}
+use Rattle.icmp6_wire.specs.Words.{Check, Passes, byte_of, bytes_of, number_of, over, be8, be16, fields, Format}
+use Rattle.icmp6_wire.specs.Words.{RoundTrips, type_field, octets_of, IsMulticast, Ipv6Address, AddressRecordRepr}
+use Rattle.icmp6_wire.specs.Icmpv6Packet.{header_checks}
+use Rattle.icmp6_wire.specs.Icmpv6Tables.{is_mld}
 use Rattle.icmp6_wire.specs.MldPacket.{max_resp_code_field, mcast_addr_field, qqic_field, num_srcs_field}
 use Rattle.icmp6_wire.specs.MldPacket.{nr_mcast_addr_rcrds_field, s_flag_in, qrv_in}
 use Rattle.icmp6_wire.specs.MldRecord.{RecordValue, group_of}
 use Rattle.icmp6_wire.specs.MldRecord as a_record
+use Rattle.icmp6_wire.specs.declared.mld.refusal.Refusal.{Refusal}
 use Rattle.icmp6_wire.specs.declared.mld.repr.Repr.{Repr}
 
 -- A message by its content: a query with its response code, the group, its flag, the robustness variable, the
@@ -80,10 +83,14 @@ CanEmit (records rs) bytes = (8 + 20 * length rs ≤ length bytes) × (length rs
 
 -- ---- the grammar
 
+-- The checks, in their order: there are the 8 bytes of every header; the type is that of a query or of a report; and
+-- there are the bytes of the header of that type, which are 28 of a query.
+abbrev pub checks : List ℕ → List (Check Refusal)
+checks = header_checks is_mld Refusal.Short Refusal.UnknownType Refusal.Length
+
 pub record IsQuery (bytes : List ℕ) (code : ℕ) (group : Ipv6Address) (flag : Bool) (qrv qqic sources : ℕ)
     (d : List ℕ) : Type 0 where
   pub kind : byte_of type_field bytes ≡ 0x82
-  pub whole : Reaches num_srcs_field bytes
   pub code_is : code ≡ number_of max_resp_code_field bytes
   pub group_is : octets_of group ≡ bytes_of mcast_addr_field bytes
   pub flag_is : IsTrue flag ↔ (s_flag_in bytes ≡ 1)
@@ -94,15 +101,19 @@ pub record IsQuery (bytes : List ℕ) (code : ℕ) (group : Ipv6Address) (flag :
 
 pub record IsReport (bytes : List ℕ) (count : ℕ) (d : List ℕ) : Type 0 where
   pub kind : byte_of type_field bytes ≡ 0x8f
-  pub whole : Reaches nr_mcast_addr_rcrds_field bytes
   pub count_is : count ≡ number_of nr_mcast_addr_rcrds_field bytes
   pub data_is : d ≡ drop 8 bytes
 
--- The grammar: the counts are not compared with the data, and no bytes are read as a list of records.
-abbrev pub IsMessage : List ℕ → MldValue → Type 0
-IsMessage bytes (query code group flag qrv qqic sources d) = IsQuery bytes code group flag qrv qqic sources d
-IsMessage bytes (report count d) = IsReport bytes count d
-IsMessage bytes (records rs) = ⊥
+-- the counts are not compared with the data, and no bytes are read as a list of records
+abbrev pub IsContent : List ℕ → MldValue → Type 0
+IsContent bytes (query code group flag qrv qqic sources d) = IsQuery bytes code group flag qrv qqic sources d
+IsContent bytes (report count d) = IsReport bytes count d
+IsContent bytes (records rs) = ⊥
+
+-- The grammar: the bytes pass the checks, and have this content.
+pub record IsMessage (bytes : List ℕ) (v : MldValue) : Type 0 where
+  pub passes : Passes (checks bytes)
+  pub content : IsContent bytes v
 
 -- ---- canonical values and the normal form
 

@@ -1,6 +1,6 @@
 -- The records of a report in turn, each with its sources and its auxiliary data (RFC 3810 section 5.2), and the sources
 -- of a record in turn.
-use Rattle.std.specs.Prelude.{◌≡◌, ℕ, zero, suc, ◌*◌, ◌/◌, ◌<◌, ◌⊎◌, min, nat_le, Bool, true, false, List}
+use Rattle.std.specs.Prelude.{◌≡◌, ℕ, zero, suc, ◌*◌, ◌/◌, min, nat_le, Bool, true, false, List}
 use Rattle.std.specs.Prelude.{[], ◌∷◌, ◌++◌, length, map, take, drop, Option, None, Some, Result, Ok, Err}
 use Rattle.std.specs.List.{AllByRecursion, concat}
 use Rattle.icmp6_wire.specs.Words.{octets_of, Ipv6Address, AddressRecordRepr, RecordRefusal}
@@ -22,8 +22,7 @@ pub data AreRecords : ℕ → List ℕ → List Answer → Type 0 where
   goes_on : {n : ℕ} {bytes : List ℕ} {answers : List Answer} (front rest : List ℕ)
       → length front ≡ record_len_in front → AreRecords n rest answers → bytes ≡ front ++ rest
       → AreRecords (suc n) bytes (Ok front ∷ answers)
-  breaks : {n : ℕ} {bytes : List ℕ} (refusal : RecordRefusal)
-      → (length bytes < 20) ⊎ (length bytes < record_len_in bytes) → RefusesRecord bytes refusal
+  breaks : {n : ℕ} {bytes : List ℕ} (refusal : RecordRefusal) → RefusesRecord bytes refusal
       → AreRecords (suc n) bytes (Err refusal ∷ [])
 
 -- A call of `next` gives what is read in the bytes of the first answer, and takes that off; where none is left it gives

@@ -9,11 +9,11 @@
 -- +---------------------------------------------------------------+
 -- | sources and auxiliary data
 -- +- - - -
-use Rattle.std.specs.Prelude.{◌≡◌, ℕ, ◌+◌, ◌*◌, ◌<◌, ◌^◌, List, [], ◌∷◌, length, drop}
+use Rattle.std.specs.Prelude.{◌≡◌, ℕ, ◌+◌, ◌*◌, ◌<◌, ◌≤◌, ◌^◌, List, [], ◌∷◌, ◌++◌, length, drop}
 use Rattle.std.specs.Borrow.{Bor}
-use Rattle.icmp6_wire.specs.Words.{Field, field, Reaches, Writes, bytes_of, byte_of, number_of, over, be8, be16, fields}
+use Rattle.icmp6_wire.specs.Words.{Field, field, Reaches, bytes_of, byte_of, number_of, over, be8, be16, fields}
 use Rattle.icmp6_wire.specs.Words.{Format, RoundTrips, IsProper, octets_of, IsMulticast, Ipv6Address, AddressRecord}
-use Rattle.icmp6_wire.specs.Words.{AddressRecordRepr, RecordType}
+use Rattle.icmp6_wire.specs.Words.{AddressRecordRepr, RecordType, RecordRefusal, Check, check, Passes}
 use Rattle.icmp6_wire.specs.MldTables.{record_type_number, record_type_rows, record_type_of}
 
 -- the buffer of a view, and the view with another buffer
@@ -67,10 +67,18 @@ text v = fields (record_fields v)
 abbrev pub group_of : RecordValue → Ipv6Address
 group_of (address_record kind words sources group rest) = group
 
+-- The check of the fields, by which a record alone is read; and after it, for the records of a report, that of the
+-- sources and the auxiliary data that the record counts.
+abbrev pub field_checks : List ℕ → List (Check RecordRefusal)
+field_checks bytes = check (Reaches mcast_addr_field bytes) RecordRefusal.Short ∷ []
+
+abbrev pub record_checks : List ℕ → List (Check RecordRefusal)
+record_checks bytes = field_checks bytes ++ check (record_len_in bytes ≤ length bytes) RecordRefusal.Cut ∷ []
+
 -- The grammar: the fields are there, and have this content.
 pub record IsFields (bytes : List ℕ) (kind : RecordType) (words sources : ℕ) (group : Ipv6Address)
     (rest : List ℕ) : Type 0 where
-  pub whole : Reaches mcast_addr_field bytes
+  pub passes : Passes (field_checks bytes)
   pub kind_is : kind ≡ record_type_of (byte_of record_type_field bytes)
   pub words_are : words ≡ byte_of aux_data_len_field bytes
   pub sources_are : sources ≡ number_of num_srcs_field bytes

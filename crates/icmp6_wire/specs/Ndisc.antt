@@ -4,17 +4,18 @@ use Rattle.std.specs.Option.{option_map}
 use Rattle.icmp6_wire.specs.Words.{byte_of, bytes_of, number_of, over, be8, be16, be32, fields, micros_of, millis_of}
 use Rattle.icmp6_wire.specs.Words.{seconds_of, whole_millis, whole_seconds, Format, RoundTrips, type_field, octets_of}
 use Rattle.icmp6_wire.specs.Words.{OptionValue, source, target, prefix_information, redirected, mtu, filled, last_of}
-use Rattle.icmp6_wire.specs.Words.{Duration}
+use Rattle.icmp6_wire.specs.Words.{Duration, Check, Passes}
 use Rattle.icmp6_wire.specs.Words.{Ipv6Address, Ipv6Repr, PrefixInformation, NeighborFlags, RouterFlags, Message}
 use Rattle.opt_wire.specs.NdiscOptionRepr as option
-use Rattle.icmp6_wire.specs.Icmpv6Packet.{BeginsWhole, payload_in}
+use Rattle.icmp6_wire.specs.Icmpv6Packet.{header_checks, payload_in}
 use Rattle.icmp6_wire.specs.NdiscBlocks.{AreBlocks, source_in, target_in, mtu_in, prefix_in, redirected_in}
 use Rattle.icmp6_wire.specs.NdiscOptionsSeen.{packet_of, link_of}
 use Rattle.icmp6_wire.specs.NdiscPacket.{hop_limit_field, router_flags_field, router_lifetime_field}
 use Rattle.icmp6_wire.specs.NdiscPacket.{reachable_time_field, retrans_time_field, neighbor_flags_field}
 use Rattle.icmp6_wire.specs.NdiscPacket.{target_addr_field, dest_addr_field}
-use Rattle.icmp6_wire.specs.Icmpv6Tables.{message_number}
+use Rattle.icmp6_wire.specs.Icmpv6Tables.{message_number, is_ndisc}
 use Rattle.icmp6_wire.specs.NdiscTables.{router_bits, neighbor_bits, known_router, known_neighbor}
+use Rattle.icmp6_wire.specs.declared.ndisc.refusal.Refusal.{Refusal}
 use Rattle.icmp6_wire.specs.declared.ndisc.repr.Repr.{Repr}
 
 -- A message by its content: a solicitation of routers with its sender's link-layer address; a router's advertisement
@@ -155,6 +156,11 @@ CanEmit v = HaveTimes v × Each option.CanEmit (options_of v)
 
 -- ---- the grammar
 
+-- The checks of the header, in their order: there are the 8 bytes of every header; the type is one of neighbor
+-- discovery; and there are the bytes of the header of that type. The checks of the options follow.
+abbrev pub checks : List ℕ → List (Check Refusal)
+checks = header_checks is_ndisc Refusal.Short Refusal.UnknownType Refusal.Length
+
 pub record IsRouterAdvert (bytes : List ℕ) (options : List OptionValue) (a : RouterAdvert) : Type 0 where
   pub kind : byte_of type_field bytes ≡ message_number Message.RouterAdvert
   pub hop_limit : a.hop_limit ≡ byte_of hop_limit_field bytes
@@ -186,11 +192,11 @@ IsContent bytes options (redirect t d l r) =
     × (l ≡ last_of target_in options)
     × (r ≡ last_of redirected_in options)
 
--- The grammar: the header of the type is there, what follows it is blocks, and the message is this one. Code and
+-- The grammar: the bytes pass the checks, what follows the header is blocks, and the message is this one. Code and
 -- checksum are not checked.
 pub record IsMessage (bytes : List ℕ) (v : NdiscValue) : Type 0 where
   pub options : List OptionValue
-  pub whole : BeginsWhole bytes
+  pub passes : Passes (checks bytes)
   pub tiling : AreBlocks (payload_in bytes) options
   pub content : IsContent bytes options v
 

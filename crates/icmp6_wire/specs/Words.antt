@@ -9,6 +9,7 @@ pub use Rattle.wirebase.specs.ByteWriter.{Sheet, free, put_all, sheet, the_slice
 unfoldable pub use Rattle.wirebase.specs.ByteWriter.{be16, be32, be8, fields, put}
 pub use Rattle.wirebase.specs.Bytes.{Field, IsBytes, Reaches, Writes, byte_of, bytes_of, field, number_of, with_field}
 unfoldable pub use Rattle.wirebase.specs.Bytes.{over, part, splice}
+pub use Rattle.wirebase.specs.Checks.{Check, Fails, Passes, check}
 pub use Rattle.wirebase.specs.Capabilities.{is_computed, is_verified, sealed_where}
 pub use Rattle.wirebase.specs.Checksum.{IsGood}
 unfoldable pub use Rattle.wirebase.specs.Checksum.{sealed}

@@ -1,15 +1,10 @@
 //! Why octets are refused as a message: the first check that fails.
 
-ghost use Rattle.std.specs.Prelude.{◌≡◌, ◌↔◌, ◌≤◌, ◌<◌, false, IfOk, IfErr, IsOkAnd, IfSome, IsNone, Some};
-ghost use Rattle.wirebase.specs.Bytes.{byte_of};
-ghost use Rattle.wirebase.specs.Icmp.{code_field};
-ghost use Rattle.wirebase.specs.declared.capabilities.ChecksumCapabilities.{ChecksumCapabilities};
-ghost use Rattle.wirebase.specs.declared.ipv6.address.Ipv6Address.{Ipv6Address};
-ghost use Rattle.icmp6_wire.specs.Icmpv6.{MessageValue, IsContent, IsMessage, value_of};
+ghost use Rattle.std.specs.Prelude.{◌≡◌, ◌↔◌, IsOk, IfOk, IfErr, IsOkAnd, IfSome, IsNone, Some};
+ghost use Rattle.icmp6_wire.specs.Icmpv6.{MessageValue, IsMessage, value_of};
 ghost use Rattle.icmp6_wire.specs.Icmpv6Display.{refusal_display};
-ghost use Rattle.icmp6_wire.specs.Icmpv6Packet.{view_octets, message_in, BeginsWhole};
-ghost use Rattle.icmp6_wire.specs.Icmpv6Refusal.{IsRead, HasContent, Passes, Refuses};
-ghost use Rattle.icmp6_wire.specs.Icmpv6Tables.{message_number, is_ndisc};
+ghost use Rattle.icmp6_wire.specs.Icmpv6Packet.{view_octets};
+ghost use Rattle.icmp6_wire.specs.Icmpv6Refusal.{IsRead, Refuses};
 
 use super::field;
 use super::packet::Packet;
@@ -90,10 +85,7 @@ impl<'a> Repr<'a> {
         ensures told { IfErr result (λ refusal. Refuses checksum_caps.now src_addr.now dst_addr.now
             (view_octets packet.now) refusal) }
     {
-        match Repr::parse(src_addr, dst_addr, packet, checksum_caps) {
-            Ok(repr) => Ok(repr),
-            Err(_) => Err(why(src_addr, dst_addr, packet, checksum_caps)),
-        }
+        Repr::read_or_refusal(src_addr, dst_addr, packet, checksum_caps)
     }
 
     /// Why [`Repr::parse`] refuses these octets, by the first check that fails; None where it reads them.
@@ -108,102 +100,66 @@ impl<'a> Repr<'a> {
         ensures exact { IsNone result
             ↔ IsRead checksum_caps.now src_addr.now dst_addr.now (view_octets packet.now) }
     {
+        match Repr::read_or_refusal(src_addr, dst_addr, packet, checksum_caps) {
+            Ok(_) => None,
+            Err(why) => Some(why),
+        }
+    }
+
+    // The message in the octets, or the first check that fails.
+    #[inline(always)]
+    fn read_or_refusal(
+        src_addr: &Ipv6Address,
+        dst_addr: &Ipv6Address,
+        packet: &Packet<&'a [u8]>,
+        checksum_caps: &ChecksumCapabilities,
+    ) -> Result<Repr<'a>, Refusal>
+        ensures sound { IfOk result (λ repr. IsMessage checksum_caps.now src_addr.now dst_addr.now
+            (view_octets packet.now) (value_of repr)) }
+        ensures reads { (value : MessageValue)
+            → IsMessage checksum_caps.now src_addr.now dst_addr.now (view_octets packet.now) value
+            → IsOk result }
+        ensures told { IfErr result (λ refusal. Refuses checksum_caps.now src_addr.now dst_addr.now
+            (view_octets packet.now) refusal) }
+    {
         let octets = packet.buffer;
         if octets.len() < field::HEADER_END {
-            return Some(Refusal::Short);
+            return Err(Refusal::Short);
         }
         let kind = packet.msg_type();
         if let Message::RplControl | Message::Unknown(_) = kind {
-            return Some(Refusal::UnknownType(octets[field::TYPE.start]));
+            return Err(Refusal::UnknownType(octets[field::TYPE.start]));
         }
         if octets.len() < packet.header_len() {
-            return Some(Refusal::Length);
+            return Err(Refusal::Length);
         }
         if checksum_caps.icmpv6.rx() && !packet.verify_checksum(src_addr, dst_addr) {
-            return Some(Refusal::Checksum);
+            return Err(Refusal::Checksum);
         }
         if kind.is_error() {
-            return error_refusal(packet, kind);
-        }
-        other_refusal(packet, kind)
-    }
-}
-
-// The first check that fails in octets that are not read. `refusal` finds one in all such octets, so `Short` is never
-// answered in its place.
-fn why(
-    src_addr: &Ipv6Address,
-    dst_addr: &Ipv6Address,
-    packet: &Packet<&[u8]>,
-    checksum_caps: &ChecksumCapabilities,
-) -> Refusal
-    requires { IsRead checksum_caps.now src_addr.now dst_addr.now (view_octets packet.now) → ⊥ }
-    ensures { Refuses checksum_caps.now src_addr.now dst_addr.now (view_octets packet.now) result }
-{
-    match Repr::refusal(src_addr, dst_addr, packet, checksum_caps) {
-        Some(refusal) => refusal,
-        None => Refusal::Short,
-    }
-}
-
-// Why octets that hold the header of an error are refused.
-fn error_refusal(packet: &Packet<&[u8]>, kind: Message) -> Option<Refusal>
-    requires whole { BeginsWhole (view_octets packet.now) }
-    requires kind { kind ≡ message_in (view_octets packet.now) }
-    requires error { message_number kind < 128 }
-    ensures told { (capabilities : ChecksumCapabilities) (source destination : Ipv6Address)
-        → Passes capabilities source destination (view_octets packet.now)
-        → IfSome result (λ refusal. Refuses capabilities source destination (view_octets packet.now) refusal) }
-    ensures exact { IsNone result ↔ HasContent (view_octets packet.now) }
-{
-    match read_error(packet, kind) {
-        Ok(_) => None,
-        Err(_) => {
-            if packet.buffer.len() < field::HEADER_END + IPV6_HEADER_LEN {
-                return Some(Refusal::Quote);
+            if octets.len() < field::HEADER_END + IPV6_HEADER_LEN {
+                return Err(Refusal::Quote);
             }
-            Some(Refusal::Code(packet.msg_code()))
+            return match read_error(packet, kind) {
+                Ok(repr) => Ok(repr),
+                Err(_) => Err(Refusal::Code(packet.msg_code())),
+            };
         }
-    }
-}
-
-// Why octets that hold the header of another message are refused.
-fn other_refusal(packet: &Packet<&[u8]>, kind: Message) -> Option<Refusal>
-    requires whole { BeginsWhole (view_octets packet.now) }
-    requires kind { kind ≡ message_in (view_octets packet.now) }
-    requires other { 128 ≤ message_number kind }
-    ensures told { (capabilities : ChecksumCapabilities) (source destination : Ipv6Address)
-        → Passes capabilities source destination (view_octets packet.now)
-        → IfSome result (λ refusal. Refuses capabilities source destination (view_octets packet.now) refusal) }
-    ensures exact { IsNone result ↔ HasContent (view_octets packet.now) }
-{
-    let code = packet.msg_code();
-    if code != 0 {
-        return Some(Refusal::Code(code));
-    }
-    if kind.is_ndisc() {
-        return match ndisc::Repr::refusal(packet) {
-            Some(reason) => Some(Refusal::Ndisc(reason)),
-            None => None,
-        };
-    }
-    let _read = read_other(packet, kind);
-    None
-}
-
-// The message of code 0 in octets with such a header, which is neither an error nor one of neighbor discovery.
-fn read_other<'a>(packet: &Packet<&'a [u8]>, kind: Message) -> Repr<'a>
-    requires whole { BeginsWhole (view_octets packet.now) }
-    requires kind { kind ≡ message_in (view_octets packet.now) }
-    requires other { 128 ≤ message_number kind }
-    requires no_neighbor { is_ndisc kind ≡ false }
-    requires code { byte_of code_field (view_octets packet.now) ≡ 0 }
-    ensures { IsContent (view_octets packet.now) (value_of result) }
-{
-    match kind {
-        Message::EchoRequest => read_echo_request(packet),
-        Message::EchoReply => read_echo_reply(packet),
-        Message::MldQuery => Repr::Mld(read_query(packet)),
-        _ => Repr::Mld(read_report(packet)),
+        let code = packet.msg_code();
+        if code != 0 {
+            return Err(Refusal::Code(code));
+        }
+        if kind.is_ndisc() {
+            return match ndisc::Repr::read(packet) {
+                Ok(message) => Ok(Repr::Ndisc(message)),
+                Err(reason) => Err(Refusal::Ndisc(reason)),
+            };
+        }
+        match kind {
+            Message::EchoRequest => Ok(read_echo_request(packet)),
+            Message::EchoReply => Ok(read_echo_reply(packet)),
+            Message::MldQuery => Ok(Repr::Mld(read_query(packet))),
+            _ => Ok(Repr::Mld(read_report(packet))),
+        }
     }
 }

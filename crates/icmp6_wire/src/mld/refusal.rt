@@ -1,14 +1,13 @@
 //! Why octets are refused as a message or as a record: the first check that fails.
 
-ghost use Rattle.std.specs.Prelude.{◌≡◌, ◌↔◌, true, IfSome, IsNone, Some};
-ghost use Rattle.icmp6_wire.specs.Icmpv6Packet.{view_octets, message_in, BeginsWhole};
-ghost use Rattle.icmp6_wire.specs.Icmpv6Tables.{is_mld};
+ghost use Rattle.std.specs.Prelude.{◌↔◌, IfSome, IsNone, Some};
+ghost use Rattle.icmp6_wire.specs.Icmpv6Packet.{view_octets};
 ghost use Rattle.icmp6_wire.specs.MldDisplay.{refusal_display, record_refusal_display};
 ghost use Rattle.icmp6_wire.specs.MldRecord.{view_octets as record_octets};
 ghost use Rattle.icmp6_wire.specs.MldRefusal.{IsRead, Refuses, IsReadRecord, RefusesRecord};
 
 use super::{AddressRecord, AddressRecordRepr, Repr};
-use crate::icmpv6::{Packet, field};
+use crate::icmpv6::Packet;
 use std::fmt;
 
 /// Why [`Repr::parse`] refuses octets as a message: the first check that fails.
@@ -66,24 +65,9 @@ impl Repr<'_> {
     {
         match Repr::read(packet) {
             Ok(_) => None,
-            Err(_) => Some(why(packet.buffer)),
+            Err(why) => Some(why),
         }
     }
-}
-
-// Why octets that don't begin with a whole header of either type are refused.
-fn why(octets: &[u8]) -> Refusal
-    requires { BeginsWhole octets.now → is_mld (message_in octets.now) ≡ true → ⊥ }
-    ensures { Refuses octets.now result }
-{
-    if octets.len() < field::HEADER_END {
-        return Refusal::Short;
-    }
-    let packet = Packet::new_unchecked(octets);
-    if !packet.msg_type().is_mld() {
-        return Refusal::UnknownType(octets[field::TYPE.start]);
-    }
-    Refusal::Length
 }
 
 impl AddressRecordRepr<'_> {

@@ -1,25 +1,28 @@
 //! Messages as values (RFC 3810 section 5).
 
-ghost use Rattle.std.specs.Prelude.{◌≡◌, ◌≤◌, ◌<◌, ◌+◌, ◌*◌, ◌^◌, length, [], ◌∷◌, true};
-ghost use Rattle.std.specs.Prelude.{IsOk, IsErr, IfOk, IsOkAnd};
+ghost use Rattle.std.specs.Prelude.{◌≡◌, ◌≤◌, ◌<◌, ◌+◌, ◌*◌, ◌^◌, length, [], ◌∷◌};
+ghost use Rattle.std.specs.Prelude.{IfOk, IfErr, IsOkAnd};
 ghost use Rattle.wirebase.specs.Bytes.{byte_of, over};
 ghost use Rattle.wirebase.specs.ByteWriter.{free, Puts};
+ghost use Rattle.wirebase.specs.Checks.{Passes};
 ghost use Rattle.wirebase.specs.Format.{Rewrites, SameText};
 ghost use Rattle.wirebase.specs.Icmp.{type_field};
 ghost use Rattle.wirebase.specs.Ipv6Address.{IsMulticast};
-ghost use Rattle.icmp6_wire.specs.Icmpv6Packet.{inner, view_octets, message_in, BeginsWhole};
-ghost use Rattle.icmp6_wire.specs.Icmpv6Tables.{is_mld};
+ghost use Rattle.icmp6_wire.specs.Icmpv6Packet.{inner, view_octets};
 ghost use Rattle.icmp6_wire.specs.Mld.{MldValue, values_of, value_of, query_fields, report_fields, record_texts};
 ghost use Rattle.icmp6_wire.specs.Mld.{message_fields, text};
-ghost use Rattle.icmp6_wire.specs.Mld.{text_len, told_len, AreGroups, CanEmit, IsMessage, format, Emits};
+ghost use Rattle.icmp6_wire.specs.Mld.{text_len, told_len, AreGroups, CanEmit, checks, IsMessage, format, Emits};
 ghost use Rattle.icmp6_wire.specs.MldIterators.{AreGiven};
 ghost use Rattle.icmp6_wire.specs.MldRecord.{value_of as record_value, text as record_text};
+ghost use Rattle.icmp6_wire.specs.MldRefusal.{Refuses};
 
 use super::field;
 use super::record::AddressRecordRepr;
+use super::refusal::Refusal;
+use crate::icmpv6;
 use crate::icmpv6::{Message, Packet};
 use crate::writing::put_address;
-use wirebase::{ByteWriter, Error, Ipv6Address, OctetsMut, Result, are_bytes, icmp};
+use wirebase::{ByteWriter, Error, Ipv6Address, OctetsMut, are_bytes, icmp};
 
 /// A message (RFC 3810 section 5).
 ///
@@ -80,7 +83,7 @@ pub enum Repr<'a> {
 impl<'a> Repr<'a> {
     /// The message in the octets. Refused where they don't begin with the header of their type, and where that is
     /// neither a query nor a report. The counts are not compared with the data.
-    pub fn parse(packet: &Packet<&'a [u8]>) -> Result<Repr<'a>>
+    pub fn parse(packet: &Packet<&'a [u8]>) -> wirebase::Result<Repr<'a>>
         ensures sound { IfOk result (λ repr. IsMessage (view_octets packet.now) (value_of repr)) }
         ensures complete { (value : MldValue) → IsMessage (view_octets packet.now) value
             → IsOkAnd result (λ repr. value_of repr ≡ value) }
@@ -88,21 +91,32 @@ impl<'a> Repr<'a> {
             → IfOk result (λ repr. Rewrites format (value_of repr)) }
     {
         are_bytes(packet.buffer);
-        Repr::read(packet)
+        match Repr::read(packet) {
+            Ok(repr) => Ok(repr),
+            Err(_) => Err(Error),
+        }
     }
 
-    // The message in the octets.
-    pub(super) fn read(packet: &Packet<&'a [u8]>) -> Result<Repr<'a>>
+    // The message in the octets, or the first check that fails.
+    #[inline(always)]
+    pub(super) fn read(packet: &Packet<&'a [u8]>) -> Result<Repr<'a>, Refusal>
         ensures sound { IfOk result (λ repr. IsMessage (view_octets packet.now) (value_of repr)) }
-        ensures reads { (value : MldValue) → IsMessage (view_octets packet.now) value
-            → IsOk result }
-        ensures refuses { IsErr result → BeginsWhole (view_octets packet.now)
-            → is_mld (message_in (view_octets packet.now)) ≡ true → ⊥ }
+        ensures told { IfErr result (Refuses (view_octets packet.now)) }
     {
-        match packet.checked_type()? {
-            Message::MldQuery => return Ok(read_query(packet)),
-            Message::MldReport => return Ok(read_report(packet)),
-            _ => return Err(Error),
+        let octets = packet.buffer;
+        if octets.len() < icmpv6::field::HEADER_END {
+            return Err(Refusal::Short);
+        }
+        let kind = packet.msg_type();
+        if !kind.is_mld() {
+            return Err(Refusal::UnknownType(octets[icmpv6::field::TYPE.start]));
+        }
+        if octets.len() < packet.header_len() {
+            return Err(Refusal::Length);
+        }
+        match kind {
+            Message::MldQuery => Ok(read_query(packet)),
+            _ => Ok(read_report(packet)),
         }
     }
 
@@ -209,7 +223,7 @@ impl<'a> Repr<'a> {
 // The query in octets of that type.
 #[inline(always)]
 pub(crate) fn read_query<'a>(packet: &Packet<&'a [u8]>) -> Repr<'a>
-    requires whole { BeginsWhole (view_octets packet.now) }
+    requires passes { Passes (checks (view_octets packet.now)) }
     requires kind { byte_of type_field (view_octets packet.now) ≡ 0x82 }
     ensures { IsMessage (view_octets packet.now) (value_of result) }
 {
@@ -227,7 +241,7 @@ pub(crate) fn read_query<'a>(packet: &Packet<&'a [u8]>) -> Repr<'a>
 // The report in octets of that type.
 #[inline(always)]
 pub(crate) fn read_report<'a>(packet: &Packet<&'a [u8]>) -> Repr<'a>
-    requires whole { BeginsWhole (view_octets packet.now) }
+    requires passes { Passes (checks (view_octets packet.now)) }
     requires kind { byte_of type_field (view_octets packet.now) ≡ 0x8f }
     ensures { IsMessage (view_octets packet.now) (value_of result) }
 {

@@ -1,8 +1,9 @@
 //! Makes messages from the octets of a packet and its options, by their types.
 
 ghost use Rattle.std.specs.Prelude.{◌≡◌};
-ghost use Rattle.icmp6_wire.specs.Icmpv6Packet.{view_octets, message_in, payload_in, BeginsWhole};
-ghost use Rattle.icmp6_wire.specs.Ndisc.{value_of, IsMessage};
+ghost use Rattle.wirebase.specs.Checks.{Passes};
+ghost use Rattle.icmp6_wire.specs.Icmpv6Packet.{view_octets, message_in, payload_in};
+ghost use Rattle.icmp6_wire.specs.Ndisc.{value_of, checks, IsMessage};
 ghost use Rattle.icmp6_wire.specs.NdiscOptionsSeen.{kept_of, Says};
 ghost use Rattle.icmp6_wire.specs.declared.icmpv6.tables.Message.TheVariants.{RouterSolicit, RouterAdvert, Redirect};
 ghost use Rattle.icmp6_wire.specs.declared.icmpv6.tables.Message.TheVariants.{NeighborSolicit, NeighborAdvert};
@@ -14,7 +15,7 @@ use crate::icmpv6::Packet;
 // The router solicitation in octets of that type, with these options.
 #[inline(always)]
 pub(crate) fn router_solicit<'a>(packet: &Packet<&'a [u8]>, found: &OptionsSeen<'a>) -> Repr<'a>
-    requires whole { BeginsWhole (view_octets packet.now) }
+    requires passes { Passes (checks (view_octets packet.now)) }
     requires kind { message_in (view_octets packet.now) ≡ RouterSolicit }
     requires says { Says (payload_in (view_octets packet.now)) (kept_of found.now) }
     ensures { IsMessage (view_octets packet.now) (value_of result) }
@@ -27,7 +28,7 @@ pub(crate) fn router_solicit<'a>(packet: &Packet<&'a [u8]>, found: &OptionsSeen<
 // The router advertisement in octets of that type, with these options.
 #[inline(always)]
 pub(crate) fn router_advert<'a>(packet: &Packet<&'a [u8]>, found: &OptionsSeen<'a>) -> Repr<'a>
-    requires whole { BeginsWhole (view_octets packet.now) }
+    requires passes { Passes (checks (view_octets packet.now)) }
     requires kind { message_in (view_octets packet.now) ≡ RouterAdvert }
     requires says { Says (payload_in (view_octets packet.now)) (kept_of found.now) }
     ensures { IsMessage (view_octets packet.now) (value_of result) }
@@ -47,7 +48,7 @@ pub(crate) fn router_advert<'a>(packet: &Packet<&'a [u8]>, found: &OptionsSeen<'
 // The neighbor solicitation in octets of that type, with these options.
 #[inline(always)]
 pub(crate) fn neighbor_solicit<'a>(packet: &Packet<&'a [u8]>, found: &OptionsSeen<'a>) -> Repr<'a>
-    requires whole { BeginsWhole (view_octets packet.now) }
+    requires passes { Passes (checks (view_octets packet.now)) }
     requires kind { message_in (view_octets packet.now) ≡ NeighborSolicit }
     requires says { Says (payload_in (view_octets packet.now)) (kept_of found.now) }
     ensures { IsMessage (view_octets packet.now) (value_of result) }
@@ -61,7 +62,7 @@ pub(crate) fn neighbor_solicit<'a>(packet: &Packet<&'a [u8]>, found: &OptionsSee
 // The neighbor advertisement in octets of that type, with these options.
 #[inline(always)]
 pub(crate) fn neighbor_advert<'a>(packet: &Packet<&'a [u8]>, found: &OptionsSeen<'a>) -> Repr<'a>
-    requires whole { BeginsWhole (view_octets packet.now) }
+    requires passes { Passes (checks (view_octets packet.now)) }
     requires kind { message_in (view_octets packet.now) ≡ NeighborAdvert }
     requires says { Says (payload_in (view_octets packet.now)) (kept_of found.now) }
     ensures { IsMessage (view_octets packet.now) (value_of result) }
@@ -76,7 +77,7 @@ pub(crate) fn neighbor_advert<'a>(packet: &Packet<&'a [u8]>, found: &OptionsSeen
 // The redirect in octets of that type, with these options.
 #[inline(always)]
 pub(crate) fn redirect<'a>(packet: &Packet<&'a [u8]>, found: &OptionsSeen<'a>) -> Repr<'a>
-    requires whole { BeginsWhole (view_octets packet.now) }
+    requires passes { Passes (checks (view_octets packet.now)) }
     requires kind { message_in (view_octets packet.now) ≡ Redirect }
     requires says { Says (payload_in (view_octets packet.now)) (kept_of found.now) }
     ensures { IsMessage (view_octets packet.now) (value_of result) }

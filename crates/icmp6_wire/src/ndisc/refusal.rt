@@ -1,17 +1,18 @@
 //! Why octets are refused as a message: the first check that fails.
 
-ghost use Rattle.std.specs.Prelude.{◌≡◌, ◌↔◌, ◌≤◌, true, List, ℕ, length, IfSome, IsNone, Some};
+ghost use Rattle.std.specs.Prelude.{◌≡◌, ◌↔◌, ◌≤◌, List, length, IfSome, IsNone, Some};
+ghost use Rattle.wirebase.specs.Checks.{Passes, Fails};
 ghost use Rattle.opt_wire.specs.NdiscOption.{BeginsWithBlock};
 ghost use Rattle.opt_wire.specs.NdiscOptionRepr.{OptionValue};
-ghost use Rattle.icmp6_wire.specs.Icmpv6Packet.{view_octets, message_in, header_len_in, payload_in, BeginsWhole};
-ghost use Rattle.icmp6_wire.specs.Icmpv6Tables.{is_ndisc};
+ghost use Rattle.icmp6_wire.specs.Icmpv6Packet.{view_octets, header_len_in, payload_in};
+ghost use Rattle.icmp6_wire.specs.Ndisc.{checks};
 ghost use Rattle.icmp6_wire.specs.NdiscBlocks.{AreBlocks};
 ghost use Rattle.icmp6_wire.specs.NdiscDisplay.{refusal_display};
-ghost use Rattle.icmp6_wire.specs.NdiscRefusal.{IsRead, AreWholeUpTo, Refuses};
+ghost use Rattle.icmp6_wire.specs.NdiscRefusal.{IsRead, option_checks, RefusesOption, Refuses};
 
 use super::Repr;
 use super::options_seen::split_block;
-use crate::icmpv6::{Packet, field};
+use crate::icmpv6::Packet;
 use opt_wire::writing::UNIT;
 use std::fmt;
 
@@ -82,38 +83,17 @@ impl Repr<'_> {
     {
         match Repr::read(packet) {
             Ok(_) => None,
-            Err(_) => Some(why(packet.buffer)),
+            Err(why) => Some(why),
         }
     }
 }
 
-// Why octets that don't begin with a whole header of neighbor discovery, followed by whole options, are refused.
-fn why(octets: &[u8]) -> Refusal
-    requires { BeginsWhole octets.now → is_ndisc (message_in octets.now) ≡ true
-        → (options : List OptionValue) → AreBlocks (payload_in octets.now) options → ⊥ }
-    ensures { Refuses octets.now result }
-{
-    if octets.len() < field::HEADER_END {
-        return Refusal::Short;
-    }
-    let packet = Packet::new_unchecked(octets);
-    if !packet.msg_type().is_ndisc() {
-        return Refusal::UnknownType(octets[field::TYPE.start]);
-    }
-    let header_len = packet.header_len();
-    if octets.len() < header_len {
-        return Refusal::Length;
-    }
-    why_option(octets, header_len)
-}
-
 // Why the first option that is not whole, after a header of `header_len` bytes, is refused.
-fn why_option(octets: &[u8], header_len: usize) -> Refusal
-    requires begins { BeginsWhole octets.now }
-    requires neighbor { is_ndisc (message_in octets.now) ≡ true }
+pub(super) fn why_option(octets: &[u8], header_len: usize) -> Refusal
+    requires passes { Passes (checks octets.now) }
     requires header { header_len ≡ header_len_in octets.now }
     requires untiled { (options : List OptionValue) → AreBlocks (payload_in octets.now) options → ⊥ }
-    ensures { Refuses octets.now result }
+    ensures { RefusesOption octets.now result }
 {
     let mut place = header_len;
     let mut rest = &octets[header_len..];
@@ -128,7 +108,7 @@ fn why_option(octets: &[u8], header_len: usize) -> Refusal
 fn fault(rest: &[u8], place: usize) -> Refusal
     requires some { 1 ≤ length rest.now }
     requires none { BeginsWithBlock rest.now → ⊥ }
-    ensures { (bytes : List ℕ) → AreWholeUpTo bytes place rest.now → Refuses bytes result }
+    ensures { Fails (option_checks place rest.now) result }
 {
     let kind = rest[0];
     if rest.len() < UNIT {

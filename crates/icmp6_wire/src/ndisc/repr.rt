@@ -1,20 +1,20 @@
 //! Messages as values (RFC 4861 sections 4.1 to 4.5).
 
-ghost use Rattle.std.specs.Prelude.{◌≡◌, ◌+◌, ◌<◌, ◌≤◌, ◌^◌, [], ◌∷◌, true, List, length};
-ghost use Rattle.std.specs.Prelude.{IfOk, IsOk, IsErr, IsOkAnd};
+ghost use Rattle.std.specs.Prelude.{◌≡◌, ◌+◌, ◌<◌, ◌≤◌, ◌^◌, [], ◌∷◌, length, IsOk, IfOk};
+ghost use Rattle.std.specs.Prelude.{IfErr, IsOkAnd};
 ghost use Rattle.std.specs.Option.{option_map};
 ghost use Rattle.wirebase.specs.ByteWriter.{free, Puts, be8, be16, be32};
 ghost use Rattle.wirebase.specs.Duration.{millis_of, seconds_of};
 ghost use Rattle.wirebase.specs.Format.{Rewrites, SameText};
-ghost use Rattle.opt_wire.specs.NdiscOptionRepr.{OptionValue, CanEmit as CanEmitOption};
-ghost use Rattle.icmp6_wire.specs.Icmpv6Packet.{inner, view_octets, message_in, payload_in, BeginsWhole};
+ghost use Rattle.opt_wire.specs.NdiscOptionRepr.{CanEmit as CanEmitOption};
+ghost use Rattle.icmp6_wire.specs.Icmpv6Packet.{inner, view_octets};
 ghost use Rattle.icmp6_wire.specs.Ndisc.{NdiscValue, value_of, sources, targets, mtus, prefixes, packets};
 ghost use Rattle.icmp6_wire.specs.Ndisc.{options_of, option_lens, option_texts, header_len, header_fields, Each};
 ghost use Rattle.icmp6_wire.specs.Ndisc.{HaveTimes, message_fields, text};
 ghost use Rattle.icmp6_wire.specs.Ndisc.{text_len, CanEmit, IsMessage, format, Emits};
-ghost use Rattle.icmp6_wire.specs.NdiscBlocks.{AreBlocks};
 ghost use Rattle.icmp6_wire.specs.NdiscOptionsSeen.{link_of, packet_of};
-ghost use Rattle.icmp6_wire.specs.Icmpv6Tables.{message_number, is_ndisc};
+ghost use Rattle.icmp6_wire.specs.NdiscRefusal.{Refuses};
+ghost use Rattle.icmp6_wire.specs.Icmpv6Tables.{message_number};
 ghost use Rattle.icmp6_wire.specs.NdiscTables.{router_bits, neighbor_bits};
 
 use super::field;
@@ -25,13 +25,14 @@ use super::options::{
 };
 use super::options_seen::OptionsSeen;
 use super::reading::{neighbor_advert, neighbor_solicit, redirect, router_advert, router_solicit};
+use super::refusal::{Refusal, why_option};
+use crate::icmpv6;
 use crate::icmpv6::{Message, Packet};
 use crate::writing::put_address;
 use bitflags::Flags as _;
 use opt_wire::ndiscoption::{PrefixInformation, RedirectedHeader};
 use wirebase::{
-    ByteWriter, Duration, Error, Ipv6Address, OctetsMut, RawHardwareAddress, Result, are_bytes,
-    icmp,
+    ByteWriter, Duration, Error, Ipv6Address, OctetsMut, RawHardwareAddress, are_bytes, icmp,
 };
 
 /// A message (RFC 4861 section 4). Each option may be absent; of several of one kind the last is read.
@@ -112,7 +113,7 @@ impl<'a> Repr<'a> {
     /// The message in the octets. Refused where they don't begin with the header of their type, where that type is none
     /// of neighbor discovery, and where what follows isn't whole options one after another. An option that can't be
     /// read is dropped, and so are flags without a name; code and checksum are not checked.
-    pub fn parse(packet: &Packet<&'a [u8]>) -> Result<Repr<'a>>
+    pub fn parse(packet: &Packet<&'a [u8]>) -> wirebase::Result<Repr<'a>>
         ensures sound { IfOk result (λ repr. IsMessage (view_octets packet.now) (value_of repr)) }
         ensures complete { (value : NdiscValue) → IsMessage (view_octets packet.now) value
             → IsOkAnd result (λ repr. value_of repr ≡ value) }
@@ -120,41 +121,42 @@ impl<'a> Repr<'a> {
             → IfOk result (λ repr. Rewrites format (value_of repr)) }
     {
         are_bytes(packet.buffer);
-        Repr::read(packet)
+        match Repr::read(packet) {
+            Ok(repr) => Ok(repr),
+            Err(_) => Err(Error),
+        }
     }
 
-    // The message in the octets.
-    pub(super) fn read(packet: &Packet<&'a [u8]>) -> Result<Repr<'a>>
+    // The message in the octets, or the first check that fails.
+    pub(crate) fn read(packet: &Packet<&'a [u8]>) -> Result<Repr<'a>, Refusal>
         ensures sound { IfOk result (λ repr. IsMessage (view_octets packet.now) (value_of repr)) }
         ensures reads { (value : NdiscValue) → IsMessage (view_octets packet.now) value
             → IsOk result }
-        ensures refuses { IsErr result → BeginsWhole (view_octets packet.now)
-            → is_ndisc (message_in (view_octets packet.now)) ≡ true
-            → (options : List OptionValue) → AreBlocks (payload_in (view_octets packet.now)) options → ⊥ }
+        ensures told { IfErr result (Refuses (view_octets packet.now)) }
     {
-        let kind = packet.checked_type()?;
+        let octets = packet.buffer;
+        if octets.len() < icmpv6::field::HEADER_END {
+            return Err(Refusal::Short);
+        }
+        let kind = packet.msg_type();
+        if !kind.is_ndisc() {
+            return Err(Refusal::UnknownType(octets[icmpv6::field::TYPE.start]));
+        }
+        let header_len = packet.header_len();
+        if octets.len() < header_len {
+            return Err(Refusal::Length);
+        }
         let mut found = OptionsSeen::nothing();
-        found.add_all(packet.behind(kind))?;
+        if found.add_all(packet.behind(kind)).is_err() {
+            return Err(why_option(octets, header_len));
+        }
         // Each arm returns, so that the value is written once, in the caller's slot.
         match kind {
-            Message::RouterSolicit => {
-                return Ok(router_solicit(packet, &found));
-            }
-            Message::RouterAdvert => {
-                return Ok(router_advert(packet, &found));
-            }
-            Message::NeighborSolicit => {
-                return Ok(neighbor_solicit(packet, &found));
-            }
-            Message::NeighborAdvert => {
-                return Ok(neighbor_advert(packet, &found));
-            }
-            Message::Redirect => {
-                return Ok(redirect(packet, &found));
-            }
-            _ => {
-                return Err(Error);
-            }
+            Message::RouterSolicit => return Ok(router_solicit(packet, &found)),
+            Message::RouterAdvert => return Ok(router_advert(packet, &found)),
+            Message::NeighborSolicit => return Ok(neighbor_solicit(packet, &found)),
+            Message::NeighborAdvert => return Ok(neighbor_advert(packet, &found)),
+            _ => return Ok(redirect(packet, &found)),
         }
     }
 

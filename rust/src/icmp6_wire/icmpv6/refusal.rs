@@ -71,10 +71,7 @@ impl<'a> Repr<'a> {
         packet: &Packet<&'a B>,
         checksum_caps: &ChecksumCapabilities,
     ) -> Result<Repr<'a>, Refusal> {
-        match Repr::parse(src_addr, dst_addr, packet, checksum_caps) {
-            Ok(repr) => Ok(repr),
-            Err(_) => Err(why(src_addr, dst_addr, packet, checksum_caps)),
-        }
+        Repr::read_or_refusal(src_addr, dst_addr, packet, checksum_caps)
     }
 
     /// Why [`Repr::parse`] refuses these octets, by the first check that fails; None where it reads them.
@@ -84,76 +81,58 @@ impl<'a> Repr<'a> {
         packet: &Packet<&B>,
         checksum_caps: &ChecksumCapabilities,
     ) -> Option<Refusal> {
+        match Repr::read_or_refusal(src_addr, dst_addr, packet, checksum_caps) {
+            Ok(_) => None,
+            Err(why) => Some(why),
+        }
+    }
+
+    // The message in the octets, or the first check that fails.
+    #[inline(always)]
+    fn read_or_refusal<B: AsRef<[u8]> + ?Sized>(
+        src_addr: &Ipv6Address,
+        dst_addr: &Ipv6Address,
+        packet: &Packet<&'a B>,
+        checksum_caps: &ChecksumCapabilities,
+    ) -> Result<Repr<'a>, Refusal> {
         let octets = packet.buffer.as_ref();
         if octets.len() < field::HEADER_END {
-            return Some(Refusal::Short);
+            return Err(Refusal::Short);
         }
         let kind = packet.msg_type();
         if let Message::RplControl | Message::Unknown(_) = kind {
-            return Some(Refusal::UnknownType(octets[field::TYPE.start]));
+            return Err(Refusal::UnknownType(octets[field::TYPE.start]));
         }
         if octets.len() < packet.header_len() {
-            return Some(Refusal::Length);
+            return Err(Refusal::Length);
         }
         if checksum_caps.icmpv6.rx() && !packet.verify_checksum(src_addr, dst_addr) {
-            return Some(Refusal::Checksum);
+            return Err(Refusal::Checksum);
         }
         if kind.is_error() {
-            return error_refusal(packet, kind);
-        }
-        other_refusal(packet, kind)
-    }
-}
-
-// The first check that fails in octets that are not read. `refusal` finds one in all such octets, so `Short` is never
-// answered in its place.
-fn why<B: AsRef<[u8]> + ?Sized>(
-    src_addr: &Ipv6Address,
-    dst_addr: &Ipv6Address,
-    packet: &Packet<&B>,
-    checksum_caps: &ChecksumCapabilities,
-) -> Refusal {
-    match Repr::refusal(src_addr, dst_addr, packet, checksum_caps) {
-        Some(refusal) => refusal,
-        None => Refusal::Short,
-    }
-}
-
-// Why octets that hold the header of an error are refused.
-fn error_refusal<B: AsRef<[u8]> + ?Sized>(packet: &Packet<&B>, kind: Message) -> Option<Refusal> {
-    match read_error(packet, kind) {
-        Ok(_) => None,
-        Err(_) => {
-            if packet.buffer.as_ref().len() < field::HEADER_END + IPV6_HEADER_LEN {
-                return Some(Refusal::Quote);
+            if octets.len() < field::HEADER_END + IPV6_HEADER_LEN {
+                return Err(Refusal::Quote);
             }
-            Some(Refusal::Code(packet.msg_code()))
+            return match read_error(packet, kind) {
+                Ok(repr) => Ok(repr),
+                Err(_) => Err(Refusal::Code(packet.msg_code())),
+            };
         }
-    }
-}
-
-// Why octets that hold the header of another message are refused.
-fn other_refusal<B: AsRef<[u8]> + ?Sized>(packet: &Packet<&B>, kind: Message) -> Option<Refusal> {
-    let code = packet.msg_code();
-    if code != 0 {
-        return Some(Refusal::Code(code));
-    }
-    if kind.is_ndisc() {
-        return match ndisc::Repr::refusal(packet) {
-            Some(reason) => Some(Refusal::Ndisc(reason)),
-            None => None,
-        };
-    }
-    let _read = read_other(packet, kind);
-    None
-}
-
-// The message of code 0 in octets with such a header, which is neither an error nor one of neighbor discovery.
-fn read_other<'a, B: AsRef<[u8]> + ?Sized>(packet: &Packet<&'a B>, kind: Message) -> Repr<'a> {
-    match kind {
-        Message::EchoRequest => read_echo_request(packet),
-        Message::EchoReply => read_echo_reply(packet),
-        Message::MldQuery => Repr::Mld(read_query(packet)),
-        _ => Repr::Mld(read_report(packet)),
+        let code = packet.msg_code();
+        if code != 0 {
+            return Err(Refusal::Code(code));
+        }
+        if kind.is_ndisc() {
+            return match ndisc::Repr::read(packet) {
+                Ok(message) => Ok(Repr::Ndisc(message)),
+                Err(reason) => Err(Refusal::Ndisc(reason)),
+            };
+        }
+        match kind {
+            Message::EchoRequest => Ok(read_echo_request(packet)),
+            Message::EchoReply => Ok(read_echo_reply(packet)),
+            Message::MldQuery => Ok(Repr::Mld(read_query(packet))),
+            _ => Ok(Repr::Mld(read_report(packet))),
+        }
     }
 }

@@ -2,7 +2,7 @@
 //! Why octets are refused as a message or as a record: the first check that fails.
 
 use super::{AddressRecord, AddressRecordRepr, Repr};
-use crate::icmp6_wire::icmpv6::{Packet, field};
+use crate::icmp6_wire::icmpv6::Packet;
 use core::fmt;
 
 /// Why [`Repr::parse`] refuses octets as a message: the first check that fails.
@@ -55,21 +55,9 @@ impl Repr<'_> {
     pub fn refusal<B: AsRef<[u8]> + ?Sized>(packet: &Packet<&B>) -> Option<Refusal> {
         match Repr::read(packet) {
             Ok(_) => None,
-            Err(_) => Some(why(packet.buffer.as_ref())),
+            Err(why) => Some(why),
         }
     }
-}
-
-// Why octets that don't begin with a whole header of either type are refused.
-fn why(octets: &[u8]) -> Refusal {
-    if octets.len() < field::HEADER_END {
-        return Refusal::Short;
-    }
-    let packet = Packet::new_unchecked(octets);
-    if !packet.msg_type().is_mld() {
-        return Refusal::UnknownType(octets[field::TYPE.start]);
-    }
-    Refusal::Length
 }
 
 impl AddressRecordRepr<'_> {

@@ -3,9 +3,11 @@
 
 use super::field;
 use super::record::AddressRecordRepr;
+use super::refusal::Refusal;
+use crate::icmp6_wire::icmpv6;
 use crate::icmp6_wire::icmpv6::{Message, Packet};
 use crate::icmp6_wire::writing::put_address;
-use crate::wirebase::{ByteWriter, Error, Ipv6Address, OctetsMut, Result, icmp};
+use crate::wirebase::{ByteWriter, Error, Ipv6Address, OctetsMut, icmp};
 
 /// A message (RFC 3810 section 5).
 ///
@@ -66,16 +68,34 @@ pub enum Repr<'a> {
 impl<'a> Repr<'a> {
     /// The message in the octets. Refused where they don't begin with the header of their type, and where that is
     /// neither a query nor a report. The counts are not compared with the data.
-    pub fn parse<B: AsRef<[u8]> + ?Sized>(packet: &Packet<&'a B>) -> Result<Repr<'a>> {
-        Repr::read(packet)
+    pub fn parse<B: AsRef<[u8]> + ?Sized>(
+        packet: &Packet<&'a B>,
+    ) -> crate::wirebase::Result<Repr<'a>> {
+        match Repr::read(packet) {
+            Ok(repr) => Ok(repr),
+            Err(_) => Err(Error),
+        }
     }
 
-    // The message in the octets.
-    pub(super) fn read<B: AsRef<[u8]> + ?Sized>(packet: &Packet<&'a B>) -> Result<Repr<'a>> {
-        match packet.checked_type()? {
-            Message::MldQuery => return Ok(read_query(packet)),
-            Message::MldReport => return Ok(read_report(packet)),
-            _ => return Err(Error),
+    // The message in the octets, or the first check that fails.
+    #[inline(always)]
+    pub(super) fn read<B: AsRef<[u8]> + ?Sized>(
+        packet: &Packet<&'a B>,
+    ) -> Result<Repr<'a>, Refusal> {
+        let octets = packet.buffer.as_ref();
+        if octets.len() < icmpv6::field::HEADER_END {
+            return Err(Refusal::Short);
+        }
+        let kind = packet.msg_type();
+        if !kind.is_mld() {
+            return Err(Refusal::UnknownType(octets[icmpv6::field::TYPE.start]));
+        }
+        if octets.len() < packet.header_len() {
+            return Err(Refusal::Length);
+        }
+        match kind {
+            Message::MldQuery => Ok(read_query(packet)),
+            _ => Ok(read_report(packet)),
         }
     }
 

@@ -3,7 +3,7 @@
 
 use super::Repr;
 use super::options_seen::split_block;
-use crate::icmp6_wire::icmpv6::{Packet, field};
+use crate::icmp6_wire::icmpv6::Packet;
 use crate::opt_wire::writing::UNIT;
 use core::fmt;
 
@@ -70,29 +70,13 @@ impl Repr<'_> {
     pub fn refusal<B: AsRef<[u8]> + ?Sized>(packet: &Packet<&B>) -> Option<Refusal> {
         match Repr::read(packet) {
             Ok(_) => None,
-            Err(_) => Some(why(packet.buffer.as_ref())),
+            Err(why) => Some(why),
         }
     }
 }
 
-// Why octets that don't begin with a whole header of neighbor discovery, followed by whole options, are refused.
-fn why(octets: &[u8]) -> Refusal {
-    if octets.len() < field::HEADER_END {
-        return Refusal::Short;
-    }
-    let packet = Packet::new_unchecked(octets);
-    if !packet.msg_type().is_ndisc() {
-        return Refusal::UnknownType(octets[field::TYPE.start]);
-    }
-    let header_len = packet.header_len();
-    if octets.len() < header_len {
-        return Refusal::Length;
-    }
-    why_option(octets, header_len)
-}
-
 // Why the first option that is not whole, after a header of `header_len` bytes, is refused.
-fn why_option(octets: &[u8], header_len: usize) -> Refusal {
+pub(super) fn why_option(octets: &[u8], header_len: usize) -> Refusal {
     let mut place = header_len;
     let mut rest = &octets[header_len..];
     while let Ok((block, behind)) = split_block(rest) {

@@ -9,11 +9,13 @@ use super::options::{
 };
 use super::options_seen::OptionsSeen;
 use super::reading::{neighbor_advert, neighbor_solicit, redirect, router_advert, router_solicit};
+use super::refusal::{Refusal, why_option};
+use crate::icmp6_wire::icmpv6;
 use crate::icmp6_wire::icmpv6::{Message, Packet};
 use crate::icmp6_wire::writing::put_address;
 use crate::opt_wire::ndiscoption::{PrefixInformation, RedirectedHeader};
 use crate::wirebase::{
-    ByteWriter, Duration, Error, Ipv6Address, OctetsMut, RawHardwareAddress, Result, icmp,
+    ByteWriter, Duration, Error, Ipv6Address, OctetsMut, RawHardwareAddress, icmp,
 };
 
 /// A message (RFC 4861 section 4). Each option may be absent; of several of one kind the last is read.
@@ -94,35 +96,42 @@ impl<'a> Repr<'a> {
     /// The message in the octets. Refused where they don't begin with the header of their type, where that type is none
     /// of neighbor discovery, and where what follows isn't whole options one after another. An option that can't be
     /// read is dropped, and so are flags without a name; code and checksum are not checked.
-    pub fn parse<B: AsRef<[u8]> + ?Sized>(packet: &Packet<&'a B>) -> Result<Repr<'a>> {
-        Repr::read(packet)
+    pub fn parse<B: AsRef<[u8]> + ?Sized>(
+        packet: &Packet<&'a B>,
+    ) -> crate::wirebase::Result<Repr<'a>> {
+        match Repr::read(packet) {
+            Ok(repr) => Ok(repr),
+            Err(_) => Err(Error),
+        }
     }
 
-    // The message in the octets.
-    pub(super) fn read<B: AsRef<[u8]> + ?Sized>(packet: &Packet<&'a B>) -> Result<Repr<'a>> {
-        let kind = packet.checked_type()?;
+    // The message in the octets, or the first check that fails.
+    pub(crate) fn read<B: AsRef<[u8]> + ?Sized>(
+        packet: &Packet<&'a B>,
+    ) -> Result<Repr<'a>, Refusal> {
+        let octets = packet.buffer.as_ref();
+        if octets.len() < icmpv6::field::HEADER_END {
+            return Err(Refusal::Short);
+        }
+        let kind = packet.msg_type();
+        if !kind.is_ndisc() {
+            return Err(Refusal::UnknownType(octets[icmpv6::field::TYPE.start]));
+        }
+        let header_len = packet.header_len();
+        if octets.len() < header_len {
+            return Err(Refusal::Length);
+        }
         let mut found = OptionsSeen::nothing();
-        found.add_all(packet.behind(kind))?;
+        if found.add_all(packet.behind(kind)).is_err() {
+            return Err(why_option(octets, header_len));
+        }
         // Each arm returns, so that the value is written once, in the caller's slot.
         match kind {
-            Message::RouterSolicit => {
-                return Ok(router_solicit(packet, &found));
-            }
-            Message::RouterAdvert => {
-                return Ok(router_advert(packet, &found));
-            }
-            Message::NeighborSolicit => {
-                return Ok(neighbor_solicit(packet, &found));
-            }
-            Message::NeighborAdvert => {
-                return Ok(neighbor_advert(packet, &found));
-            }
-            Message::Redirect => {
-                return Ok(redirect(packet, &found));
-            }
-            _ => {
-                return Err(Error);
-            }
+            Message::RouterSolicit => return Ok(router_solicit(packet, &found)),
+            Message::RouterAdvert => return Ok(router_advert(packet, &found)),
+            Message::NeighborSolicit => return Ok(neighbor_solicit(packet, &found)),
+            Message::NeighborAdvert => return Ok(neighbor_advert(packet, &found)),
+            _ => return Ok(redirect(packet, &found)),
         }
     }
 

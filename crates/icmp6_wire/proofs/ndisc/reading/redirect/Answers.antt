@@ -7,7 +7,7 @@ use Rattle.icmp6_wire.proofs.ndisc.reading.redirect.Goals as goal
 pub returns : goal.returns
 returns c =
     let s = c.requires.says in
-    message_said c.requires.whole refl s (
+    message_said c.requires.passes refl s (
       kind_read (view_octets c.args.packet.now) Message.Redirect c.requires.kind,
       c.target_addr.ensures,
       c.dest_addr.ensures,

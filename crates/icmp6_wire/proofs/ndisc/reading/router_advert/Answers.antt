@@ -7,7 +7,7 @@ use Rattle.icmp6_wire.proofs.ndisc.reading.router_advert.Goals as goal
 pub returns : goal.returns
 returns c =
     let s = c.requires.says in
-    message_said c.requires.whole refl s (record {
+    message_said c.requires.passes refl s (record {
       kind = kind_read (view_octets c.args.packet.now) Message.RouterAdvert c.requires.kind;
       hop_limit = c.current_hop_limit.ensures;
       flags = c.router_flags.ensures;

@@ -7,7 +7,7 @@ use Rattle.icmp6_wire.proofs.ndisc.reading.router_solicit.Goals as goal
 pub returns : goal.returns
 returns c =
     let s = c.requires.says in
-    message_said c.requires.whole refl s (
+    message_said c.requires.passes refl s (
       kind_read (view_octets c.args.packet.now) Message.RouterSolicit c.requires.kind,
       said_source s,
     )

@@ -1,18 +1,19 @@
-use Rattle.wirebase.proofs.Format.{all_rewrites}
-use Rattle.wirebase.proofs.Parses.{reads-complete}
+use Rattle.wirebase.proofs.Checks.{passes_fails}
+use Rattle.wirebase.proofs.Format.{rewrites}
 use Rattle.icmp6_wire.specs.Icmpv6Packet.{view_octets}
-use Rattle.icmp6_wire.specs.Mld.{value_of, IsMessage, format}
+use Rattle.icmp6_wire.specs.Mld.{checks, format}
 use Rattle.icmp6_wire.proofs.MldFormat.{mld_format}
 use Rattle.icmp6_wire.proofs.MldTexts.{message-one}
 use Rattle.icmp6_wire.proofs.mld.repr.Repr.parse.Goals as goal
 
-pub returns-clause-complete : goal.returns-clause-complete
-returns-clause-complete c = λ value is.
-    let octets = view_octets c.args.packet.now in
-    reads-complete (IsMessage octets) (message-one octets) value_of c.read.result c.read.ensures.sound
-    (c.read.ensures.reads value is) value is
+pub returns-in-Ok-clause-complete : goal.returns-in-Ok-clause-complete
+returns-in-Ok-clause-complete c = λ value is.
+    message-one (view_octets c.args.packet.now) _ value c.in-Ok.ensures.sound is
 
-pub returns-clause-rewrites : goal.returns-clause-rewrites
-returns-clause-rewrites c =
-    all_rewrites format mld_format value_of (view_octets c.args.packet.now) c.read.result c.are_bytes.ensures
-    c.read.ensures.sound
+pub returns-in-Ok-clause-rewrites : goal.returns-in-Ok-clause-rewrites
+returns-in-Ok-clause-rewrites c = λ short.
+    rewrites format mld_format (view_octets c.args.packet.now) _ c.are_bytes.ensures short c.in-Ok.ensures.sound
+
+pub returns-in-Err-clause-complete : goal.returns-in-Err-clause-complete
+returns-in-Err-clause-complete c = λ value is.
+    absurd (passes_fails (checks (view_octets c.args.packet.now)) is.passes _ c.in-Err.ensures.told)

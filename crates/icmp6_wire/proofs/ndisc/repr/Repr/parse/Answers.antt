@@ -1,17 +1,16 @@
-use Rattle.wirebase.proofs.Format.{all_rewrites}
-use Rattle.wirebase.proofs.Parses.{reads-complete}
+use Rattle.wirebase.proofs.Format.{rewrites}
 use Rattle.icmp6_wire.specs.Icmpv6Packet.{view_octets}
-use Rattle.icmp6_wire.specs.Ndisc.{value_of, IsMessage, format}
+use Rattle.icmp6_wire.specs.Ndisc.{format}
 use Rattle.icmp6_wire.proofs.NdiscFormat.{message-one, ndisc_format}
 use Rattle.icmp6_wire.proofs.ndisc.repr.Repr.parse.Goals as goal
 
-pub returns-clause-complete : goal.returns-clause-complete
-returns-clause-complete c = λ value is.
-    let octets = view_octets c.args.packet.now in
-    reads-complete (IsMessage octets) (message-one octets) value_of c.read.result c.read.ensures.sound
-    (c.read.ensures.reads value is) value is
+pub returns-in-Ok-clause-complete : goal.returns-in-Ok-clause-complete
+returns-in-Ok-clause-complete c = λ value is.
+    message-one (view_octets c.args.packet.now) _ value c.in-Ok.ensures.sound is
 
-pub returns-clause-rewrites : goal.returns-clause-rewrites
-returns-clause-rewrites c =
-    all_rewrites format ndisc_format value_of (view_octets c.args.packet.now)
-    c.read.result c.are_bytes.ensures c.read.ensures.sound
+pub returns-in-Ok-clause-rewrites : goal.returns-in-Ok-clause-rewrites
+returns-in-Ok-clause-rewrites c = λ short.
+    rewrites format ndisc_format (view_octets c.args.packet.now) _ c.are_bytes.ensures short c.in-Ok.ensures.sound
+
+pub returns-in-Err-clause-complete : goal.returns-in-Err-clause-complete
+returns-in-Err-clause-complete c = λ value is. let never = c.in-Err.ensures.reads value is in cc
