@@ -1,5 +1,5 @@
 -- The grammar of ICMPv6 messages: the bytes are one message at most, by the type at their front.
-use Rattle.std.proofs.Common.{◌≡◌, inl, inr, ℕ, ◌≤◌, true, false, List, [], ◌∷◌, length, refl, sym, ap, ◌∙◌, arith}
+use Rattle.std.proofs.Common.{◌≡◌, inl, inr, ℕ, ◌≤◌, true, List, [], ◌∷◌, length, refl, sym, ap, ◌∙◌, arith}
 use Rattle.icmp6_wire.specs.Words.{byte_of, type_field, ChecksumCapabilities, Ipv6Address, Ipv6Repr, Message, Passes}
 use Rattle.wirebase.proofs.Checks.{passes_fails}
 use Rattle.wirebase.proofs.Ipv6Header.{one_header}
@@ -11,7 +11,7 @@ use Rattle.icmp6_wire.specs.Icmpv6.{IsMessage}
 use Rattle.icmp6_wire.specs.Icmpv6Refusal.{Refuses}
 use Rattle.icmp6_wire.specs.Mld.{MldValue, query, report, records}
 use Rattle.icmp6_wire.specs.Ndisc.{NdiscValue, router_solicit, router_advert, neighbor_solicit, neighbor_advert}
-use Rattle.icmp6_wire.specs.Ndisc.{redirect, checks as neighbor_checks, IsMessage as IsNeighborMessage}
+use Rattle.icmp6_wire.specs.Ndisc.{redirect, checks as neighbor_checks}
 use Rattle.icmp6_wire.specs.NdiscRefusal as neighbors
 use Rattle.icmp6_wire.specs.declared.icmpv6.refusal.Refusal.{Refusal}
 use Rattle.icmp6_wire.specs.declared.ndisc.refusal.Refusal.{Refusal as NeighborRefusal}
@@ -106,14 +106,10 @@ message-unique capabilities source destination bytes v w a b = content-one bytes
 
 -- the messages of both protocols are read
 ndisc-read : (m : Message) → is_ndisc m ≡ true → is_read m ≡ true
-ndisc-read Message.RplControl e = cc
-ndisc-read (Message.Unknown n) e = cc
-ndisc-read _ e = refl
+ndisc-read m e = grind (arith, e)
 
 mld-read : (m : Message) → is_mld m ≡ true → is_read m ≡ true
-mld-read Message.RplControl e = cc
-mld-read (Message.Unknown n) e = cc
-mld-read _ e = refl
+mld-read m e = grind (arith, e)
 
 -- bytes of a type whose header has 8 bytes begin with a whole one
 header-known : (t : ℕ) (bytes : List ℕ) → 8 ≤ length bytes → is_read (message_of t) ≡ true
@@ -136,32 +132,7 @@ whole-content bytes (mld m) some c =
 
 -- the one check by the type in a message that is no error
 pub code_checks : (m : Message) (bytes : List ℕ) → 128 ≤ message_number m → type_checks m bytes ≡ code_check bytes ∷ []
-code_checks Message.DstUnreachable bytes other = absurd (omega (arith, other))
-code_checks Message.PktTooBig bytes other = absurd (omega (arith, other))
-code_checks Message.TimeExceeded bytes other = absurd (omega (arith, other))
-code_checks Message.ParamProblem bytes other = absurd (omega (arith, other))
-code_checks _ bytes other = refl
-
--- no other value is read in a message of neighbor discovery
-not_ndisc : (t : ℕ) (bytes : List ℕ) → is_ndisc (message_of t) ≡ false → byte_of type_field bytes ≡ t
-    → is_ndisc (message_in bytes) ≡ true → ⊥
-not_ndisc t bytes other kind is =
-    let never : false ≡ true = sym other ∙ sym (ap (λ (n : ℕ). is_ndisc (message_of n)) kind) ∙ is in
-    cc
-
-pub neighbor_unread : (bytes : List ℕ) → is_ndisc (message_in bytes) ≡ true
-    → ((m : NdiscValue) → IsNeighborMessage bytes m → ⊥) → (v : MessageValue) → IsContent bytes v → ⊥
-neighbor_unread bytes is none (unreachable reason quoted d) c = not_ndisc 1 bytes refl c.0.kind is
-neighbor_unread bytes is none (too_big mtu quoted d) c = not_ndisc 2 bytes refl c.0.kind is
-neighbor_unread bytes is none (time_exceeded reason quoted d) c = not_ndisc 3 bytes refl c.0.kind is
-neighbor_unread bytes is none (param_problem reason pointer quoted d) c = not_ndisc 4 bytes refl c.0.kind is
-neighbor_unread bytes is none (echo_request ident seq_no d) c = not_ndisc 0x80 bytes refl c.kind is
-neighbor_unread bytes is none (echo_reply ident seq_no d) c = not_ndisc 0x81 bytes refl c.kind is
-neighbor_unread bytes is none (ndisc m) c = none m c
-neighbor_unread bytes is none (mld (query code group flag qrv qqic sources d)) c =
-    not_ndisc 0x82 bytes refl c.content.kind is
-neighbor_unread bytes is none (mld (report count d)) c = not_ndisc 0x8f bytes refl c.content.kind is
-neighbor_unread bytes is none (mld (records rs)) c = absurd c.content
+code_checks m bytes other = grind (arith, other)
 
 -- what is refused in a message of neighbor discovery whose checks hold is an option
 pub neighbor_refused : (capabilities : ChecksumCapabilities) (source destination : Ipv6Address) (bytes : List ℕ)

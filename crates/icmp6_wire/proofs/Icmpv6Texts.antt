@@ -130,6 +130,7 @@ param_problem_of-number _ p = refl
 -- what is read in the bytes of an error
 record ReadsError (bytes : List ℕ) (t code word : ℕ) (quoted : Ipv6Repr) (d : List ℕ) : Type 0 where
   pub error : IsError t bytes quoted d
+  pub room : 48 ≤ length bytes
   pub code_is : byte_of code_field bytes ≡ code
   pub word_is : word ≡ number_of word_field bytes
 
@@ -142,6 +143,7 @@ error_read bytes t code word quoted d c small b = rw b.whole (record {
     header = header-read quoted d c.3 c.0;
     data_is = sym (drop-header_text quoted d);
   };
+  room = omega (arith, length-append (header_text quoted) d, length-header_text quoted);
   code_is = refl;
   word_is = sym (big_number-reads_back 4 word [] (omega (arith, small)));
 })
@@ -159,12 +161,6 @@ code_begun {bytes = bytes} b other =
     subst (λ (l : List (Check Refusal)). Passes l)
     (sym (code_checks (message_in bytes) bytes (omega (arith, other, kind, kind_read bytes (message_in bytes) refl))))
     (ap (λ (l : List ℕ). byte_of code_field l) b.whole, tt)
-
-ndisc_large : (m : NdiscValue) → 128 ≤ ndisc_kind m
-ndisc_large m = grind arith
-
-mld_large : (m : MldValue) → 128 ≤ type_of m
-mld_large m = grind arith
 
 module _ (capabilities : ChecksumCapabilities) (source destination : Ipv6Address) where
   sealed_error : (t code word : ℕ) (quoted : Ipv6Repr) (d : List ℕ) → CanQuote quoted → word < 2 ^ 32
@@ -188,67 +184,48 @@ module _ (capabilities : ChecksumCapabilities) (source destination : Ipv6Address
       (body m)
   ndisc_begun m = sealed-begins capabilities.icmpv6 _ _ (ndisc_kind m) 0 (body m) (text_at m)
 
-  error_room : (v : MessageValue) → 48 ≤ text_len v → 48 ≤ length (packet_text capabilities source destination v)
-  error_room v room = omega (arith, room, length-packet_text capabilities source destination v)
-
   sealed_mld : (m : MldValue) → listeners.IsCanonical m
       → IsContent (seal capabilities source destination (listeners.text m)) (mld (listeners.norm m))
   sealed_mld m c =
-      let rest : List ℕ = drop 4 (listeners.text m) in
       let b = mld_begun m in
       let alone = subst (λ (bytes : List ℕ). listeners.IsMessage bytes (listeners.norm m)) (text-begins m)
       (message_read m c) in
-      rw b.whole (message-unsealed (type_of m) 0 0 0 b.first b.second rest (listeners.norm m) alone)
+      rw b.whole (message-unsealed (type_of m) 0 0 0 b.first b.second _ (listeners.norm m) alone)
 
-  sealed_ndisc : (m : NdiscValue) → neighbors.IsCanonical m
-      → IsContent (seal capabilities source destination (neighbors.text m)) (ndisc (neighbors.norm m))
-  sealed_ndisc m c = begun_read _ m c (ndisc_begun m)
+  -- the content, and the checks by the type
+  text_read : (v : MessageValue) → IsCanonical v
+      → IsContent (packet_text capabilities source destination v) (norm v)
+      × Passes (type_checks (message_in (packet_text capabilities source destination v))
+      (packet_text capabilities source destination v))
+  text_read (unreachable reason quoted d) c =
+      let read = sealed_error 1 (unreachable_number reason) 0 quoted d c.2 (omega arith) in
+      let is = unreachable_of-number reason c.0 ∙ ap unreachable_of (sym read.code_is) in
+      ((read.error, is), type_passes 1 _ read.error.kind (read.room, tt))
+  text_read (too_big mtu quoted d) c =
+      let read = sealed_error 2 0 mtu quoted d c.1 c.0 in
+      ((read.error, read.word_is), type_passes 2 _ read.error.kind (read.room, (read.code_is, tt)))
+  text_read (time_exceeded reason quoted d) c =
+      let read = sealed_error 3 (time_exceeded_number reason) 0 quoted d c.2 (omega arith) in
+      let is = time_exceeded_of-number reason c.0 ∙ ap time_exceeded_of (sym read.code_is) in
+      ((read.error, is), type_passes 3 _ read.error.kind (read.room, tt))
+  text_read (param_problem reason pointer quoted d) c =
+      let read = sealed_error 4 (param_problem_number reason) pointer quoted d c.3 c.2 in
+      let is = param_problem_of-number reason c.0 ∙ ap param_problem_of (sym read.code_is) in
+      ((read.error, is, read.word_is), type_passes 4 _ read.error.kind (read.room, tt))
+  text_read (echo_request ident seq_no d) c =
+      let bytes : List ℕ = packet_text capabilities source destination (echo_request ident seq_no d) in
+      let read = sealed_echo 0x80 ident seq_no d c.0 c.1 in
+      (read, type_passes 0x80 bytes read.kind (read.code, tt))
+  text_read (echo_reply ident seq_no d) c =
+      let bytes : List ℕ = packet_text capabilities source destination (echo_reply ident seq_no d) in
+      let read = sealed_echo 0x81 ident seq_no d c.0 c.1 in
+      (read, type_passes 0x81 bytes read.kind (read.code, tt))
+  text_read (ndisc m) c = (begun_read _ m c (ndisc_begun m), code_begun (ndisc_begun m) (grind arith))
+  text_read (mld m) c = (sealed_mld m c, code_begun (mld_begun m) (grind arith))
 
   pub content_read : (v : MessageValue) → IsCanonical v → IsContent (packet_text capabilities source destination v)
       (norm v)
-  content_read (unreachable reason quoted d) c =
-      let read = sealed_error 1 (unreachable_number reason) 0 quoted d c.2 (omega arith) in
-      (read.error, unreachable_of-number reason c.0 ∙ ap unreachable_of (sym read.code_is))
-  content_read (too_big mtu quoted d) c =
-      let read = sealed_error 2 0 mtu quoted d c.1 c.0 in
-      (read.error, read.word_is)
-  content_read (time_exceeded reason quoted d) c =
-      let read = sealed_error 3 (time_exceeded_number reason) 0 quoted d c.2 (omega arith) in
-      (read.error, time_exceeded_of-number reason c.0 ∙ ap time_exceeded_of (sym read.code_is))
-  content_read (param_problem reason pointer quoted d) c =
-      let read = sealed_error 4 (param_problem_number reason) pointer quoted d c.3 c.2 in
-      (read.error, param_problem_of-number reason c.0 ∙ ap param_problem_of (sym read.code_is), read.word_is)
-  content_read (echo_request ident seq_no d) c = sealed_echo 0x80 ident seq_no d c.0 c.1
-  content_read (echo_reply ident seq_no d) c = sealed_echo 0x81 ident seq_no d c.0 c.1
-  content_read (ndisc m) c = sealed_ndisc m c
-  content_read (mld m) c = sealed_mld m c
-
-  -- its checks by the type hold too
-  type_read : (v : MessageValue) → IsCanonical v
-      → Passes (type_checks (message_in (packet_text capabilities source destination v))
-      (packet_text capabilities source destination v))
-  type_read (unreachable reason quoted d) c =
-      let read = sealed_error 1 (unreachable_number reason) 0 quoted d c.2 (omega arith) in
-      type_passes 1 _ read.error.kind (error_room (unreachable reason quoted d) (omega arith), tt)
-  type_read (too_big mtu quoted d) c =
-      let read = sealed_error 2 0 mtu quoted d c.1 c.0 in
-      type_passes 2 _ read.error.kind (error_room (too_big mtu quoted d) (omega arith), (read.code_is, tt))
-  type_read (time_exceeded reason quoted d) c =
-      let read = sealed_error 3 (time_exceeded_number reason) 0 quoted d c.2 (omega arith) in
-      type_passes 3 _ read.error.kind (error_room (time_exceeded reason quoted d) (omega arith), tt)
-  type_read (param_problem reason pointer quoted d) c =
-      let read = sealed_error 4 (param_problem_number reason) pointer quoted d c.3 c.2 in
-      type_passes 4 _ read.error.kind (error_room (param_problem reason pointer quoted d) (omega arith), tt)
-  type_read (echo_request ident seq_no d) c =
-      let bytes : List ℕ = packet_text capabilities source destination (echo_request ident seq_no d) in
-      let read = sealed_echo 0x80 ident seq_no d c.0 c.1 in
-      type_passes 0x80 bytes read.kind (read.code, tt)
-  type_read (echo_reply ident seq_no d) c =
-      let bytes : List ℕ = packet_text capabilities source destination (echo_reply ident seq_no d) in
-      let read = sealed_echo 0x81 ident seq_no d c.0 c.1 in
-      type_passes 0x81 bytes read.kind (read.code, tt)
-  type_read (ndisc m) c = code_begun (ndisc_begun m) (ndisc_large m)
-  type_read (mld m) c = code_begun (mld_begun m) (mld_large m)
+  content_read v c = (text_read v c).0
 
 -- the packet of a canonical value is read as its normal form
 pub message_text : (capabilities : ChecksumCapabilities) (source destination : Ipv6Address) (v : MessageValue)
@@ -258,9 +235,9 @@ message_text capabilities source destination v fills c =
     let long : length (packet_text capabilities source destination v) ≡ length (text v) =
     length-packet_text capabilities source destination v ∙ sym (length-text v) in
     let some : 8 ≤ length (text v) = omega (arith, text_some v, length-text v) in
-    let content = content_read capabilities source destination v c in
+    let read = text_read capabilities source destination v c in
     let front =
-    whole-content (packet_text capabilities source destination v) (norm v) (omega (arith, some, long)) content in
+    whole-content (packet_text capabilities source destination v) (norm v) (omega (arith, some, long)) read.0 in
     let good : is_verified capabilities.icmpv6 ≡ true → IsGood (packet_text capabilities source destination v)
     (message_sum source destination (length (packet_text capabilities source destination v))) = λ verified. subst
     (λ (n : ℕ). IsGood (packet_text capabilities source destination v) (message_sum source destination n))
@@ -268,7 +245,6 @@ message_text capabilities source destination v fills c =
     (IsGood-sealed_where checksum_field (text v) (message_sum source destination (length (text v))) refl
     (omega (arith, some)) capabilities.icmpv6 refl fills verified) in
     record {
-      passes =
-          (front.0, (front.1.0, (front.1.1.0, (good, type_read capabilities source destination v c))));
-      content = content;
+      passes = (front.0, (front.1.0, (front.1.1.0, (good, read.1))));
+      content = read.0;
     }

@@ -16,7 +16,7 @@ use super::repr::Repr;
 use super::tables::Message;
 use wirebase::{Error, IPV6_HEADER_LEN, Result};
 
-// The error in octets of such a type. The result has no reason, since errors took 14 % more instructions with one.
+// The error in octets of such a type, where their checks by the type hold.
 #[inline(always)]
 pub(super) fn read_error<'a>(packet: &Packet<&'a [u8]>, kind: Message) -> Result<Repr<'a>>
     requires whole { BeginsWhole (view_octets packet.now) }

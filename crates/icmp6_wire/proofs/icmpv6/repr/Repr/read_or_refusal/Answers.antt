@@ -3,7 +3,7 @@ use Rattle.icmp6_wire.specs.Words.{Passes}
 use Rattle.icmp6_wire.specs.Icmpv6.{checks}
 use Rattle.icmp6_wire.specs.Icmpv6Packet.{view_octets, message_in}
 use Rattle.icmp6_wire.specs.Icmpv6Tables.{is_ndisc}
-use Rattle.icmp6_wire.proofs.Icmpv6Grammar.{neighbor_unread, neighbor_refused}
+use Rattle.icmp6_wire.proofs.Icmpv6Grammar.{neighbor_refused}
 use Rattle.icmp6_wire.proofs.icmpv6.repr.Repr.read_or_refusal.Goals as goal
 
 pub returns-in-Err-read : goal.returns-in-Err-read
@@ -16,8 +16,7 @@ returns-in-Err-read c =
     let passes : Passes (checks capabilities source destination bytes) = search rules in
     record {
       sound = tt;
-      reads = λ value read. absurd (neighbor_unread bytes is
-          (λ m r. let never = c.in-Err-read.ensures.reads m r in cc) value read.content);
+      reads = search rules;
       told = neighbor_refused capabilities source destination bytes c.in-Err-read.reason passes is
           c.in-Err-read.ensures.told;
     }
