@@ -137,8 +137,8 @@ type_checks Message.ParamProblem bytes = quote_check bytes ∷ []
 type_checks message bytes = code_check bytes ∷ []
 
 -- All checks, in their order: there are the 8 bytes of every header; the type is one that is read; there are the bytes
--- of the header of that type; the checksum is good where it is verified; and those by the type. In a message of neighbor
--- discovery the checks of its options follow.
+-- of the header of that type; the checksum is good where it is verified; and those by the type. The checks of options
+-- follow in a message of neighbor discovery.
 abbrev pub checks : ChecksumCapabilities → Ipv6Address → Ipv6Address → List ℕ → List (Check Refusal)
 checks capabilities source destination bytes =
     front_checks bytes

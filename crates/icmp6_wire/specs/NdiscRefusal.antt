@@ -24,8 +24,8 @@ pub record AreWholeUpTo (bytes : List ℕ) (place : ℕ) (rest : List ℕ) : Typ
   pub payload : payload_in bytes ≡ options ++ rest
   pub place_is : place ≡ header_len_in bytes + length options
 
--- The checks of the option at the front of some bytes, which stand at this place, in their order: the bytes hold 8 of
--- it, and the units of 8 bytes that it counts; it counts some; and a prefix counts 4 of them or more, a redirected packet 6.
+-- The checks of the option at the front of some bytes, which stand at this place, in their order: there are 8 bytes;
+-- there are the units of 8 bytes that it counts; it counts some; and a prefix counts 4 or more, a redirected packet 6.
 abbrev pub option_checks : ℕ → List ℕ → List (Check Refusal)
 option_checks place rest =
     let kind : ℕ = byte_of option.type_field rest in
