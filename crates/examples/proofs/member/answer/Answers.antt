@@ -3,5 +3,6 @@ use Rattle.examples.proofs.member.answer.Goals as goal
 
 pub returns-in-Err-clause-answers : goal.returns-in-Err-clause-answers
 returns-in-Err-clause-answers c = λ time version asks.
-    let read = c.in-Err.ensures.complete (MembershipQuery time asks.0 version)
-    (rw c.new_unchecked-packet.ensures asks.1.1) in cc
+    let (asked, said, good, for, is) = asks in
+    let read = c.in-Err.ensures.complete (MembershipQuery said asked version)
+    (rw c.new_unchecked-packet.ensures good.1) in cc
