@@ -270,12 +270,8 @@ flag-back false = refl
 
 header-back : (v : Value) (more : List ℕ) → HasHeader (header_text v ++ more)
 unfolding header_text fields be8 be16 be32 part
-header-back v more = record {
-  whole = omega (arith, length-append (header_text v) more, header_len-240 v);
-  hardware = refl;
-  hardware_len = refl;
-  cookie = refl;
-}
+header-back v more =
+    (omega (arith, length-append (header_text v) more, header_len-240 v), (refl, (refl, (refl, tt))))
 
 operation-back : (v : Value) (more : List ℕ)
     → byte_of op_field (header_text v ++ more) ≡ opcode_number (operation_of v.message_type)

@@ -5,6 +5,7 @@ use Rattle.std.specs.Option.{option_map, option_or}
 use Rattle.std.specs.Int.RustNames.{bit_and}
 use Rattle.byteorder.specs.Endian.{big_number}
 use Rattle.dhcp_wire.specs.Words.{Ipv4Address, MessageType, Reaches, byte_of, bytes_of, last_of, number_of, octets_of}
+use Rattle.wirebase.specs.Checks.{Check, check, Passes}
 use Rattle.wirebase.specs.ByteWriter.{be8, be16, be32, fields}
 use Rattle.wirebase.specs.Ethernet.{Ethernet, octets_of as ethernet_octets}
 use Rattle.wirebase.specs.HardwareAddress.{ethernet_of}
@@ -14,6 +15,7 @@ use Rattle.dhcp_wire.specs.declared.dhcpv4.option_kinds.TheConstants.{OPT_MAX_DH
 use Rattle.dhcp_wire.specs.declared.dhcpv4.option_kinds.TheConstants.{OPT_PARAMETER_REQUEST_LIST, OPT_ROUTER}
 use Rattle.dhcp_wire.specs.declared.dhcpv4.option_kinds.TheConstants.{OPT_REBINDING_TIME_VALUE, OPT_SUBNET_MASK}
 use Rattle.dhcp_wire.specs.declared.dhcpv4.option_kinds.TheConstants.{OPT_RENEWAL_TIME_VALUE, OPT_SERVER_IDENTIFIER}
+use Rattle.dhcp_wire.specs.declared.dhcpv4.refusal.Refusal.{Refusal}
 use Rattle.dhcp_wire.specs.declared.dhcpv4.repr.Repr.{Repr}
 use Rattle.dhcp_wire.specs.Dhcpv4Options.{OptionValue, option, option_text, value_of_option, Options}
 use Rattle.dhcp_wire.specs.Dhcpv4OptionValue.{addresses_in, first_address}
@@ -243,12 +245,17 @@ abbrev pub AreOfEthernet : List OptionValue → Type 0
 AreOfEthernet [] = Unit {0}
 AreOfEthernet (o ∷ os) = IsOfEthernet o × AreOfEthernet os
 
--- whole, of Ethernet, and with the cookie of DHCP (RFC 2131 section 3)
-pub record HasHeader (bytes : List ℕ) : Type 0 where
-  pub whole : Reaches magic_field bytes
-  pub hardware : byte_of htype_field bytes ≡ ethernet_type
-  pub hardware_len : byte_of hlen_field bytes ≡ ethernet_len
-  pub cookie : number_of magic_field bytes ≡ magic_cookie
+-- The checks of the header, in their order: whole, of Ethernet, and with the cookie of DHCP (RFC 2131 section 3).
+abbrev pub header_checks : List ℕ → List (Check Refusal)
+header_checks bytes =
+    check (Reaches magic_field bytes) Refusal.Short
+    ∷ check (byte_of htype_field bytes ≡ ethernet_type) (Refusal.HardwareType (byte_of htype_field bytes))
+    ∷ check (byte_of hlen_field bytes ≡ ethernet_len) (Refusal.HardwareLen (byte_of hlen_field bytes))
+    ∷ check (number_of magic_field bytes ≡ magic_cookie) Refusal.MagicCookie
+    ∷ []
+
+abbrev pub HasHeader : List ℕ → Type 0
+HasHeader bytes = Passes (header_checks bytes)
 
 -- The bytes are a packet of this value: of Ethernet, with the cookie of DHCP, and with a type of message that has the
 -- operation of the packet.

@@ -2,14 +2,15 @@
 use Rattle.std.specs.Prelude.{◌≡◌, ◌≢◌, ℕ, ◌<◌, ◌⊎◌, List, [], ◌∷◌, ◌++◌, length, slice_index, Option, None, Some}
 use Rattle.std.specs.Prelude.{codes, decimal}
 use Rattle.std.specs.Option.{option_map}
-use Rattle.dhcp_wire.specs.Words.{Reaches, byte_of, last_of, number_of, pieces}
+use Rattle.dhcp_wire.specs.Words.{byte_of, last_of, pieces}
+use Rattle.wirebase.specs.Checks.{Fails}
 use Rattle.dhcp_wire.specs.declared.dhcpv4.option_kinds.TheConstants.{OPT_CLIENT_ID, OPT_DHCP_MESSAGE_TYPE}
 use Rattle.dhcp_wire.specs.declared.dhcpv4.refusal.Refusal.{Refusal}
 use Rattle.dhcp_wire.specs.Dhcpv4.{Value, said, type_among, IsOfEthernet, AreOfEthernet, HasHeader, IsPacket}
+use Rattle.dhcp_wire.specs.Dhcpv4.{header_checks}
 use Rattle.dhcp_wire.specs.Dhcpv4Display.{message_display, opcode_display}
 use Rattle.dhcp_wire.specs.Dhcpv4Options.{OptionValue, option_text, IsKind, Options}
-use Rattle.dhcp_wire.specs.Dhcpv4Packet.{op_field, htype_field, hlen_field, magic_field, options_in, ethernet_type}
-use Rattle.dhcp_wire.specs.Dhcpv4Packet.{ethernet_len, magic_cookie}
+use Rattle.dhcp_wire.specs.Dhcpv4Packet.{op_field, options_in, ethernet_type}
 use Rattle.dhcp_wire.specs.Dhcpv4Tables.{message_of, opcode_of}
 
 -- the octets are a packet
@@ -52,15 +53,10 @@ last_type options = last_of (said OPT_DHCP_MESSAGE_TYPE Some) options
 
 -- the octets are refused, and by this check first
 abbrev pub Refuses : List ℕ → Refusal → Type 0
-Refuses bytes Refusal.Short = length bytes < 240
-Refuses bytes (Refusal.HardwareType n) =
-    Reaches magic_field bytes × (byte_of htype_field bytes ≡ n) × (n ≢ ethernet_type)
-Refuses bytes (Refusal.HardwareLen n) =
-    Reaches magic_field bytes × (byte_of htype_field bytes ≡ ethernet_type) × (byte_of hlen_field bytes ≡ n)
-    × (n ≢ ethernet_len)
-Refuses bytes Refusal.MagicCookie =
-    Reaches magic_field bytes × (byte_of htype_field bytes ≡ ethernet_type) × (byte_of hlen_field bytes ≡ ethernet_len)
-    × (number_of magic_field bytes ≢ magic_cookie)
+Refuses bytes Refusal.Short = Fails (header_checks bytes) Refusal.Short
+Refuses bytes (Refusal.HardwareType n) = Fails (header_checks bytes) (Refusal.HardwareType n)
+Refuses bytes (Refusal.HardwareLen n) = Fails (header_checks bytes) (Refusal.HardwareLen n)
+Refuses bytes Refusal.MagicCookie = Fails (header_checks bytes) Refusal.MagicCookie
 Refuses bytes (Refusal.ClientIdentifier hardware) =
     (options : List OptionValue) × HasHeader bytes × Options (options_in bytes) options
     × IsFirstOther hardware options
