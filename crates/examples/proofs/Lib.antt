@@ -3,6 +3,5 @@ pub mod Leases
 pub mod Listeners
 pub mod NameCases
 pub mod Neighbors
-pub mod Pings
 pub mod ResolverSearch
 pub mod Routers
