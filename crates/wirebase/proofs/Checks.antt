@@ -7,19 +7,6 @@ passes_fails [] passes why fails = fails
 passes_fails (c ∷ more) passes why (inl (differs, is)) = differs passes.0
 passes_fails (c ∷ more) passes why (inr (holds, fails)) = passes_fails more passes.1 why fails
 
--- more checks after them change neither which fails first
-pub fails_more : {Why : Type 0} → (checks more : List (Check Why)) → (why : Why) → Fails checks why
-    → Fails (checks ++ more) why
-fails_more [] more why fails = absurd fails
-fails_more (c ∷ checks) more why (inl fails) = inl fails
-fails_more (c ∷ checks) more why (inr (holds, fails)) = inr (holds, fails_more checks more why fails)
-
--- nor what fails behind those that hold
-pub fails_behind : {Why : Type 0} → (checks more : List (Check Why)) → Passes checks → (why : Why) → Fails more why
-    → Fails (checks ++ more) why
-fails_behind [] more passes why fails = fails
-fails_behind (c ∷ checks) more passes why fails = inr (passes.0, fails_behind checks more passes.1 why fails)
-
 pub passes_both : {Why : Type 0} → (checks more : List (Check Why)) → Passes checks → Passes more
     → Passes (checks ++ more)
 passes_both [] more passes holds = holds

@@ -14,9 +14,6 @@ use Rattle.wirebase.proofs.Chains.{over-blank, put-fields, whole-sheet}
 
 -- ---- addresses
 
-pub length-octets : (address : Ipv6Address) → length (octets_of address) ≡ 16
-length-octets address = address.whole
-
 address_of : (octets : List ℕ) → length octets ≡ 16 → Ipv6Address
 address_of octets whole = record { octets = octets; whole = whole }
 

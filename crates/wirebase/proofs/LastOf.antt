@@ -11,15 +11,6 @@ pub or-none : {A : Type 0} (a : Option A) → option_or a None ≡ a
 or-none None = refl
 or-none (Some x) = refl
 
-pub keep_all-none : {O K : Type 0} (keep : K → O → K) (k : K) → keep_all keep k [] ≡ k
-unfolding keep_all
-keep_all-none keep k = refl
-
-pub keep_all-more : {O K : Type 0} (keep : K → O → K) (k : K) (o : O) (os : List O)
-    → keep_all keep k (o ∷ os) ≡ keep_all keep (keep k o) os
-unfolding keep_all
-keep_all-more keep k o os = refl
-
 kept_from : {O K A : Type 0} (keep : K → O → K) (field : K → Option A) (says : O → Option A)
     → ((k : K) (o : O) → field (keep k o) ≡ option_or (says o) (field k))
     → (os : List O) (k : K) → field (keep_all keep k os) ≡ option_or (last_of says os) (field k)

@@ -1,10 +1,10 @@
 -- Texts that are put together piece by piece.
 use Rattle.wirebase.proofs.Words.{◌≡◌, ◌+◌, ◌-◌, ◌*◌, ◌/◌, ◌%◌, ◌<◌, ◌≤◌, [], ◌∷◌, ◌++◌, ◌∙◌, ◌==◌, List, ℕ, ⊎_elim}
-use Rattle.wirebase.proofs.Words.{add-one, agree_below_at, ap, append_assoc, arith, cases_lt, digit_char, drop}
-use Rattle.wirebase.proofs.Words.{drop-cons, drop_all, eqb-true, false, get_or, groups_text, hex, hex_groups_text}
+use Rattle.wirebase.proofs.Words.{add-one, ap, append_assoc, arith, cases_lt, digit_char, drop}
+use Rattle.wirebase.proofs.Words.{drop-cons, drop_all, false, get_or, groups_text, hex, hex_groups_text}
 use Rattle.wirebase.proofs.Words.{le-leb, length, length-append, length-drop, longest_zero_run, lt-leb, lt-ltb, put_mid}
 use Rattle.wirebase.proofs.Words.{refl, segments_of, set, suc, sym, take, take-append-add, take-put_mid, take-set_at}
-use Rattle.wirebase.proofs.Words.{take-take, take_all, take_more_set, true}
+use Rattle.wirebase.proofs.Words.{take-take, take_all, take_more_set}
 use Rattle.std.proofs.Common.{length-take-le}
 use Rattle.std.proofs.lemmas.Bool.{le-ltb}
 use Rattle.std.proofs.lemmas.List.{length-set}
@@ -66,12 +66,6 @@ pub three_parts : (kept x y z whole first second third : List ℕ) → first ≡
 three_parts kept x y z whole first second third a b c is = rw (c, b, a, ← is) (simp append_assoc)
 
 -- ---- groups
-
--- a digit by its place in the table
-pub table_digit : (n : ℕ) → n < 16 → get_or (codes "0123456789abcdef") n 0 ≡ digit_char n
-table_digit n small =
-    eqb-true _ _
-    (agree_below_at (λ n. get_or (codes "0123456789abcdef") n 0 == digit_char n) (λ n. true) 16 n refl small)
 
 -- a group and a colon
 abbrev pub colon_text : ℕ → List ℕ

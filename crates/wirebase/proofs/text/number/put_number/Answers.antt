@@ -1,5 +1,5 @@
 -- Decimal digits are ASCII.
-use Rattle.wirebase.proofs.Words.{◌≡◌, ◌∙◌, ◌-◌, IsAscii, IsAscii-decimal, arith, drop, length, length-drop, subst, sym}
+use Rattle.wirebase.proofs.Words.{◌≡◌, ◌∙◌, ◌-◌, IsAscii, IsAscii-decimal, arith, drop, length-drop, subst, sym}
 use Rattle.wirebase.proofs.Words.{take, take_all}
 use Rattle.wirebase.proofs.text.number.put_number.Goals as goal
 

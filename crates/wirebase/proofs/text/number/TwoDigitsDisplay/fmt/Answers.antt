@@ -1,5 +1,5 @@
 -- Digits are ASCII, and what was put was written.
-use Rattle.wirebase.proofs.Words.{HasWritten, IsAscii, WritesInCalls, subst, sym}
+use Rattle.wirebase.proofs.Words.{HasWritten, IsAscii, subst, sym}
 use Rattle.wirebase.proofs.Sinks.{displayed}
 use Rattle.wirebase.proofs.TextAscii.{last_digits-ascii}
 use Rattle.wirebase.proofs.text.number.TwoDigitsDisplay.fmt.Goals as goal
