@@ -8,7 +8,7 @@ use super::repr::Repr;
 use super::tables::Message;
 use crate::wirebase::{Error, IPV6_HEADER_LEN, Result};
 
-// The error in octets of such a type. The result has no reason, since errors took 14 % more instructions with one.
+// The error in octets of such a type, where their checks by the type hold.
 #[inline(always)]
 pub(super) fn read_error<'a, B: AsRef<[u8]> + ?Sized>(
     packet: &Packet<&'a B>,

@@ -87,7 +87,8 @@ impl<'a> Repr<'a> {
         }
     }
 
-    // The message in the octets, or the first check that fails.
+    // The message in the octets, or the first check that fails. Apart from the reader of `parse`, which took 293
+    // instructions in place of 257 for an error where its result had room for a reason.
     #[inline(always)]
     fn read_or_refusal<B: AsRef<[u8]> + ?Sized>(
         src_addr: &Ipv6Address,
