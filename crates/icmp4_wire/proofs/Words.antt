@@ -9,7 +9,7 @@ pub use Rattle.wirebase.proofs.IpProtocols.{protocol-read, protocol_of-number}
 pub use Rattle.wirebase.proofs.Numbered.{case-read, case_in-unnamed, number-case_in}
 pub use Rattle.wirebase.proofs.Pieces.{length-over, over-exact, over-fits}
 unfoldable pub use Rattle.wirebase.specs.ByteWriter.{be16, be32, be8, fields}
-pub use Rattle.wirebase.specs.Bytes.{IsBytes, Reaches, byte_of, bytes_of, number_of}
+pub use Rattle.wirebase.specs.Bytes.{IsBytes, Reaches, byte_of, bytes_of}
 unfoldable pub use Rattle.wirebase.specs.Bytes.{over, part, splice}
 pub use Rattle.wirebase.specs.Checks.{Fails, Passes}
 pub use Rattle.wirebase.specs.Duration.{micros_of, of_micros}

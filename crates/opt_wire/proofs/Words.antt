@@ -3,7 +3,7 @@ pub use Rattle.std.proofs.Common.{[], ◌%◌, ◌*◌, ◌++◌, ◌+◌, ◌-�
 pub use Rattle.std.proofs.Common.{List, None, Ok, Option, Some, ℕ, add-one, ap, arith, cond, drop, eqb, false, get_or}
 pub use Rattle.std.proofs.Common.{inl, inr, length, length-append, ltb, map, min, refl, replicate, slice_index, subst}
 pub use Rattle.std.proofs.Common.{suc, sum_by, sym, take, true, zero}
-pub use Rattle.std.proofs.lemmas.Bool.{cases_lt, eqb-false, eqb-true, le-leb, le-ltb, leb-false, leb-true, lt-leb}
+pub use Rattle.std.proofs.lemmas.Bool.{cases_lt, eqb-false, eqb-true, le-leb, le-ltb, leb-false, leb-true}
 pub use Rattle.std.proofs.lemmas.Bool.{ltb-false, ne_eqb}
 pub use Rattle.std.proofs.lemmas.Bool.Decides.{nat_tests}
 pub use Rattle.std.proofs.lemmas.List.{append-nil, append_assoc, drop_all, drop_at, drop_more, get_or-take, get_or_past}

@@ -2,7 +2,7 @@
 unfoldable pub use Rattle.wirebase.specs.ByteWriter.{be16, be32, be8, fields}
 pub use Rattle.wirebase.specs.Bytes.{Field, Reaches, byte_of, bytes_of, field, number_of}
 unfoldable pub use Rattle.wirebase.specs.Bytes.{over}
-pub use Rattle.wirebase.specs.Checks.{Check, Fails, Passes, check}
+pub use Rattle.wirebase.specs.Checks.{Check, Fails, check}
 pub use Rattle.wirebase.specs.Display.{pieces}
 pub use Rattle.wirebase.specs.Format.{Format, RoundTrips}
 pub use Rattle.wirebase.specs.Ip.{protocol_number, protocol_of, protocol_rows}
