@@ -22,7 +22,7 @@ use super::refusal::Refusal;
 use crate::icmpv6;
 use crate::icmpv6::{Message, Packet};
 use crate::writing::put_address;
-use wirebase::{ByteWriter, Error, Ipv6Address, OctetsMut, are_bytes, icmp};
+use wirebase::{ByteWriter, Error, Ipv6Address, OctetsMut, Result, are_bytes, icmp};
 
 /// A message (RFC 3810 section 5).
 ///
@@ -83,7 +83,7 @@ pub enum Repr<'a> {
 impl<'a> Repr<'a> {
     /// The message in the octets. Refused where they don't begin with the header of their type, and where that is
     /// neither a query nor a report. The counts are not compared with the data.
-    pub fn parse(packet: &Packet<&'a [u8]>) -> wirebase::Result<Repr<'a>>
+    pub fn parse(packet: &Packet<&'a [u8]>) -> Result<Repr<'a>>
         ensures sound { IfOk result (λ repr. IsMessage (view_octets packet.now) (value_of repr)) }
         ensures complete { (value : MldValue) → IsMessage (view_octets packet.now) value
             → IsOkAnd result (λ repr. value_of repr ≡ value) }
@@ -99,7 +99,7 @@ impl<'a> Repr<'a> {
 
     // The message in the octets, or the first check that fails.
     #[inline(always)]
-    pub(super) fn read(packet: &Packet<&'a [u8]>) -> Result<Repr<'a>, Refusal>
+    pub(super) fn read(packet: &Packet<&'a [u8]>) -> std::result::Result<Repr<'a>, Refusal>
         ensures sound { IfOk result (λ repr. IsMessage (view_octets packet.now) (value_of repr)) }
         ensures told { IfErr result (Refuses (view_octets packet.now)) }
     {

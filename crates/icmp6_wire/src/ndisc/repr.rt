@@ -32,7 +32,8 @@ use crate::writing::put_address;
 use bitflags::Flags as _;
 use opt_wire::ndiscoption::{PrefixInformation, RedirectedHeader};
 use wirebase::{
-    ByteWriter, Duration, Error, Ipv6Address, OctetsMut, RawHardwareAddress, are_bytes, icmp,
+    ByteWriter, Duration, Error, Ipv6Address, OctetsMut, RawHardwareAddress, Result, are_bytes,
+    icmp,
 };
 
 /// A message (RFC 4861 section 4). Each option may be absent; of several of one kind the last is read.
@@ -113,7 +114,7 @@ impl<'a> Repr<'a> {
     /// The message in the octets. Refused where they don't begin with the header of their type, where that type is none
     /// of neighbor discovery, and where what follows isn't whole options one after another. An option that can't be
     /// read is dropped, and so are flags without a name; code and checksum are not checked.
-    pub fn parse(packet: &Packet<&'a [u8]>) -> wirebase::Result<Repr<'a>>
+    pub fn parse(packet: &Packet<&'a [u8]>) -> Result<Repr<'a>>
         ensures sound { IfOk result (λ repr. IsMessage (view_octets packet.now) (value_of repr)) }
         ensures complete { (value : NdiscValue) → IsMessage (view_octets packet.now) value
             → IsOkAnd result (λ repr. value_of repr ≡ value) }
@@ -128,7 +129,7 @@ impl<'a> Repr<'a> {
     }
 
     // The message in the octets, or the first check that fails.
-    pub(crate) fn read(packet: &Packet<&'a [u8]>) -> Result<Repr<'a>, Refusal>
+    pub(crate) fn read(packet: &Packet<&'a [u8]>) -> std::result::Result<Repr<'a>, Refusal>
         ensures sound { IfOk result (λ repr. IsMessage (view_octets packet.now) (value_of repr)) }
         ensures reads { (value : NdiscValue) → IsMessage (view_octets packet.now) value
             → IsOk result }
