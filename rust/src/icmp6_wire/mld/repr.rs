@@ -7,7 +7,7 @@ use super::refusal::Refusal;
 use crate::icmp6_wire::icmpv6;
 use crate::icmp6_wire::icmpv6::{Message, Packet};
 use crate::icmp6_wire::writing::put_address;
-use crate::wirebase::{ByteWriter, Error, Ipv6Address, OctetsMut, icmp};
+use crate::wirebase::{ByteWriter, Error, Ipv6Address, OctetsMut, Result, icmp};
 
 /// A message (RFC 3810 section 5).
 ///
@@ -68,9 +68,7 @@ pub enum Repr<'a> {
 impl<'a> Repr<'a> {
     /// The message in the octets. Refused where they don't begin with the header of their type, and where that is
     /// neither a query nor a report. The counts are not compared with the data.
-    pub fn parse<B: AsRef<[u8]> + ?Sized>(
-        packet: &Packet<&'a B>,
-    ) -> crate::wirebase::Result<Repr<'a>> {
+    pub fn parse<B: AsRef<[u8]> + ?Sized>(packet: &Packet<&'a B>) -> Result<Repr<'a>> {
         match Repr::read(packet) {
             Ok(repr) => Ok(repr),
             Err(_) => Err(Error),
@@ -81,7 +79,7 @@ impl<'a> Repr<'a> {
     #[inline(always)]
     pub(super) fn read<B: AsRef<[u8]> + ?Sized>(
         packet: &Packet<&'a B>,
-    ) -> Result<Repr<'a>, Refusal> {
+    ) -> core::result::Result<Repr<'a>, Refusal> {
         let octets = packet.buffer.as_ref();
         if octets.len() < icmpv6::field::HEADER_END {
             return Err(Refusal::Short);

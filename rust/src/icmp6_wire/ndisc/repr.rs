@@ -15,7 +15,7 @@ use crate::icmp6_wire::icmpv6::{Message, Packet};
 use crate::icmp6_wire::writing::put_address;
 use crate::opt_wire::ndiscoption::{PrefixInformation, RedirectedHeader};
 use crate::wirebase::{
-    ByteWriter, Duration, Error, Ipv6Address, OctetsMut, RawHardwareAddress, icmp,
+    ByteWriter, Duration, Error, Ipv6Address, OctetsMut, RawHardwareAddress, Result, icmp,
 };
 
 /// A message (RFC 4861 section 4). Each option may be absent; of several of one kind the last is read.
@@ -96,9 +96,7 @@ impl<'a> Repr<'a> {
     /// The message in the octets. Refused where they don't begin with the header of their type, where that type is none
     /// of neighbor discovery, and where what follows isn't whole options one after another. An option that can't be
     /// read is dropped, and so are flags without a name; code and checksum are not checked.
-    pub fn parse<B: AsRef<[u8]> + ?Sized>(
-        packet: &Packet<&'a B>,
-    ) -> crate::wirebase::Result<Repr<'a>> {
+    pub fn parse<B: AsRef<[u8]> + ?Sized>(packet: &Packet<&'a B>) -> Result<Repr<'a>> {
         match Repr::read(packet) {
             Ok(repr) => Ok(repr),
             Err(_) => Err(Error),
@@ -108,7 +106,7 @@ impl<'a> Repr<'a> {
     // The message in the octets, or the first check that fails.
     pub(crate) fn read<B: AsRef<[u8]> + ?Sized>(
         packet: &Packet<&'a B>,
-    ) -> Result<Repr<'a>, Refusal> {
+    ) -> core::result::Result<Repr<'a>, Refusal> {
         let octets = packet.buffer.as_ref();
         if octets.len() < icmpv6::field::HEADER_END {
             return Err(Refusal::Short);
