@@ -17,9 +17,12 @@ pub fn join(group_addr: Ipv4Address, out: &mut [u8]) {
     message.emit_into(out);
 }
 
+// The time within which a query of version 1 is answered, in seconds (RFC 2236 section 4).
+const VERSION_1_SECS: u64 = 10;
+
 /// Writes the report that answers a query for a group that the host is in, in the query's version, and says within
-/// which time it is to be sent. None exactly where the octets are no good query for this group; then the report is as
-/// it was. Requires 8 bytes.
+/// which time it is to be sent: of a query of version 1 within 10 s (RFC 2236 section 4). None exactly where the octets
+/// are no good query for this group; then the report is as it was. Requires 8 bytes.
 pub fn answer(query: &[u8], group_addr: Ipv4Address, report: &mut [u8]) -> Option<Duration> {
     let packet = Packet::new_unchecked(query);
     if !packet.verify_checksum() {
@@ -45,7 +48,10 @@ pub fn answer(query: &[u8], group_addr: Ipv4Address, report: &mut [u8]) -> Optio
         version,
     };
     answer.emit_into(report);
-    Some(max_resp_time)
+    Some(match version {
+        IgmpVersion::Version1 => Duration::from_secs(VERSION_1_SECS),
+        IgmpVersion::Version2 => max_resp_time,
+    })
 }
 
 /// Writes the message by which a host leaves a group, to be sent to all routers, 224.0.0.2 (RFC 2236 section 3).

@@ -37,6 +37,21 @@ fn query_for_all_groups_is_answered_within_its_time() {
     same(out.as_slice(), REPORT.as_slice());
 }
 
+// A query of version 1 for all groups, which says no time, and the report of version 1 that answers it.
+const QUERY_1: [u8; MESSAGE_LEN] = [0x11, 0x00, 0xee, 0xff, 0x00, 0x00, 0x00, 0x00];
+
+const REPORT_1: [u8; MESSAGE_LEN] = [0x12, 0x00, 0x07, 0x69, 0xe0, 0x00, 0x06, 0x96];
+
+#[test]
+fn query_of_version_1_is_answered_within_ten_seconds() {
+    let mut out = [0x2a; MESSAGE_LEN];
+    same(
+        answer(&QUERY_1, group(), &mut out),
+        Some(Duration::from_secs(10)),
+    );
+    same(out.as_slice(), REPORT_1.as_slice());
+}
+
 #[test]
 fn what_is_no_good_query_is_not_answered() {
     let mut out = [0x2a; MESSAGE_LEN];
