@@ -8,6 +8,8 @@ use Rattle.std.proofs.KnownBytes.{Appends-nil, Appends-trans}
 use Rattle.std.specs.Io.KnownBytes.{Appends}
 use Rattle.std.specs.Fmt.{WritesInCalls}
 use Rattle.std.specs.List.{FoldsTo, concat}
+use Rattle.wirebase.specs.Sink.{PutsText}
+use Rattle.listing.specs.Output.{Appending}
 use Rattle.wirebase.proofs.Sinks.{put_one}
 
 -- what was appended was gained
@@ -16,30 +18,32 @@ gained a b text appends = record { appends = appends }
 
 -- texts that were put into a writer, and one of one call
 calls_append : {W : Type 0} (contents : W → Option (List ℕ)) (a b : W) (parts : List (List ℕ))
-    → FoldsTo (λ a text b. Appends (contents a) (contents b) text) a parts b
-    → Appends (contents a) (contents b) (concat parts)
+    → FoldsTo (Appending contents) a parts b → Appends (contents a) (contents b) (concat parts)
+unfolding Appending
 calls_append contents a b [] calls = subst (λ w. Appends (contents a) (contents w) []) calls (Appends-nil (contents a))
 calls_append contents a b (part ∷ parts) (next, first, more) =
     Appends-trans (contents a) (contents next) (contents b) part (concat parts) first
     (calls_append contents next b parts more)
 
-pub put : {W : Type 0} (contents : W → Option (List ℕ)) (a b : W) (text : List ℕ)
-    → WritesInCalls (λ a text b. Appends (contents a) (contents b) text) a text b
-    → Gains (contents a) (contents b) text
-put contents a b text calls =
+pub calls_gain : {W : Type 0} (contents : W → Option (List ℕ)) (a b : W) (text : List ℕ)
+    → WritesInCalls (Appending contents) a text b → Gains (contents a) (contents b) text
+calls_gain contents a b text calls =
     record { appends = subst (Appends (contents a) (contents b)) calls.whole (calls_append contents a b calls.parts calls.calls) }
 
+pub put : {W E : Type 0} (contents : W → Option (List ℕ)) (a b : W) (text : List ℕ)
+    → PutsText {E = E} (Appending contents) a text (Ok tt) b → Gains (contents a) (contents b) text
+put contents a b text puts = calls_gain contents a b text puts.calls
+
 pub put_on_ok : {W E : Type 0} (contents : W → Option (List ℕ)) (a b : W) (text : List ℕ) (r : Result (Unit {0}) E)
-    → OnOk r (WritesInCalls (λ a text b. Appends (contents a) (contents b) text) a text b)
-    → OnOk r (Gains (contents a) (contents b) text)
-put_on_ok contents a b text (Ok x) calls = put contents a b text calls
-put_on_ok contents a b text (Err e) calls = tt
+    → PutsText (Appending contents) a text r b → OnOk r (Gains (contents a) (contents b) text)
+put_on_ok contents a b text (Ok x) puts = put contents a b text puts
+put_on_ok contents a b text (Err e) puts = tt
 
 pub put_once : {W E : Type 0} (contents : W → Option (List ℕ)) (a b : W) (text : List ℕ) (r : Result (Unit {0}) E)
-    → OnOk r (Appends (contents a) (contents b) text)
-    → OnOk r (WritesInCalls (λ a text b. Appends (contents a) (contents b) text) a text b)
-put_once contents a b text (Ok x) appends = put_one (λ a text b. Appends (contents a) (contents b) text) a b text appends
-put_once contents a b text (Err e) appends = tt
+    → OnOk r (Appends (contents a) (contents b) text) → PutsText (Appending contents) a text r b
+unfolding Appending
+put_once contents a b text (Ok x) appends = record { calls = put_one (Appending contents) a b text appends }
+put_once contents a b text (Err e) appends = record { calls = tt }
 
 -- nothing is gained where nothing is written
 pub gains_none : (a : Option (List ℕ)) → Gains a a []

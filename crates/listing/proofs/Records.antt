@@ -1,7 +1,6 @@
 -- The lines of questions and records.
 use Rattle.listing.proofs.Words.{◌≡◌, ◌&&◌, [], ◌++◌, ◌∙◌, Bool, Gains, GainsSome, List, None, Option, RecordValue}
 use Rattle.listing.proofs.Words.{Section, Some, Unread, ℕ, ap, codes, subst, sym}
-use Rattle.std.specs.Io.KnownBytes.{Appends}
 use Rattle.record_wire.specs.Lines.{PutsSome}
 use Rattle.record_wire.specs.Multicast.{flushes, has_top_bit, question_class, record_class}
 use Rattle.record_wire.specs.Record.{QuestionValue}
@@ -11,15 +10,15 @@ use Rattle.record_wire.specs.NameRefusal.{RefusesName}
 use Rattle.record_wire.specs.Names.{Names}
 use Rattle.record_wire.specs.declared.name.refusal.NameRefusal.{NameRefusal}
 use Rattle.record_wire.specs.declared.text.refusal.TextRefusal.{TextRefusal}
+use Rattle.listing.specs.Output.{Appending}
 use Rattle.listing.specs.ListingRecord.{QuestionPrints, RecordPrints, asks, asks_of_no_name, entry_line, has, has_no_text}
 use Rattle.listing.specs.ListingRecord.{line_end, question_line, record_line}
-use Rattle.listing.proofs.Printing.{gains_both, put}
+use Rattle.listing.proofs.Printing.{calls_gain, gains_both}
 
 -- what was put was gained
 pub puts_gain : {W : Type 0} (contents : W → Option (List ℕ)) (a b : W) (Kind : List ℕ → Type 0)
-    → PutsSome (λ a text b. Appends (contents a) (contents b) text) a b Kind
-    → GainsSome (contents a) (contents b) Kind
-puts_gain contents a b Kind (text, is, calls) = (text, is, put contents a b text calls)
+    → PutsSome (Appending contents) a b Kind → GainsSome (contents a) (contents b) Kind
+puts_gain contents a b Kind (text, is, calls) = (text, is, calls_gain contents a b text calls)
 
 module _ (margin label : List ℕ) (is_multicast : Bool) (message : List ℕ) (class : ℕ) where
   module _ (q : QuestionValue) (class_is : class ≡ question_class is_multicast q.class)

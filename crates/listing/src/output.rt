@@ -1,6 +1,8 @@
 //! Where listings go.
 
-ghost use Rattle.std.specs.Io.KnownBytes.{Appends};
+#![tactic(auto, using(crate::proofs::Printing::put_once))]
+
+ghost use Rattle.listing.specs.Output.{Appending};
 
 use std::io;
 use std::io::Write;
@@ -12,7 +14,7 @@ pub struct ToWriter;
 impl<W: Write> Sink<W> for ToWriter {
     type Error = io::Error;
 
-    ghost took = { λ before text after. Appends (W.contents before) (W.contents after) text };
+    ghost took = { Appending W.contents };
 
     #[inline(always)]
     fn put(output: &mut W, text: &[u8]) -> io::Result<()> {

@@ -1,6 +1,6 @@
 -- Text that is put by the piece.
 use Rattle.record_wire.proofs.Words.{◌≡◌, ◌+◌, ◌/◌, ◌%◌, ◌<◌, ◌≤◌, ◌&&◌, ◌||◌, [], ◌∷◌, ◌++◌, ◌∙◌, Bool, Err, IsAscii}
-use Rattle.record_wire.proofs.Words.{IsAscii-cons, IsAscii-nil, List, Ok, OnOk, Result, Takes, WritesInCalls, ℕ, ap}
+use Rattle.record_wire.proofs.Words.{IsAscii-cons, IsAscii-nil, List, Ok, Result, Takes, WritesInCalls, ℕ, ap}
 use Rattle.record_wire.proofs.Words.{append_assoc, arith, beq, booleans_Decides, cases_lt, codes, cond, decimal, decimal_digit, false, inl}
 use Rattle.record_wire.proofs.Words.{inr, is_ascii_graphic, leb, leb-true, length, not, refl, rules, slice_set, subst}
 use Rattle.record_wire.proofs.Words.{suc, sym, take, true, zero}
@@ -12,6 +12,7 @@ use Rattle.std.proofs.lemmas.Str.{IsAscii-append}
 use Rattle.record_wire.specs.Escapes.{escaped, has_meaning, hidden_text, is_plain, is_set, is_visible, plain_table}
 use Rattle.record_wire.specs.Escapes.{written_by}
 use Rattle.record_wire.specs.declared.escapes.Escaping.{Escaping}
+use Rattle.wirebase.specs.Sink.{PutsText}
 use Rattle.wirebase.proofs.Sinks.{put_both}
 
 -- ---- what a byte is written as
@@ -164,7 +165,9 @@ module _ {O : Type 0} (took : O → List ℕ → O → Type 0) where
 
   -- what waits at the end is put
   pub takes_all : {E : Type 0} (f g h : O) (text waits : List ℕ) (r : Result (Unit {0}) E) → Takes took f [] text g waits
-      → OnOk r (WritesInCalls took g waits h) → OnOk r (WritesInCalls took f text h)
-  takes_all f g h text waits (Ok x) one last =
-      subst (λ (t : List ℕ). WritesInCalls took f t h) (sym one.whole) (put_both took f g h one.written waits one.has last)
-  takes_all f g h text waits (Err e) one last = tt
+      → PutsText took g waits r h → PutsText took f text r h
+  takes_all f g h text waits (Ok x) one last = record {
+    calls = subst (λ (t : List ℕ). WritesInCalls took f t h) (sym one.whole)
+        (put_both took f g h one.written waits one.has last.calls);
+  }
+  takes_all f g h text waits (Err e) one last = record { calls = tt }

@@ -1,8 +1,8 @@
 //! Classes of records, by IANA's registry of DNS parameters, and the text of a class.
 
-ghost use Rattle.std.specs.Prelude.{◌≡◌, Some, OnOk};
-ghost use Rattle.std.specs.Fmt.{WritesInCalls};
+ghost use Rattle.std.specs.Prelude.{◌≡◌, Some};
 ghost use Rattle.std.specs.Option.{option_map};
+ghost use Rattle.wirebase.specs.Sink.{PutsText};
 ghost use Rattle.dns_wire.specs.DnsDisplay.{name_in};
 ghost use Rattle.record_wire.specs.Mnemonics.{class_names, class_text};
 
@@ -32,6 +32,7 @@ pub struct ClassName(pub u16);
 impl fmt::Display for ClassName {
     ghost output = { λ name. Some (class_text name.0) };
 
+    #[tactic(auto, using(wirebase::proofs::Sinks::displayed))]
     fn fmt<W: fmt::Write>(&self, f: &mut fmt::Formatter<W>) -> fmt::Result {
         put_class::<_, ToFormatter>(f, self.0)
     }
@@ -40,7 +41,7 @@ impl fmt::Display for ClassName {
 /// Puts the text of a class.
 #[inline(always)]
 pub(crate) fn put_class<O, S: Sink<O>>(output: &mut O, number: u16) -> result::Result<(), S::Error>
-    ensures { OnOk result (WritesInCalls S.took output.old (class_text number) output.new) }
+    ensures { PutsText S.took output.old (class_text number) result output.new }
 {
     match mnemonic(number) {
         Some(mnemonic) => S::put_str(output, mnemonic),

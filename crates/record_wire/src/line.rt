@@ -1,8 +1,10 @@
 //! Lines of questions and records as a zone file has them (RFC 1035 section 5.1), put into a formatter or into another
 //! output, straight from the octets of a message.
 
-ghost use Rattle.std.specs.Prelude.{◌++◌, IfOk, IfSome, IsSome, OnOk, decimal};
-ghost use Rattle.std.specs.Fmt.{WritesInCalls};
+#![tactic(auto, using(wirebase::proofs::Sinks::puts), unfolding(crate::specs::ZoneText::word))]
+
+ghost use Rattle.std.specs.Prelude.{◌++◌, IfOk, IfSome, IsSome, decimal};
+ghost use Rattle.wirebase.specs.Sink.{PutsText};
 ghost use Rattle.dns_wire.specs.DnsDisplay.{type_display};
 ghost use Rattle.record_wire.specs.Lines.{PutsSome, QuestionPuts, RecordPuts, DataPuts, NamedPuts};
 ghost use Rattle.record_wire.specs.Lines.{RefusesData, asked_line, front_of, line_front, numbers_text, owner_front};
@@ -64,8 +66,8 @@ pub(crate) fn put_asked<O, S: Sink<O>>(
     type_: Type,
     before: Option<Before<'_>>,
 ) -> result::Result<(), S::Error>
-    ensures { OnOk result (WritesInCalls S.took output.old
-        (asked_line before.entry (text_of name.now) class type_) output.new) }
+    ensures { PutsText S.took output.old
+        (asked_line before.entry (text_of name.now) class type_) result output.new }
 {
     put_owner::<O, S>(output, before, name)?;
     put_class_and_type::<O, S>(output, class, type_)
@@ -78,8 +80,8 @@ fn put_class_and_type<O, S: Sink<O>>(
     class: u16,
     type_: Type,
 ) -> result::Result<(), S::Error>
-    ensures { OnOk result (WritesInCalls S.took output.old
-        (word (class_text class) ++ word (type_display type_)) output.new) }
+    ensures { PutsText S.took output.old
+        (word (class_text class) ++ word (type_display type_)) result output.new }
 {
     S::put_str(output, " ")?;
     put_class::<O, S>(output, class)?;
@@ -94,7 +96,7 @@ fn put_owner<O, S: Sink<O>>(
     before: Option<Before<'_>>,
     name: &NameText,
 ) -> result::Result<(), S::Error>
-    ensures { OnOk result (WritesInCalls S.took output.old (owner_front before.entry (text_of name.now)) output.new) }
+    ensures { PutsText S.took output.old (owner_front before.entry (text_of name.now)) result output.new }
 {
     if let Some(before) = before {
         S::put_str(output, before.margin)?;
@@ -164,7 +166,7 @@ fn put_front<O, S: Sink<O>>(
     output: &mut O,
     line: Option<&Line<'_, '_>>,
 ) -> result::Result<(), S::Error>
-    ensures { OnOk result (WritesInCalls S.took output.old (front_of line.entry) output.new) }
+    ensures { PutsText S.took output.old (front_of line.entry) result output.new }
 {
     match line {
         Some(line) => put_line::<O, S>(output, line),
@@ -173,7 +175,7 @@ fn put_front<O, S: Sink<O>>(
 }
 
 fn put_line<O, S: Sink<O>>(output: &mut O, line: &Line<'_, '_>) -> result::Result<(), S::Error>
-    ensures { OnOk result (WritesInCalls S.took output.old (line_front line.now) output.new) }
+    ensures { PutsText S.took output.old (line_front line.now) result output.new }
 {
     put_owner::<O, S>(output, line.before, line.owner)?;
     put_word::<O, S>(output, line.ttl)?;
@@ -253,7 +255,7 @@ fn put_named<'a, O, S: Sink<O>>(
 
 // Puts numbers, each before a space.
 fn put_numbers<O, S: Sink<O>>(output: &mut O, numbers: &[u16]) -> result::Result<(), S::Error>
-    ensures { OnOk result (WritesInCalls S.took output.old (numbers_text numbers.now) output.new) }
+    ensures { PutsText S.took output.old (numbers_text numbers.now) result output.new }
 {
     for number in numbers {
         put_number::<O, S>(output, u64::from(*number))?;
@@ -295,7 +297,7 @@ pub(crate) fn put_authority<'a, O, S: Sink<O>>(
 // Puts a number after a space.
 #[inline(never)]
 fn put_word<O, S: Sink<O>>(output: &mut O, number: u32) -> result::Result<(), S::Error>
-    ensures { OnOk result (WritesInCalls S.took output.old (word (decimal number)) output.new) }
+    ensures { PutsText S.took output.old (word (decimal number)) result output.new }
 {
     S::put_str(output, " ")?;
     put_number::<O, S>(output, u64::from(number))

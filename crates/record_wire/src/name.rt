@@ -276,6 +276,7 @@ impl fmt::Display for Name {
 
     ghost output = { λ name. Some (name_text (labels_of name)) };
 
+    #[tactic(auto, using(wirebase::proofs::Sinks::displayed))]
     fn fmt<W: fmt::Write>(&self, f: &mut fmt::Formatter<W>) -> fmt::Result {
         put_name_text::<_, ToFormatter>(f, self)
     }

@@ -23,9 +23,9 @@ mod question;
 pub mod refusal;
 pub(crate) mod words;
 
-ghost use Rattle.std.specs.Prelude.{◌≡◌, ◌++◌, [], IfOk, IsOkAnd, IfErr, OnOk};
-ghost use Rattle.std.specs.Fmt.{WritesInCalls};
+ghost use Rattle.std.specs.Prelude.{◌≡◌, ◌++◌, [], IfOk, IsOkAnd, IfErr};
 ghost use Rattle.std.specs.Option.{option_map};
+ghost use Rattle.wirebase.specs.Sink.{PutsText};
 ghost use Rattle.dns_wire.specs.DnsPacket.{view_octets};
 ghost use Rattle.record_wire.specs.Edns.{edns_of};
 ghost use Rattle.record_wire.specs.Lines.{front_of};
@@ -194,6 +194,7 @@ impl fmt::Display for DataText<'_> {
 
     ghost output = { λ read. Some (data_text (data_text_of read)) };
 
+    #[tactic(auto, using(wirebase::proofs::Sinks::displayed))]
     fn fmt<W: fmt::Write>(&self, f: &mut fmt::Formatter<W>) -> fmt::Result {
         put_own::<_, ToFormatter>(f, None, self)
     }
@@ -205,8 +206,8 @@ fn put_own<O, S: Sink<O>>(
     line: Option<&Line<'_, '_>>,
     data: &DataText<'_>,
 ) -> result::Result<(), S::Error>
-    ensures { OnOk result (WritesInCalls S.took output.old
-        (front_of line.entry ++ data_text (data_text_of «data».now)) output.new) }
+    ensures { PutsText S.took output.old
+        (front_of line.entry ++ data_text (data_text_of «data».now)) result output.new }
 {
     // Whole names have no pointers, so that they read in any message.
     put_data::<O, S>(output, &[], line, &data.octets())?;

@@ -8,8 +8,7 @@
 //! assert_eq!(types::MX.to_string(), "MX");
 //! ```
 
-ghost use Rattle.std.specs.Prelude.{OnOk};
-ghost use Rattle.std.specs.Fmt.{WritesInCalls};
+ghost use Rattle.wirebase.specs.Sink.{PutsText};
 ghost use Rattle.dns_wire.specs.DnsDisplay.{type_display};
 
 use dns_wire::dns::Type;
@@ -139,7 +138,7 @@ pub const CAA: Type = Type::Unknown(257);
 /// Puts the text of a type.
 #[inline(always)]
 pub(crate) fn put_type<O, S: Sink<O>>(output: &mut O, type_: Type) -> result::Result<(), S::Error>
-    ensures { OnOk result (WritesInCalls S.took output.old (type_display type_) output.new) }
+    ensures { PutsText S.took output.old (type_display type_) result output.new }
 {
     match type_.mnemonic() {
         Some(mnemonic) => S::put_str(output, mnemonic),

@@ -1,8 +1,8 @@
 //! The texts of names, put into a formatter or into another output.
 
 ghost use Rattle.std.specs.Prelude.{◌≡◌, ◌≤◌, ℕ, List, None, IfErr, IsErr, OnOk, take};
-ghost use Rattle.std.specs.Fmt.{WritesInCalls};
 ghost use Rattle.std.specs.Str.{IsAscii};
+ghost use Rattle.wirebase.specs.Sink.{PutsText};
 ghost use Rattle.record_wire.specs.Labels.{labels_in};
 ghost use Rattle.record_wire.specs.Name.{labels_of};
 ghost use Rattle.record_wire.specs.NameRefusal.{RefusesName};
@@ -109,7 +109,7 @@ impl NameText {
 
     /// Puts the text.
     pub(crate) fn put<O, S: Sink<O>>(&self, output: &mut O) -> result::Result<(), S::Error>
-        ensures { OnOk result (WritesInCalls S.took output.old (text_of self.now) output.new) }
+        ensures { PutsText S.took output.old (text_of self.now) result output.new }
     {
         match &self.other {
             None => S::put(output, &self.room[..self.len]),
@@ -121,7 +121,7 @@ impl NameText {
 // Puts a name with its last dot; the root is a dot.
 #[inline(never)]
 fn put_other<O, S: Sink<O>>(output: &mut O, name: &Name) -> result::Result<(), S::Error>
-    ensures { OnOk result (WritesInCalls S.took output.old (whole_name (labels_of name.now)) output.new) }
+    ensures { PutsText S.took output.old (whole_name (labels_of name.now)) result output.new }
 {
     put_name::<O, S>(output, name)?;
     // Byte 0 alone is the root.
@@ -134,7 +134,7 @@ fn put_other<O, S: Sink<O>>(output: &mut O, name: &Name) -> result::Result<(), S
 /// Puts the labels of a name with dots between them; the root is a dot.
 #[inline(always)]
 pub(super) fn put_name<O, S: Sink<O>>(output: &mut O, name: &Name) -> result::Result<(), S::Error>
-    ensures { OnOk result (WritesInCalls S.took output.old (name_text (labels_of name.now)) output.new) }
+    ensures { PutsText S.took output.old (name_text (labels_of name.now)) result output.new }
 {
     let octets = name.octets();
     // Byte 0 alone is the root.
@@ -148,7 +148,7 @@ pub(super) fn put_name<O, S: Sink<O>>(output: &mut O, name: &Name) -> result::Re
 // that the root is put without the buffer for a piece.
 #[inline(never)]
 fn put_labels<O, S: Sink<O>>(output: &mut O, octets: &[u8]) -> result::Result<(), S::Error>
-    ensures { OnOk result (WritesInCalls S.took output.old (name_text (labels_in octets.now)) output.new) }
+    ensures { PutsText S.took output.old (name_text (labels_in octets.now)) result output.new }
 {
     let Some((first, rest)) = split_label(octets) else {
         return S::put_str(output, ".");

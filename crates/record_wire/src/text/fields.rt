@@ -1,8 +1,10 @@
 //! Data with fields before one name or two and after them, as a zone file has it (RFC 1035 section 5.1, RFC 1183, RFC
 //! 2163, RFC 2230, RFC 2535 section 7.2, RFC 3403 section 4.1, RFC 4034 sections 3.2 and 4.2).
 
-ghost use Rattle.std.specs.Prelude.{◌≡◌, ◌++◌, [], Some, List, ℕ, Option, IfOk, IsOkAnd, IfErr, OnOk, codes, decimal};
-ghost use Rattle.std.specs.Fmt.{WritesInCalls};
+#![tactic(auto, using(wirebase::proofs::Sinks::puts), unfolding(crate::specs::ZoneText::word))]
+
+ghost use Rattle.std.specs.Prelude.{◌≡◌, ◌++◌, [], Some, List, ℕ, Option, IfOk, IsOkAnd, IfErr, codes, decimal};
+ghost use Rattle.wirebase.specs.Sink.{PutsText};
 ghost use Rattle.dns_wire.specs.DnsPacket.{view_octets};
 ghost use Rattle.record_wire.specs.Fields.{front_of, rest_of, name_of, fields_of};
 ghost use Rattle.record_wire.specs.FieldsText.{FieldsTextValue, fields_text_of, labels_in, IsFieldsText, IsSecondText};
@@ -48,7 +50,7 @@ impl fmt::Display for FieldsText<'_> {
 impl<'a> FieldsText<'a> {
     /// Puts the fields.
     pub(crate) fn put<O, S: Sink<O>>(&self, output: &mut O) -> result::Result<(), S::Error>
-        ensures { OnOk result (WritesInCalls S.took output.old (fields_text (fields_text_of self.now)) output.new) }
+        ensures { PutsText S.took output.old (fields_text (fields_text_of self.now)) result output.new }
     {
         put_front::<O, S>(output, &self.front)?;
         NameText::of(&self.first).put::<O, S>(output)?;
@@ -109,7 +111,7 @@ impl fmt::Display for Front<'_> {
 }
 
 fn put_front<O, S: Sink<O>>(output: &mut O, front: &Front<'_>) -> result::Result<(), S::Error>
-    ensures { OnOk result (WritesInCalls S.took output.old (front_text (front_of front.now)) output.new) }
+    ensures { PutsText S.took output.old (front_text (front_of front.now)) result output.new }
 {
     match front {
         Front::Nothing => Ok(()),
@@ -133,7 +135,7 @@ fn put_front<O, S: Sink<O>>(output: &mut O, front: &Front<'_>) -> result::Result
 
 // Puts a number before a space.
 fn put_before<O, S: Sink<O>>(output: &mut O, number: u32) -> result::Result<(), S::Error>
-    ensures { OnOk result (WritesInCalls S.took output.old (decimal number ++ codes " ") output.new) }
+    ensures { PutsText S.took output.old (decimal number ++ codes " ") result output.new }
 {
     put_number::<O, S>(output, u64::from(number))?;
     S::put_str(output, " ")
@@ -149,7 +151,7 @@ impl fmt::Display for Signed {
 }
 
 fn put_signed<O, S: Sink<O>>(output: &mut O, signature: &Signed) -> result::Result<(), S::Error>
-    ensures { OnOk result (WritesInCalls S.took output.old (signature_text signature.now) output.new) }
+    ensures { PutsText S.took output.old (signature_text signature.now) result output.new }
 {
     put_type::<O, S>(output, signature.covered)?;
     S::put_str(output, " ")?;
@@ -171,7 +173,7 @@ impl fmt::Display for Rest<'_> {
 }
 
 fn put_rest<O, S: Sink<O>>(output: &mut O, behind: &Rest<'_>) -> result::Result<(), S::Error>
-    ensures { OnOk result (WritesInCalls S.took output.old (rest_text (rest_of behind.now)) output.new) }
+    ensures { PutsText S.took output.old (rest_text (rest_of behind.now)) result output.new }
 {
     match behind {
         Rest::Nothing => Ok(()),
@@ -186,7 +188,7 @@ fn put_rest<O, S: Sink<O>>(output: &mut O, behind: &Rest<'_>) -> result::Result<
 
 // Puts a second name after a space, where there is one.
 fn put_second<O, S: Sink<O>>(output: &mut O, second: &Option<Name>) -> result::Result<(), S::Error>
-    ensures { OnOk result (WritesInCalls S.took output.old (second_text (labels_in second.now)) output.new) }
+    ensures { PutsText S.took output.old (second_text (labels_in second.now)) result output.new }
 {
     match second {
         Some(name) => {
@@ -199,7 +201,7 @@ fn put_second<O, S: Sink<O>>(output: &mut O, second: &Option<Name>) -> result::R
 
 // Puts each type of the maps after a space, up to where there is no whole map.
 fn put_maps<O, S: Sink<O>>(output: &mut O, octets: &[u8]) -> result::Result<(), S::Error>
-    ensures { OnOk result (WritesInCalls S.took output.old (maps_text octets.now) output.new) }
+    ensures { PutsText S.took output.old (maps_text octets.now) result output.new }
 {
     let mut left = octets;
     while let Some((upper, map, rest)) = split_map(left) {
@@ -211,7 +213,7 @@ fn put_maps<O, S: Sink<O>>(output: &mut O, octets: &[u8]) -> result::Result<(), 
 
 // Puts each type of a map after a space. The first bit is of this type.
 fn put_map<O, S: Sink<O>>(output: &mut O, first: u16, map: &[u8]) -> result::Result<(), S::Error>
-    ensures { OnOk result (WritesInCalls S.took output.old (map_text first map.now) output.new) }
+    ensures { PutsText S.took output.old (map_text first map.now) result output.new }
 {
     let mut number = first;
     let mut left = map;
@@ -225,7 +227,7 @@ fn put_map<O, S: Sink<O>>(output: &mut O, first: u16, map: &[u8]) -> result::Res
 
 // Puts the types of a byte of a map. Its most significant bit is of this type.
 fn put_byte<O, S: Sink<O>>(output: &mut O, first: u16, byte: u8) -> result::Result<(), S::Error>
-    ensures { OnOk result (WritesInCalls S.took output.old (byte_text first byte) output.new) }
+    ensures { PutsText S.took output.old (byte_text first byte) result output.new }
 {
     put_bit::<O, S>(output, byte / 128, first)?;
     put_bit::<O, S>(output, byte / 64, first.wrapping_add(1))?;
@@ -239,7 +241,7 @@ fn put_byte<O, S: Sink<O>>(output: &mut O, first: u16, byte: u8) -> result::Resu
 
 // Puts a type after a space, where the least significant bit is set.
 fn put_bit<O, S: Sink<O>>(output: &mut O, bits: u8, number: u16) -> result::Result<(), S::Error>
-    ensures { OnOk result (WritesInCalls S.took output.old (bit_text bits number) output.new) }
+    ensures { PutsText S.took output.old (bit_text bits number) result output.new }
 {
     if bits % 2 == 0 {
         return Ok(());

@@ -1,7 +1,9 @@
 //! The words of a line of a zone file (RFC 1035 section 5.1, RFC 3597 section 5, RFC 4648 section 4).
 
-ghost use Rattle.std.specs.Prelude.{◌≡◌, [], ◌∷◌, None, OnOk, map};
-ghost use Rattle.std.specs.Fmt.{WritesInCalls};
+#![tactic(auto, using(wirebase::proofs::Sinks::puts), unfolding(crate::specs::ZoneText::word))]
+
+ghost use Rattle.std.specs.Prelude.{◌≡◌, [], ◌∷◌, None, map};
+ghost use Rattle.wirebase.specs.Sink.{PutsText};
 ghost use Rattle.record_wire.specs.Strings.{strings_in};
 ghost use Rattle.record_wire.specs.ZoneText.{string_text, string_words, strings_text};
 ghost use Rattle.record_wire.specs.ZoneText.{generic_text, base64, base64_digit};
@@ -17,7 +19,7 @@ pub(crate) fn put_strings<O, S: Sink<O>>(
     output: &mut O,
     octets: &[u8],
 ) -> result::Result<(), S::Error>
-    ensures { OnOk result (WritesInCalls S.took output.old (strings_text (strings_in octets.now)) output.new) }
+    ensures { PutsText S.took output.old (strings_text (strings_in octets.now)) result output.new }
 {
     let mut strings = TxtStrings::new(octets);
     let Some(first) = strings.next() else {
@@ -32,7 +34,7 @@ fn put_behind_spaces<O, S: Sink<O>>(
     output: &mut O,
     mut strings: TxtStrings<'_>,
 ) -> result::Result<(), S::Error>
-    ensures { OnOk result (WritesInCalls S.took output.old (string_words strings.entry) output.new) }
+    ensures { PutsText S.took output.old (string_words strings.entry) result output.new }
 {
     while let Some(string) = strings.next() {
         S::put_str(output, " ")?;
@@ -43,7 +45,7 @@ fn put_behind_spaces<O, S: Sink<O>>(
 
 // Puts a string in quotes.
 fn put_string<O, S: Sink<O>>(output: &mut O, string: &[u8]) -> result::Result<(), S::Error>
-    ensures { OnOk result (WritesInCalls S.took output.old (string_text string.now) output.new) }
+    ensures { PutsText S.took output.old (string_text string.now) result output.new }
 {
     let mut piece = [0; PIECE_LEN];
     piece[0] = b'"';
@@ -57,7 +59,7 @@ pub(crate) fn put_generic<O, S: Sink<O>>(
     output: &mut O,
     octets: &[u8],
 ) -> result::Result<(), S::Error>
-    ensures { OnOk result (WritesInCalls S.took output.old (generic_text octets.now) output.new) }
+    ensures { PutsText S.took output.old (generic_text octets.now) result output.new }
 {
     S::put_str(output, "\\# ")?;
     put_number::<O, S>(output, octets.len() as u64)?;
@@ -73,7 +75,7 @@ pub(super) fn put_base64<O, S: Sink<O>>(
     output: &mut O,
     bytes: &[u8],
 ) -> result::Result<(), S::Error>
-    ensures { OnOk result (WritesInCalls S.took output.old (base64 bytes.now) output.new) }
+    ensures { PutsText S.took output.old (base64 bytes.now) result output.new }
 {
     let mut left = bytes;
     while let Some((a, b, c, rest)) = split_group(left) {
@@ -92,7 +94,7 @@ pub(super) fn put_base64<O, S: Sink<O>>(
 // Puts one byte or two, with padding.
 fn put_last<O, S: Sink<O>>(output: &mut O, left: &[u8]) -> result::Result<(), S::Error>
     requires { first_group left.now ≡ None }
-    ensures { OnOk result (WritesInCalls S.took output.old (base64 left.now) output.new) }
+    ensures { PutsText S.took output.old (base64 left.now) result output.new }
 {
     let Some((a, rest)) = split_byte(left) else {
         return Ok(());
@@ -114,7 +116,7 @@ fn put_digits<O, S: Sink<O>>(
     c: u8,
     d: u8,
 ) -> result::Result<(), S::Error>
-    ensures { OnOk result (WritesInCalls S.took output.old (map base64_digit (a ∷ b ∷ c ∷ d ∷ [])) output.new) }
+    ensures { PutsText S.took output.old (map base64_digit (a ∷ b ∷ c ∷ d ∷ [])) result output.new }
 {
     S::put(output, &[digit(a), digit(b), digit(c), digit(d)])
 }

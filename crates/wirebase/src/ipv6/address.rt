@@ -109,6 +109,7 @@ impl fmt::Display for Ipv6Address {
 
     ghost output = { λ address. Some (address_text address) };
 
+    #[tactic(auto, using(crate::proofs::Sinks::displayed))]
     fn fmt<W: fmt::Write>(&self, f: &mut fmt::Formatter<W>) -> fmt::Result {
         put_v6::<_, ToFormatter>(f, *self, None)
     }

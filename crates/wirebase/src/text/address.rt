@@ -1,8 +1,8 @@
 //! Addresses of IPv4 and IPv6, and a port where there is one.
 
-ghost use Rattle.std.specs.Prelude.{◌≡◌, ◌≤◌, OnOk, take};
-ghost use Rattle.std.specs.Fmt.{WritesInCalls};
+ghost use Rattle.std.specs.Prelude.{◌≡◌, ◌≤◌, take};
 ghost use Rattle.std.specs.Str.{IsAscii};
+ghost use Rattle.wirebase.specs.Sink.{PutsText};
 ghost use Rattle.wirebase.specs.EndpointText.{v4_text, v6_text};
 
 use crate::ipv4::Ipv4Address;
@@ -21,7 +21,7 @@ pub fn put_v4<O, S: Sink<O>>(
     address: Ipv4Address,
     port: Option<u16>,
 ) -> Result<(), S::Error>
-    ensures { OnOk result (WritesInCalls S.took output.old (v4_text address port) output.new) }
+    ensures { PutsText S.took output.old (v4_text address port) result output.new }
 {
     let mut room = [0; ROOM];
     let end = fill_v4(&mut room, address, port);
@@ -56,7 +56,7 @@ pub fn put_v6<O, S: Sink<O>>(
     address: Ipv6Address,
     port: Option<u16>,
 ) -> Result<(), S::Error>
-    ensures { OnOk result (WritesInCalls S.took output.old (v6_text address port) output.new) }
+    ensures { PutsText S.took output.old (v6_text address port) result output.new }
 {
     let mut room = [0; ROOM];
     let end = fill_v6(&mut room, address, port);

@@ -1,8 +1,11 @@
 //! Octets as hexadecimal digits, two for each. Nothing branches by a digit, so that many are converted at once.
 
-ghost use Rattle.std.specs.Prelude.{◌≡◌, ◌*◌, ◌<◌, ◌≤◌, ◌++◌, [], ◌∷◌, OnOk, Some, codes, flat_map, length};
+#![tactic(auto, using(crate::proofs::Sinks::puts))]
+
+ghost use Rattle.std.specs.Prelude.{◌≡◌, ◌*◌, ◌<◌, ◌≤◌, ◌++◌, [], ◌∷◌, Some, codes, flat_map, length};
 ghost use Rattle.std.specs.Prelude.{slice_index};
-ghost use Rattle.std.specs.Fmt.{WritesInCalls, WritesOnOk};
+ghost use Rattle.std.specs.Fmt.{WritesOnOk};
+ghost use Rattle.wirebase.specs.Sink.{PutsText};
 ghost use Rattle.hex.specs.Hex.{encode_lower, lower_digits};
 ghost use Rattle.wirebase.specs.Hexadecimal.{hex_colons, octets_text};
 
@@ -17,7 +20,7 @@ const DIGITS: usize = 2 * OCTETS;
 /// Puts octets in lower-case hexadecimal digits, two for each.
 #[inline]
 pub fn put_hex<O, S: Sink<O>>(output: &mut O, octets: &[u8]) -> Result<(), S::Error>
-    ensures { OnOk result (WritesInCalls S.took output.old (encode_lower octets.now) output.new) }
+    ensures { PutsText S.took output.old (encode_lower octets.now) result output.new }
 {
     for octets in octets.chunks(OCTETS) {
         put_chunk::<O, S>(output, octets)?;
@@ -28,7 +31,7 @@ pub fn put_hex<O, S: Sink<O>>(output: &mut O, octets: &[u8]) -> Result<(), S::Er
 // Puts the digits of at most so many octets.
 fn put_chunk<O, S: Sink<O>>(output: &mut O, octets: &[u8]) -> Result<(), S::Error>
     requires { length octets.now ≤ OCTETS }
-    ensures { OnOk result (WritesInCalls S.took output.old (encode_lower octets.now) output.new) }
+    ensures { PutsText S.took output.old (encode_lower octets.now) result output.new }
 {
     let mut room = [0; DIGITS];
     let digits = &mut room[..2 * octets.len()];
@@ -61,7 +64,7 @@ fn digit_of(value: u8) -> u8
 
 /// Puts octets in hexadecimal digits, and a dash where there are none.
 pub fn put_octets<O, S: Sink<O>>(output: &mut O, octets: &[u8]) -> Result<(), S::Error>
-    ensures { OnOk result (WritesInCalls S.took output.old (octets_text octets.now) output.new) }
+    ensures { PutsText S.took output.old (octets_text octets.now) result output.new }
 {
     if octets.is_empty() {
         return S::put_str(output, "-");

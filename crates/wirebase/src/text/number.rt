@@ -1,7 +1,7 @@
 //! Numbers in decimal digits, all of a number put at once.
 
-ghost use Rattle.std.specs.Prelude.{◌≡◌, ◌+◌, ◌%◌, ◌≤◌, ◌++◌, OnOk, Some, decimal, drop};
-ghost use Rattle.std.specs.Fmt.{WritesInCalls};
+ghost use Rattle.std.specs.Prelude.{◌≡◌, ◌+◌, ◌%◌, ◌≤◌, ◌++◌, Some, decimal, drop};
+ghost use Rattle.wirebase.specs.Sink.{PutsText};
 ghost use Rattle.wirebase.specs.Digits.{last_digits};
 
 use crate::text::sink::{Sink, ToFormatter};
@@ -20,7 +20,7 @@ const TWO_DIGITS: &[u8; 200] = b"\
 /// Puts a number in decimal digits.
 #[inline]
 pub fn put_number<O, S: Sink<O>>(output: &mut O, number: u64) -> Result<(), S::Error>
-    ensures { OnOk result (WritesInCalls S.took output.old (decimal number) output.new) }
+    ensures { PutsText S.took output.old (decimal number) result output.new }
 {
     let mut room = [0; DIGITS];
     let start = put_digits(number, &mut room);
@@ -92,6 +92,7 @@ pub struct TwoDigits(pub u64);
 impl fmt::Display for TwoDigits {
     ghost output = { λ number. Some (last_digits 2 number.0) };
 
+    #[tactic(auto, using(crate::proofs::Sinks::displayed))]
     fn fmt<W: fmt::Write>(&self, f: &mut fmt::Formatter<W>) -> fmt::Result {
         ToFormatter::put(f, &two_digits(self.0))
     }

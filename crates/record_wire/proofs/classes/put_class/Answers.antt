@@ -12,4 +12,4 @@ pub returns-in_ok-put_str-in-None : goal.returns-in_ok-put_str-in-None
 unfolding class_text
 returns-in_ok-put_str-in-None g c =
     rw (name_none _ _ _ c.in-None.ensures)
-    (puts_last _ _ _ c.in_ok-put_str-in-None.ensures (rw c.from.ensures at c.put_number.ensures))
+    (puts_last _ _ _ c.in_ok-put_str-in-None.ensures.calls (rw c.from.ensures at c.put_number.ensures))

@@ -27,16 +27,16 @@ returns-in-Fields g c = rw c.in-Fields.is c.put_fields.ensures
 
 pub returns-in_ok-put_v4-in-A : goal.returns-in_ok-put_v4-in-A
 returns-in_ok-put_v4-in-A g c =
-    rw c.in-A.is (_, (_, refl, refl), c.in_ok-put_front-in-A.ensures then c.in_ok-put_v4-in-A.ensures)
+    rw c.in-A.is (_, (_, refl, refl), c.in_ok-put_front-in-A.ensures.calls then c.in_ok-put_v4-in-A.ensures.calls)
 
 pub returns-in_ok-put_v6-in-Aaaa : goal.returns-in_ok-put_v6-in-Aaaa
 returns-in_ok-put_v6-in-Aaaa g c =
-    rw c.in-Aaaa.is (_, (_, refl, refl), c.in_ok-put_front-in-Aaaa.ensures then c.in_ok-put_v6-in-Aaaa.ensures)
+    rw c.in-Aaaa.is (_, (_, refl, refl), c.in_ok-put_front-in-Aaaa.ensures.calls then c.in_ok-put_v6-in-Aaaa.ensures.calls)
 
 pub returns-in_ok-put_strings-in-Txt : goal.returns-in_ok-put_strings-in-Txt
 returns-in_ok-put_strings-in-Txt g c =
-    rw c.in-Txt.is (_, (_, refl, refl), c.in_ok-put_front-in-Txt.ensures then c.in_ok-put_strings-in-Txt.ensures)
+    rw c.in-Txt.is (_, (_, refl, refl), c.in_ok-put_front-in-Txt.ensures.calls then c.in_ok-put_strings-in-Txt.ensures.calls)
 
 pub returns-in_ok-put_generic-in-Other : goal.returns-in_ok-put_generic-in-Other
 returns-in_ok-put_generic-in-Other g c =
-    rw c.in-Other.is (_, (_, refl, refl), c.in_ok-put_front-in-Other.ensures then c.in_ok-put_generic-in-Other.ensures)
+    rw c.in-Other.is (_, (_, refl, refl), c.in_ok-put_front-in-Other.ensures.calls then c.in_ok-put_generic-in-Other.ensures.calls)

@@ -8,7 +8,7 @@ returns-in_ok-put-in-Ok g c =
     let message = ap (λ b. b.now) c.new_unchecked.ensures in (
       _,
       (_, (_, rw message at c.in-Ok.ensures.sound, refl), refl),
-      c.in_ok-put_front-in-Ok.ensures then c.in_ok-put-in-Ok.ensures,
+      c.in_ok-put_front-in-Ok.ensures.calls then c.in_ok-put-in-Ok.ensures.calls,
     )
 
 pub returns-in-Err : goal.returns-in-Err

@@ -12,5 +12,5 @@ pub returns : goal.returns
 returns g c = (
   _,
   (_, c.in_default.ensures.reads, refl),
-  c.in_ok-put_front.ensures then c.in_ok-put_numbers.ensures then c.in_ok-put.ensures,
+  c.in_ok-put_front.ensures.calls then c.in_ok-put_numbers.ensures.calls then c.in_ok-put.ensures.calls,
 )

@@ -14,4 +14,4 @@ returns-in-Err g c = (
 pub returns : goal.returns
 returns g c =
     question_put g.S.Sink.took _ _ c.args.before c.args.message.now c.args.class (question_of c.args.question.now) _
-    c.in_default.ensures.reads c.in_ok-put_asked.ensures
+    c.in_default.ensures.reads c.in_ok-put_asked.ensures.calls

@@ -6,5 +6,7 @@ use Rattle.record_wire.proofs.text.put_own.Goals as goal
 
 pub returns : goal.returns
 returns g c =
-    own_put g.S.Sink.took _ _ _ [] (rdata_of c.octets.result) (data_text_of c.args.«data».now) _ c.octets.ensures
-    c.in_ok-put_data.ensures
+    record {
+      calls = own_put g.S.Sink.took _ _ _ [] (rdata_of c.octets.result) (data_text_of c.args.«data».now) _ c.octets.ensures
+          c.in_ok-put_data.ensures;
+    }

@@ -15,4 +15,4 @@ returns g c =
     let labels = labels_of c.args.name.now in
     let len : length c.octets.result.now ≡ length (wire labels) = ap length c.octets.ensures.value in
     puts_as _ _ _ _ _ _ (sym (longer_name labels (λ e. c.if-octets-eq1.false (len ∙ e))))
-    (puts_last _ _ _ c.in_ok-put_name.ensures c.put_str.ensures)
+    (puts_last _ _ _ c.in_ok-put_name.ensures.calls c.put_str.ensures)

@@ -9,5 +9,7 @@ pub returns-clause-writes : goal.returns-clause-writes
 returns-clause-writes g c =
     let read = authority_text_of c.args.self.now in
     displayed g.W.Write.write_str_gives _ _ (Ok tt) _
-    (own_put _ _ _ [] [] (rdata.authority (rdata.authority_of c.octets.result)) (authority read) _
-    (read, c.octets.ensures, refl) c.in_ok-put_authority.ensures)
+    (record {
+      calls = own_put _ _ _ [] [] (rdata.authority (rdata.authority_of c.octets.result)) (authority read) _
+          (read, c.octets.ensures, refl) c.in_ok-put_authority.ensures;
+    })

@@ -8,4 +8,4 @@ pub returns : goal.returns
 unfolding word
 returns g c =
     rw (ne_eqb (c.args.bits % 2) 0 c.if-bits-eq0.false)
-    (puts_last _ _ _ c.in_ok-put_str.ensures (rw c.from.ensures.value at c.put_type.ensures))
+    (puts_last _ _ _ c.in_ok-put_str.ensures.calls (rw c.from.ensures.value at c.put_type.ensures))

@@ -3,7 +3,7 @@ use Rattle.record_wire.proofs.Words.{[], ◌++◌, ◌∙◌, List, WritesInCall
 use Rattle.record_wire.proofs.Words.{number_at, refl, subst, sym}
 use Rattle.wirebase.proofs.Sinks.{put_none}
 use Rattle.record_wire.proofs.FieldTexts.{map_more, map_none}
-use Rattle.record_wire.proofs.Puts.{◌then◌}
+use Rattle.record_wire.proofs.Puts.{◌then◌, puts_as}
 use Rattle.record_wire.proofs.RecordTexts.{one_text}
 use Rattle.record_wire.proofs.text.fields.put_map.Goals as goal
 
@@ -20,7 +20,7 @@ loop-byte-preserved g c =
       done ++ text,
       one_text done left text rest (map_text c.args.first c.args.map.now) is
           (map_more number c.in-Some.byte c.loop-byte.left.now c.in-Some.rest.now c.in-Some.ensures),
-      before then c.in_ok-put_byte.ensures,
+      before then c.in_ok-put_byte.ensures.calls,
     )
 
 pub returns : goal.returns
@@ -28,4 +28,4 @@ returns g c =
     let (done, is, before) = c.loop-byte.invariant in
     let none = map_none c.loop-byte.number c.loop-byte.left.now c.in_default.ensures in
     let whole = sym (append-nil done) ∙ (ap (λ (l : List ℕ). done ++ l) (sym none) ∙ is) in
-    subst (λ (t : List ℕ). WritesInCalls g.S.Sink.took c.args.output.now t c.loop-byte.output) whole before
+    puts_as _ _ _ _ _ _ whole (record { calls = before })

@@ -21,7 +21,7 @@ loop-a-preserved g c =
       done ++ text,
       one_text done (base64 left) text (base64 rest) (base64 c.args.bytes.now) is
           (base64_more x y z left rest c.in-Some.ensures),
-      before then c.in_ok-put_digits.ensures,
+      before then c.in_ok-put_digits.ensures.calls,
     )
 
 pub returns : goal.returns

@@ -3,7 +3,7 @@ use Rattle.record_wire.proofs.Words.{[], ◌∷◌, ◌++◌, ◌∙◌, List, W
 use Rattle.record_wire.proofs.Words.{string_words, subst, sym}
 use Rattle.record_wire.specs.ZoneText.{word}
 use Rattle.wirebase.proofs.Sinks.{put_none}
-use Rattle.record_wire.proofs.Puts.{◌then◌}
+use Rattle.record_wire.proofs.Puts.{◌then◌, puts_as}
 use Rattle.record_wire.proofs.RecordTexts.{one_text}
 use Rattle.record_wire.proofs.text.words.put_behind_spaces.Goals as goal
 
@@ -18,7 +18,7 @@ loop-string-preserved g c =
       done ++ 32 ∷ text,
       one_text done (string_words c.loop-string.strings) (32 ∷ text) (string_words c.next.new.self)
           (string_words c.args.strings) is (ap string_words c.in-Some.ensures.steps),
-      before then (c.in_ok-put_str.ensures then c.in_ok-put_string.ensures),
+      before then (c.in_ok-put_str.ensures.calls then c.in_ok-put_string.ensures.calls),
     )
 
 pub returns : goal.returns
@@ -26,4 +26,4 @@ returns g c =
     let (done, is, before) = c.loop-string.invariant in
     let none = ap string_words c.in_default.ensures.steps.0 in
     let whole = sym (append-nil done) ∙ (ap (λ (l : List ℕ). done ++ l) (sym none) ∙ is) in
-    subst (λ (t : List ℕ). WritesInCalls g.S.Sink.took c.args.output.now t c.loop-string.output) whole before
+    puts_as _ _ _ _ _ _ whole (record { calls = before })

@@ -1,12 +1,10 @@
-use Rattle.record_wire.proofs.Words.{List, WritesInCalls, ℕ, subst, sym}
 use Rattle.wirebase.proofs.Sinks.{put_none}
 use Rattle.record_wire.proofs.FieldTexts.{base64_none, base64_one, base64_two}
 use Rattle.record_wire.proofs.text.words.put_last.Goals as goal
 
 pub returns-in_default : goal.returns-in_default
 returns-in_default g c =
-    subst (λ (t : List ℕ). WritesInCalls g.S.Sink.took c.args.output.now t c.args.output.now)
-    (sym (base64_none c.args.left.now c.in_default.ensures)) (put_none g.S.Sink.took _)
+    rw (base64_none c.args.left.now c.in_default.ensures) (record { calls = put_none g.S.Sink.took _ })
 
 pub returns-in-Some-split_byte : goal.returns-in-Some-split_byte
 returns-in-Some-split_byte g c =

@@ -1,5 +1,5 @@
 -- The first string, and those after it.
-use Rattle.record_wire.proofs.Words.{◌∙◌, List, WritesInCalls, ℕ, ap, strings_in, subst, sym}
+use Rattle.record_wire.proofs.Words.{◌∙◌, ap, strings_in, sym}
 use Rattle.record_wire.specs.ZoneText.{strings_text}
 use Rattle.wirebase.proofs.Sinks.{put_none}
 use Rattle.record_wire.proofs.Puts.{puts_as, puts_last}
@@ -10,12 +10,11 @@ pub returns-in_default : goal.returns-in_default
 returns-in_default g c =
     let octets = c.args.octets.now in
     let none = c.new-strings.ensures.unique (strings_in octets) (strings_ahead octets) ∙ c.in_default.ensures.steps.0 in
-    subst (λ (t : List ℕ). WritesInCalls g.S.Sink.took c.args.output.now t c.args.output.now)
-    (ap strings_text (sym none)) (put_none g.S.Sink.took _)
+    puts_as _ _ _ _ _ _ (ap strings_text (sym none)) (record { calls = put_none g.S.Sink.took _ })
 
 pub returns : goal.returns
 returns g c =
     let octets = c.args.octets.now in
     let some = c.new-strings.ensures.unique (strings_in octets) (strings_ahead octets) ∙ c.in-Some.ensures.steps in
     puts_as _ _ _ _ _ _ (ap strings_text (sym some))
-    (puts_last _ _ _ c.in_ok-put_string.ensures c.put_behind_spaces.ensures)
+    (puts_last _ _ _ c.in_ok-put_string.ensures.calls c.put_behind_spaces.ensures)

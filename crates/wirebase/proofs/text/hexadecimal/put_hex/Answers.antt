@@ -28,7 +28,7 @@ loop-octets-preserved g c =
         so_far.0 ++ chunk,
         append_assoc so_far.0 chunk _ ∙ ap (λ rest. so_far.0 ++ rest) (sym cut.1.0) ∙ so_far.1,
         rw (encode_with-append lower_digits so_far.0 chunk)
-            (put_both _ _ _ _ _ _ so_far.2 c.in_ok-put_chunk.ensures),
+            (put_both _ _ _ _ _ _ so_far.2 c.in_ok-put_chunk.ensures.calls),
       );
     }
 
@@ -37,4 +37,4 @@ returns g c =
     let so_far = c.loop-octets.invariant.so_far in
     let rest = nil_from_length _ c.in-None.ensures.steps.1.0 in
     let all = sym (append-nil so_far.0) ∙ ap (λ rest. so_far.0 ++ rest) (sym rest) ∙ so_far.1 in
-    rw all at so_far.2
+    record { calls = rw all at so_far.2 }

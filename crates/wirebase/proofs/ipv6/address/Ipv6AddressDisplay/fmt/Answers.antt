@@ -1,6 +1,0 @@
--- What was put was written.
-use Rattle.wirebase.proofs.Sinks.{displayed}
-use Rattle.wirebase.proofs.ipv6.address.Ipv6AddressDisplay.fmt.Goals as goal
-
-pub returns-clause-writes : goal.returns-clause-writes
-returns-clause-writes g c = displayed g.W.Write.write_str_gives _ _ _ _ c.put_v6.ensures
