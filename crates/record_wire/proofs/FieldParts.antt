@@ -3,7 +3,7 @@ use Rattle.record_wire.proofs.Words.{◌≡◌, ◌-◌, ◌<◌, ◌≤◌, ◌
 use Rattle.record_wire.proofs.Words.{AreThree, Bool, DataRefusal, IsRest, IsSplit, List, MapValue, None, Option}
 use Rattle.record_wire.proofs.Words.{RestValue, Some, ℕ, ap, append_assoc, arith, cases_lt, cond, drop, false}
 use Rattle.record_wire.proofs.Words.{first_map, flat_map, inl, inr, le-leb, leb, leb-true, length, length-append}
-use Rattle.record_wire.proofs.Words.{length-take-le, nil_from_length, number_of, refl, string_rest, subst, sym, take}
+use Rattle.record_wire.proofs.Words.{length-take-le, number_of, refl, string_rest, subst, sym, take}
 use Rattle.record_wire.proofs.Words.{take-append-drop, take-append_seam, true, written}
 use Rattle.record_wire.specs.Fields.{FrontValue, no_front, numbered, rule, signs, number_field, order_field}
 use Rattle.record_wire.specs.Fields.{preference_field, signature_in, IsFront, IsSecond, no_rest, signature, one_map}
@@ -75,13 +75,6 @@ refused_rule FrontForm.Rule bytes e fits none = (
       none (rule (number_of order_field bytes) (number_of preference_field bytes) strings) rest
       (record { strings = strings; reaches = fits; three = three; is = refl }),
 )
-
-pub refused_cut : (form : FrontForm) (bytes : List ℕ) → form ≡ FrontForm.Rule → length bytes < 4
-    → RefusesFront form bytes DataRefusal.Numbers
-refused_cut FrontForm.Nothing bytes e cut = cc e
-refused_cut FrontForm.Number bytes e cut = cc e
-refused_cut FrontForm.Signed bytes e cut = cc e
-refused_cut FrontForm.Rule bytes e cut = cut
 
 -- a form other than a rule
 abbrev IsOther : FrontForm → Type 0
@@ -238,6 +231,3 @@ none_of left (n ∷ maps) e some (good, each) whole =
 
 pub no_map_first : (left : List ℕ) → first_map left ≡ None → 1 ≤ length left → AreMaps left → ⊥
 no_map_first left e some are = none_of left are.maps e some are.each are.whole
-
-pub maps_end : (left : List ℕ) → length left ≡ 0 → AreMaps left
-maps_end left e = record { maps = []; each = tt; whole = nil_from_length left e }

@@ -1,7 +1,7 @@
 -- The texts of fields: types of maps of bits, and base64.
 use Rattle.record_wire.proofs.Words.{◌≡◌, ◌+◌, ◌-◌, ◌*◌, ◌/◌, ◌%◌, ◌<◌, [], ◌∷◌, ◌++◌, ◌∙◌, Bool, IsAscii, IsAscii-cons}
 use Rattle.record_wire.proofs.Words.{IsAscii-nil, List, MapValue, None, Some, ℕ, ap, arith, base64, byte_text, cond}
-use Rattle.record_wire.proofs.Words.{false, first_map, flat_map, leb, leb-true, length, map, map_text, maps_text}
+use Rattle.record_wire.proofs.Words.{false, first_map, flat_map, leb, leb-true, map, map_text, maps_text}
 use Rattle.record_wire.proofs.Words.{number_at, refl, sym, true, types_text}
 use Rattle.record_wire.specs.NameReading.{first_octet, first_group}
 use Rattle.record_wire.specs.ZoneText.{base64_digit}
@@ -25,11 +25,6 @@ pub map_none : (first : ℕ) (left : List ℕ) → None ≡ first_octet left →
 unfolding map_text
 map_none first [] e = refl
 map_none first (b ∷ more) e = cc e
-
-pub fewer_octets : (byte : ℕ) (left rest : List ℕ) → Some (byte, rest) ≡ first_octet left → length rest < length left
-fewer_octets byte [] rest e = cc e
-fewer_octets byte (b ∷ more) rest e =
-    omega (arith, ap (λ (q : ℕ × List ℕ). length q.1) (same_octet (byte, rest) (b, more) e))
 
 pub maps_more : (left rest : List ℕ) (m : MapValue) → first_map left ≡ Some (m, rest)
     → maps_text left ≡ types_text m ++ maps_text rest
@@ -85,14 +80,6 @@ base64_more a b c (x ∷ y ∷ z ∷ more) rest e =
       ap (λ (q : ℕ × ℕ × ℕ × List ℕ). q.2) p,
       ap (λ (q : ℕ × ℕ × ℕ × List ℕ). q.3) p,
     ) refl
-
-pub fewer_groups : (a b c : ℕ) (left rest : List ℕ) → Some (a, b, c, rest) ≡ first_group left
-    → length rest < length left
-fewer_groups a b c [] rest e = cc e
-fewer_groups a b c (x ∷ []) rest e = cc e
-fewer_groups a b c (x ∷ y ∷ []) rest e = cc e
-fewer_groups a b c (x ∷ y ∷ z ∷ more) rest e =
-    omega (arith, ap (λ (q : ℕ × ℕ × ℕ × List ℕ). length q.3) (same_group (a, b, c, rest) (x, y, z, more) e))
 
 pub base64_none : (left : List ℕ) → None ≡ first_octet left → base64 left ≡ []
 unfolding base64

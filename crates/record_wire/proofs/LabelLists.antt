@@ -48,17 +48,6 @@ pub drop_seam : (xs ys : List ℕ) → drop (length xs) (xs ++ ys) ≡ ys
 drop_seam [] ys = refl
 drop_seam (x ∷ xs) ys = drop_seam xs ys
 
-none_by : (octets : List ℕ) (first : Option (List ℕ × List ℕ)) → first_label octets ≡ first → length octets ≡ 1
-    → first_label octets ≡ None
-none_by octets None e one = e
-none_by octets (Some (label, rest)) e one =
-    let f = first_is octets label rest e in
-    absurd (omega (arith, one, ap length f.whole, length-append (written label) rest, f.one.0))
-
--- one octet is no label
-pub none_in_one : (octets : List ℕ) → length octets ≡ 1 → first_label octets ≡ None
-none_in_one octets one = none_by octets (first_label octets) refl one
-
 pub first_written : (label rest : List ℕ) → IsLabel label → first_label (written label ++ rest) ≡ Some (label, rest)
 first_written label rest one =
     test_true (leb 1 (length label)) (leb (length label) 63) (leb (length label) (length (label ++ rest))) _ None

@@ -74,9 +74,6 @@ pub record SoFar (text octets left : List ℕ) : Type 0 where
   pub written : octets ≡ written_all done
   pub leads : Leads text done left
 
-pub nothing_yet : (text octets : List ℕ) → octets ≡ [] → SoFar text octets text
-nothing_yet text octets e = record { done = []; each = tt; written = e; leads = refl }
-
 pub one_more : (text octets left label rest after next : List ℕ) → SoFar text octets left → IsLabel label
     → Spells left label rest → rest ≡ codes "." ++ after → 1 ≤ length after → next ≡ octets ++ written label
     → SoFar text next after

@@ -69,6 +69,3 @@ no_string_first [] e some are = omega arith
 no_string_first (n ∷ more) e some are =
     let long = leb-false n (length more) (test_none (leb n (length more)) (drop n more) e) in
     absurd (omega (arith, long, (string_first n more are).0))
-
-pub strings_end : (left : List ℕ) → length left ≡ 0 → AreStrings left
-strings_end left e = subst AreStrings (sym (nil_from_length left e)) no_strings

@@ -1,7 +1,7 @@
 -- Where a name of one part is torn.
 use Rattle.record_wire.proofs.Words.{◌≡◌, ◌<◌, ◌≤◌, ◌⊎◌, [], ◌∷◌, ◌++◌, ◌∙◌, AllByRecursion, Behind, IsLabel, IsNoPart}
 use Rattle.record_wire.proofs.Words.{IsSplit, List, PartRefusal, Points-front, Whole-front, ℕ, ap, append_assoc, arith}
-use Rattle.record_wire.proofs.Words.{eqb, eqb-false, flat_map-append, front_of, inl, inr, length, length-append, ltb}
+use Rattle.record_wire.proofs.Words.{eqb, eqb-false, flat_map-append, front_of, inl, inr, length, ltb}
 use Rattle.record_wire.proofs.Words.{ltb-true, pointer, refl, slice_index_or, stop, subst, sym, torn, whole, written}
 use Rattle.record_wire.proofs.Words.{written_all}
 use Rattle.std.proofs.lemmas.Bool.{ltb-false}
@@ -28,11 +28,6 @@ behind_label text left bytes rest so e =
           ∙ (sym (append_assoc (written_all so.labels) (written bytes) rest)
           ∙ ap (λ (o : List ℕ). o ++ rest) (sym (written_more so.labels bytes))));
     }
-
-pub label_fewer : (left bytes rest : List ℕ) → whole bytes rest ≡ front_of left → length rest < length left
-label_fewer left bytes rest e =
-    let w = Whole-front left bytes rest (sym e) in
-    omega (arith, ap length w.is, length-append bytes rest)
 
 -- ---- a mark ends a name
 
@@ -62,9 +57,6 @@ split_end text left so e =
     (written_all there.labels ++ 0 ∷ [], at.0, split_mark text (0 ∷ []) at.0 ends there refl)
 
 -- ---- nothing whole
-
-pub not_stop : (left : List ℕ) → torn ≡ front_of left → stop ≡ front_of left → ⊥
-not_stop left e f = let g = e ∙ sym f in cc
 
 torn_pointer : (x : ℕ) (xs : List ℕ) → torn ≡ pointer_at x xs → xs ≡ []
 torn_pointer x [] e = refl

@@ -174,6 +174,7 @@ fn put_front<O, S: Sink<O>>(
     }
 }
 
+#[tactic(auto, using(wirebase::proofs::Sinks::puts, std::proofs::lemmas::List::append_assoc))]
 fn put_line<O, S: Sink<O>>(output: &mut O, line: &Line<'_, '_>) -> result::Result<(), S::Error>
     ensures { PutsText S.took output.old (line_front line.now) result output.new }
 {

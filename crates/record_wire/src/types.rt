@@ -137,6 +137,7 @@ pub const CAA: Type = Type::Unknown(257);
 
 /// Puts the text of a type.
 #[inline(always)]
+#[tactic(auto, using(wirebase::proofs::Sinks::puts, crate::proofs::MnemonicTexts::name_none))]
 pub(crate) fn put_type<O, S: Sink<O>>(output: &mut O, type_: Type) -> result::Result<(), S::Error>
     ensures { PutsText S.took output.old (type_display type_) result output.new }
 {

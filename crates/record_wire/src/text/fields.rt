@@ -110,6 +110,7 @@ impl fmt::Display for Front<'_> {
     }
 }
 
+#[tactic(auto, using(wirebase::proofs::Sinks::puts, std::proofs::lemmas::List::append_assoc))]
 fn put_front<O, S: Sink<O>>(output: &mut O, front: &Front<'_>) -> result::Result<(), S::Error>
     ensures { PutsText S.took output.old (front_text (front_of front.now)) result output.new }
 {

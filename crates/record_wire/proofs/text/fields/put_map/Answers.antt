@@ -1,6 +1,6 @@
 -- Each turn puts the types of a byte.
-use Rattle.record_wire.proofs.Words.{[], ◌++◌, ◌∙◌, List, WritesInCalls, ℕ, ap, append-nil, byte_text, map_text}
-use Rattle.record_wire.proofs.Words.{number_at, refl, subst, sym}
+use Rattle.record_wire.proofs.Words.{[], ◌++◌, ◌∙◌, List, ℕ, ap, append-nil, byte_text, map_text}
+use Rattle.record_wire.proofs.Words.{number_at, refl, sym}
 use Rattle.wirebase.proofs.Sinks.{put_none}
 use Rattle.record_wire.proofs.FieldTexts.{map_more, map_none}
 use Rattle.record_wire.proofs.Puts.{◌then◌, puts_as}

@@ -1,6 +1,6 @@
 -- Each turn puts the types of a map.
 use Rattle.record_wire.proofs.Words.{[], ◌++◌, ◌∙◌, List, MapValue, WritesInCalls, ℕ, ap, append-nil}
-use Rattle.record_wire.proofs.Words.{maps_text, refl, subst, sym, types_text}
+use Rattle.record_wire.proofs.Words.{maps_text, refl, sym, types_text}
 use Rattle.wirebase.proofs.Sinks.{put_none}
 use Rattle.record_wire.proofs.FieldTexts.{maps_more, maps_none}
 use Rattle.record_wire.proofs.Puts.{◌then◌, puts_as}

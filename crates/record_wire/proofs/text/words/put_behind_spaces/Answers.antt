@@ -1,6 +1,6 @@
 -- Each turn puts a string after a space.
-use Rattle.record_wire.proofs.Words.{[], ◌∷◌, ◌++◌, ◌∙◌, List, WritesInCalls, ℕ, ap, append-nil, refl, string_text}
-use Rattle.record_wire.proofs.Words.{string_words, subst, sym}
+use Rattle.record_wire.proofs.Words.{[], ◌∷◌, ◌++◌, ◌∙◌, List, ℕ, ap, append-nil, refl, string_text}
+use Rattle.record_wire.proofs.Words.{string_words, sym}
 use Rattle.record_wire.specs.ZoneText.{word}
 use Rattle.wirebase.proofs.Sinks.{put_none}
 use Rattle.record_wire.proofs.Puts.{◌then◌, puts_as}
