@@ -138,7 +138,7 @@ def imports(text, start):
     the text has for each. There is no name where the word is that of a whole file."""
     found = {}
     for use in re.findall(rf"^{start}use Rattle\.([^;\n]*)", text, flags=re.M):
-        it = re.match(r"(\w+)\.specs\.(\w+)(?:\.\{([^}]*)\}| as (\w+))$", use.strip())
+        it = re.match(r"(\w+)\.specs\.((?:private\.)?\w+)(?:\.\{([^}]*)\}| as (\w+))$", use.strip())
         file = it and spec_file(it[1], it[2])
         if file and it[4]:
             found[it[4]] = file, None
@@ -150,8 +150,8 @@ def imports(text, start):
 
 def spec_file(crate, name):
     """The file of definitions that a crate has by this name, of its own or of another crate of the repository."""
-    if exists(f"crates/{crate}/specs/{name}.antt"):
-        return f"crates/{crate}/specs/{name}.antt"
+    if exists(path := f"crates/{crate}/specs/{name.replace('.', '/')}.antt"):
+        return path
     lib = read(f"crates/{crate}/specs/Lib.antt") if exists(f"crates/{crate}/specs/Lib.antt") else ""
     other = re.search(rf"^pub use Rattle\.(\w+)\.specs\.{name}$", lib, flags=re.M)
     return spec_file(other[1], name) if other and other[1] != crate else None
@@ -356,12 +356,6 @@ Then the relations of the crate that are cited: what the comment above each says
 Not listed are clauses that cite no definition of these crates or speak of length alone (`Bytes.Reaches`, `ByteWriter.free`), fields, the words for the octets of a view and the content of a value (`inner`, `with_inner`, `view_octets`, `value_of`, beside a relation also `.._of` and `..Value`; of getters and setters all of `Bytes`), and among the relations those whose names say the same in each module: `Sets`, `KeepsLen` (a setter changes one field), `Emits` (what writing leaves), `Fills`, `IsCanonical`, `IsException`, `IsCut` ([the headline](PROOFS.md#the-headline)), `Refuses` (the check of `parse` that fails first), what `exact` cites (something is read), and `Gives..` (`next` of an iterator gives the first answer and takes it off).
 """
 
-REST = """## Definitions on which no clause above rests
-
-Clauses of private functions cite them, or the model of an iterator (its items `view`, `invariant` and `remaining`). Whoever reads the statements may pass them over.
-"""
-
-
 def word(it):
     return f"`{os.path.basename(it[0])[:-5]}.{it[1]}`"
 
@@ -482,22 +476,22 @@ def page():
             below += relation_lines(file, {name for of, name in told if of == file})
         text += [f"\n## {crate.name}"] if calls or below else []
         text += [*calls, *(["\nRelations:\n", *below] if below else [])]
-    return "\n".join([*text, "", REST, *rest_lines(made)]) + "\n"
+    return "\n".join(text) + "\n"
 
 
-def rest_lines(made):
-    """The lines of the definitions on which no listed clause rests, and which are no words of `VIEW` and no fields."""
-    files = [file for crate in made for file in spec_files(crate)]
+def misplaced():
+    """The definitions in specs/ on which no public clause rests, but for words of `VIEW`, models and fields, and those in
+    specs/private/ on which one does."""
+    made = [Crate(it) for it in crates()]
+    files = [file for crate in made for folder in ("specs", "specs/private") for file in spec_files(crate, folder)]
     plain = [(file, name) for file in files for name, it in definitions(file).items() if name in VIEW or it.is_field()]
     known = set(rests_on([*cited_by(made, MODEL), *plain]))
-    for file in files:
-        left = [f"`{name}`" for name in definitions(file) if (file, name) not in known]
-        if left:
-            yield f"- `{file}`: {listed(left)}"
+    words = ((file, name) for file in files for name in definitions(file))
+    return [it for it in words if (it in known) == ("/private/" in it[0])]
 
 
-def spec_files(crate):
-    """The files of a crate's definitions."""
-    folder = f"crates/{crate.name}/specs"
-    names = sorted(it for it in os.listdir(os.path.join(TOP, folder)) if it.endswith(".antt") and it != "Lib.antt")
-    return [f"{folder}/{it}" for it in names]
+def spec_files(crate, below="specs"):
+    """The files of a crate's definitions, of those on which public clauses may rest or of the private ones."""
+    folder = f"crates/{crate.name}/{below}"
+    names = sorted(os.listdir(os.path.join(TOP, folder))) if os.path.isdir(os.path.join(TOP, folder)) else []
+    return [f"{folder}/{it}" for it in names if it.endswith(".antt") and it != "Lib.antt"]

@@ -5,8 +5,8 @@ use Rattle.std.proofs.Common.{Option, None, Some, IfSome, refl, ap, sym, subst, 
 use Rattle.std.proofs.lemmas.List.{append-nil, take_all, drop_all, take_at, drop_at, length-take, take-append-drop}
 use Rattle.std.proofs.lemmas.List.{drop-drop}
 use Rattle.std.proofs.Math.Seq.{take-add}
-use Rattle.capture.specs.Reader.{Takes, Reads, Skips}
-use Rattle.capture.specs.Taken.{Splits}
+use Rattle.capture.specs.private.Reader.{Takes, Reads, Skips}
+use Rattle.capture.specs.private.Taken.{Splits}
 
 pub fits_or_not : (a b : ℕ) → (a ≤ b) ⊎ (b < a)
 fits_or_not zero b = inl (omega arith)

@@ -298,7 +298,8 @@ record Parts (section : Order) (interfaces : List Interface) (bytes : List ℕ) 
   body : Body section interfaces bytes new held_packet head
 
 parts : (section : Order) (interfaces : List Interface) (bytes : List ℕ) (new : State)
-    (held_packet : Option PacketValue) → IsBlock section interfaces bytes new held_packet → Parts section interfaces bytes new held_packet
+    (held_packet : Option PacketValue) → IsBlock section interfaces bytes new held_packet
+    → Parts section interfaces bytes new held_packet
 parts section interfaces bytes new held_packet (passed h is whole other e none) =
     record { head = h; is_head = is; whole = whole; body = unread other e none }
 parts section interfaces bytes new held_packet (header h is whole closed kind good e none) =

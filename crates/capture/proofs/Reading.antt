@@ -6,7 +6,7 @@ use Rattle.std.proofs.lemmas.Bool.{eqb-false}
 use Rattle.std.proofs.lemmas.List.{append-nil, length-take}
 use Rattle.std.proofs.KnownBytes.{Consumes-nil, Consumes-trans}
 use Rattle.std.specs.Io.KnownBytes.{Consumes, IsAtEnd}
-use Rattle.capture.specs.Reader.{Takes, TakesPart, Skips, SkipsPart}
+use Rattle.capture.specs.private.Reader.{Takes, TakesPart, Skips, SkipsPart}
 
 -- the bytes that were taken so far
 pub record SoFar (old new : Option (List ℕ)) (before now : List ℕ) (count : ℕ) : Type 0 where

@@ -6,11 +6,12 @@ use Rattle.std.proofs.lemmas.List.{length-take, take-take}
 use Rattle.capture.specs.Capture.{most_octets}
 use Rattle.capture.specs.Packet.{packet_in}
 use Rattle.capture.specs.Pcap.{IsRecord, IsRecordHeader, RecordEnds, ends_whole, head_cut, cut, large}
-use Rattle.capture.specs.Reader.{Reads}
-use Rattle.capture.specs.Taken.{Splits}
+use Rattle.capture.specs.private.Reader.{Reads}
+use Rattle.capture.specs.private.Taken.{Splits}
 use Rattle.capture.specs.Time.{IsTime, value_of, time_value, fraction_of, digits_in}
-use Rattle.capture.specs.Unit as unit
-use Rattle.capture.specs.Unit.{record_form, RecordHeadEnds, UnitEnds, none, no_head, UnitReads}
+use Rattle.capture.specs.private.Unit as unit
+use Rattle.capture.specs.Unit.{record_form, RecordHeadEnds}
+use Rattle.capture.specs.private.Unit.{UnitEnds, none, no_head, UnitReads}
 use Rattle.capture.specs.Types.{Ending, Packet, FileHeader, RecordHeader, Time, Taken}
 use Rattle.capture.proofs.Filling.{no_byte, reads_splits}
 

@@ -9,10 +9,11 @@ use Rattle.capture.specs.Capture.{State, state, IsBlock, passed, header, describ
 use Rattle.capture.specs.Capture.{refused, Refused, no_section, no_interface, many, no_packet, large}
 use Rattle.capture.specs.Packet.{packet_in}
 use Rattle.capture.specs.Pcapng.{IsHead, HeadEnds, IsRead, IsClosed, section_kind, interface_kind}
-use Rattle.capture.specs.Taken.{Splits, SectionTakes, InterfaceTakes, PacketTakes, BlockTakes, BlockGives}
-use Rattle.capture.specs.Taken.{IsWholeBlock}
-use Rattle.capture.specs.Unit as unit
-use Rattle.capture.specs.Unit.{block_form, UnitEnds, none, no_head}
+use Rattle.capture.specs.private.Taken.{Splits, SectionTakes, InterfaceTakes, PacketTakes, BlockTakes, BlockGives}
+use Rattle.capture.specs.private.Taken.{IsWholeBlock}
+use Rattle.capture.specs.private.Unit as unit
+use Rattle.capture.specs.Unit.{block_form}
+use Rattle.capture.specs.private.Unit.{UnitEnds, none, no_head}
 use Rattle.capture.specs.Types.{Stage, Step, Ending, Order, Head, Interface}
 
 pub if_ok : {T E : Type 0} (P Q : T → Type 0) (r : Result T E) → ((x : T) → P x → Q x) → IfOk r P → IfOk r Q

@@ -9,8 +9,8 @@ use Rattle.capture.specs.Capture.{Holds, ends, passes, packet, packet_of, GivesN
 use Rattle.capture.specs.Packet.{PacketValue, packet_in}
 use Rattle.capture.specs.Pcap.{IsFileHeader, FileEnds}
 use Rattle.capture.specs.Pcapng.{IsHead, IsSectionKind}
-use Rattle.capture.specs.Reader.{Reads}
-use Rattle.capture.specs.Taken.{Splits, After, RecordGives, BlockGives, StepGives}
+use Rattle.capture.specs.private.Reader.{Reads}
+use Rattle.capture.specs.private.Taken.{Splits, After, RecordGives, BlockGives, StepGives}
 use Rattle.capture.specs.Types.{Next, Record, Stage, Step, Ending, Order, FileHeader, Head, Packet, Interface}
 use Rattle.capture.proofs.Filling.{reads_splits, reads_fits, fits_or_not, no_byte}
 

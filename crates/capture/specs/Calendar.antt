@@ -33,16 +33,3 @@ date_of zero = date 1970 1 1
 date_of (suc days) = next_date (date_of days)
 
 -- ---- the number of days that pass: the results of private functions
-
--- in this many first months of a year
-unfoldable pub days_of_months : ℕ → ℕ → ℕ
-days_of_months year zero = 0
-days_of_months year (suc months) = days_of_months year months + month_days year (suc months)
-
-abbrev pub year_days : ℕ → ℕ
-year_days year = if is_leap year then 366 else 365
-
--- in this many years from 1970 on
-unfoldable pub days_of_years : ℕ → ℕ
-days_of_years zero = 0
-days_of_years (suc years) = days_of_years years + year_days (1970 + years)

@@ -5,10 +5,9 @@ pub mod Order
 pub mod Packet
 pub mod Pcap
 pub mod Pcapng
-pub mod Reader
-pub mod Taken
 pub mod Text
 pub mod Time
 pub mod TimeText
 pub mod Types
 pub mod Unit
+pub mod private

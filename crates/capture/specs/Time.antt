@@ -23,10 +23,6 @@ pub record IsTime (t : Time) (nanoseconds digits : ℕ) : Type 0 where
   pub part : t.nanoseconds < 1000000000
   pub digits_are : t.digits ≡ digits
 
--- the time of these seconds and nanoseconds, without digits
-abbrev pub time_of : ℕ × ℕ → Time
-time_of parts = record { seconds = parts.0; nanoseconds = parts.1; digits = 0 }
-
 -- the units in a second of a resolution: a power of 10, or one of 2 where the highest bit is set
 -- (draft-ietf-opsawg-pcapng section 4.2, if_tsresol)
 unfoldable pub units : ℕ → ℕ

@@ -4,9 +4,10 @@ ghost use Rattle.std.specs.Prelude.{◌≡◌, ◌≤◌, ◌⊎◌, ◌↔◌, 
 ghost use Rattle.capture.specs.Capture.{IfRecord, state, state_of, octets_of, count_of, packet_of, GivesNext};
 ghost use Rattle.capture.specs.Capture.{IsInOrder, ShowsUnit};
 ghost use Rattle.capture.specs.Packet.{packet_in, IsPlace};
-ghost use Rattle.capture.specs.Reader.{Reads};
-ghost use Rattle.capture.specs.Taken.{BlockTakes, BlockGives, StepGives, SectionTakes, InterfaceTakes, PacketTakes};
-ghost use Rattle.capture.specs.Taken.{IfPacket, RecordGives, IsWholeBlock, after};
+ghost use Rattle.capture.specs.private.Reader.{Reads};
+ghost use Rattle.capture.specs.private.Taken.{BlockTakes, BlockGives, StepGives, SectionTakes, InterfaceTakes};
+ghost use Rattle.capture.specs.private.Taken.{PacketTakes};
+ghost use Rattle.capture.specs.private.Taken.{IfPacket, RecordGives, IsWholeBlock, after};
 
 use crate::ending::{Ending, Fault, Refusal};
 use crate::order::Order;

@@ -4,7 +4,7 @@ ghost use Rattle.std.specs.Prelude.{◌≡◌, ◌≤◌, ◌-◌, ◌++◌, ◌
 ghost use Rattle.std.specs.Borrow.{sem};
 ghost use Rattle.std.specs.Io.{StartsWith};
 ghost use Rattle.std.specs.Io.BufRead.{Rests};
-ghost use Rattle.capture.specs.Reader.{Takes, TakesPart, Skips, SkipsPart, LookKeeps};
+ghost use Rattle.capture.specs.private.Reader.{Takes, TakesPart, Skips, SkipsPart, LookKeeps};
 
 use crate::ending::Fault;
 use std::io::{BufRead, ErrorKind};

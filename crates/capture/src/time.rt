@@ -6,7 +6,7 @@ ghost use Rattle.std.specs.Prelude.{◌≡◌, ◌+◌, ◌-◌, ◌*◌, ◌/�
 ghost use Rattle.std.specs.Duration.{as_nanos, max_nanos};
 ghost use Rattle.std.specs.Ordering.{nat_cmp};
 ghost use Rattle.capture.specs.Time.{IsTime, nanos_of, nanoseconds_of, digits_of, fraction_of, digits_in, moved};
-ghost use Rattle.capture.specs.Time.{time_of};
+ghost use Rattle.capture.specs.private.Parts.{time_of};
 
 use crate::pcap::Precision;
 use std::cmp::Ordering;

@@ -1,8 +1,9 @@
 //! The records and blocks of an input: taken in one step where its buffer has the whole of one, else read in parts.
 
 ghost use Rattle.std.specs.Prelude.{◌≡◌, ◌≤◌, ◌↔◌, ◌⊎◌, ℕ, List, IfOk, IfErr, IsTrue, OnOk, length, take};
-ghost use Rattle.capture.specs.Reader.{Reads};
-ghost use Rattle.capture.specs.Unit.{Form, UnitReads, IfRead};
+ghost use Rattle.capture.specs.private.Reader.{Reads};
+ghost use Rattle.capture.specs.Unit.{Form};
+ghost use Rattle.capture.specs.private.Unit.{UnitReads, IfRead};
 
 use crate::ending::{Ending, Fault};
 use crate::order::Order;

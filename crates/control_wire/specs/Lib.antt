@@ -49,7 +49,7 @@ pub use Rattle.icmp6_wire.specs.NdiscOptionsSeen
 pub use Rattle.icmp6_wire.specs.NdiscPacket
 pub use Rattle.icmp6_wire.specs.NdiscTables
 pub use Rattle.dhcp_wire.specs.Dhcpv4
-pub use Rattle.dhcp_wire.specs.Dhcpv4Writing
+pub use Rattle.dhcp_wire.specs.private.Dhcpv4Writing
 pub use Rattle.dhcp_wire.specs.Dhcpv4Format
 pub use Rattle.dhcp_wire.specs.Dhcpv4Options
 pub use Rattle.dhcp_wire.specs.Dhcpv4Packet

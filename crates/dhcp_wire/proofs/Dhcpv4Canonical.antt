@@ -220,10 +220,12 @@ canonical-read bytes v are p =
       additional = subst (λ (more : List OptionValue). AreAdditional (slots_of v) more) (sym none) tt;
       message_type =
           last-holds (said OPT_DHCP_MESSAGE_TYPE (type_in (byte_of op_field bytes)))
-          (λ t. IsProper MessageType.Unknown message_rows t) (type-small (byte_of op_field bytes)) os v.message_type small
+          (λ t. IsProper MessageType.Unknown message_rows t) (type-small (byte_of op_field bytes)) os v.message_type
+          small
           p.message_type;
       transaction_id =
-          subst (λ (n : ℕ). n < 2 ^ 32) (sym (ap (λ (w : Value). w.transaction_id) p.value)) (part-small bytes 4 8 4 are);
+          subst (λ (n : ℕ). n < 2 ^ 32) (sym (ap (λ (w : Value). w.transaction_id) p.value)) (part-small bytes 4 8 4
+          are);
       secs = subst (λ (n : ℕ). n < 2 ^ 16) (sym (ap (λ (w : Value). w.secs) p.value)) (part-small bytes 8 10 2 are);
       dns_servers = few;
       max_size =

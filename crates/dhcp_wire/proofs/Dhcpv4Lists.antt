@@ -6,7 +6,7 @@ use Rattle.dhcp_wire.proofs.Words.{list_of, lone, lt-ltb, ltb, ne_eqb, none, opt
 use Rattle.dhcp_wire.proofs.Words.{suc, sym, take, take-append-drop, take_at, torn, true, value_of_option, zero}
 use Rattle.std.specs.Iterator.{MakesProgress, at_most}
 use Rattle.dhcp_wire.specs.declared.dhcpv4.options.DhcpOption.{DhcpOption}
-use Rattle.dhcp_wire.specs.Dhcpv4OptionsAhead.{after_kind, counted, options_within}
+use Rattle.dhcp_wire.specs.private.Dhcpv4OptionsAhead.{after_kind, counted, options_within}
 
 -- a kind that data follows
 at_kind : (most kind : ℕ) (rest : List ℕ) → IsKind kind → options_within (suc most) (kind ∷ rest)

@@ -309,7 +309,8 @@ value-back v text c =
       renew_duration =
           (seconds-back v.renew_duration c.renew_duration ∙ back OPT_RENEWAL_TIME_VALUE (number_in 4) v more refl) i;
       rebind_duration =
-          (seconds-back v.rebind_duration c.rebind_duration ∙ back OPT_REBINDING_TIME_VALUE (number_in 4) v more refl) i;
+          (seconds-back v.rebind_duration c.rebind_duration
+          ∙ back OPT_REBINDING_TIME_VALUE (number_in 4) v more refl) i;
       additional_options = [];
     }
 
@@ -332,7 +333,8 @@ packet-read v rest c =
           (ethernet-additional v v.additional_options c.additional);
       message_type =
           ap (λ (op : ℕ). type_among op os) (operation-back v more)
-          ∙ last-options OPT_DHCP_MESSAGE_TYPE (type_in (opcode_number (operation_of v.message_type))) v refl c.additional
+          ∙ last-options OPT_DHCP_MESSAGE_TYPE (type_in (opcode_number (operation_of v.message_type))) v refl
+          c.additional
           ∙ type-back v.message_type c.message_type;
       value = value-back v more c;
     }

@@ -7,7 +7,7 @@ use Rattle.dhcp_wire.proofs.Words.{option, option_text, options_of, options_text
 use Rattle.dhcp_wire.proofs.Words.{slots_of, step_all, step_slot, subst, sym, texts_before, true}
 use Rattle.std.proofs.lemmas.Bool.Decides.{nat_tests}
 use Rattle.dhcp_wire.specs.declared.dhcpv4.options.DhcpOptionWriter.{DhcpOptionWriter}
-use Rattle.dhcp_wire.specs.Dhcpv4Writing.{Progress, at, fitted, step, slot_step, steps}
+use Rattle.dhcp_wire.specs.private.Dhcpv4Writing.{Progress, at, fitted, step, slot_step, steps}
 use Rattle.dhcp_wire.specs.Dhcpv4Writer.{Fits, IsUnchanged, settled, free}
 
 -- ---- after a refusal

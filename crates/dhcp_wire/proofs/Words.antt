@@ -25,13 +25,14 @@ unfoldable pub use Rattle.dhcp_wire.specs.Dhcpv4Format.{texts_before}
 pub use Rattle.dhcp_wire.specs.Dhcpv4OptionDisplay.{character}
 pub use Rattle.dhcp_wire.specs.Dhcpv4OptionValue.{first_address}
 unfoldable pub use Rattle.dhcp_wire.specs.Dhcpv4OptionValue.{addresses_in}
-pub use Rattle.dhcp_wire.specs.Dhcpv4Options.{HasNoPadding, IsKind, OptionValue, Options, ended, goes_on, lone, none}
+pub use Rattle.dhcp_wire.specs.Dhcpv4Options.{IsKind, OptionValue, Options, ended, goes_on, lone, none}
+pub use Rattle.dhcp_wire.specs.private.Parts.{HasNoPadding}
 pub use Rattle.dhcp_wire.specs.Dhcpv4Options.{option, option_text, padded, torn, value_of_option}
-pub use Rattle.dhcp_wire.specs.Dhcpv4OptionsAhead.{list_of}
+pub use Rattle.dhcp_wire.specs.private.Dhcpv4OptionsAhead.{list_of}
 pub use Rattle.dhcp_wire.specs.Dhcpv4Packet.{HasNoZero, IsTextIn, ethernet_type, inner, op_field, options_in}
 pub use Rattle.dhcp_wire.specs.Dhcpv4Refusal.{Ends, IsFirstOther, last_type}
-pub use Rattle.dhcp_wire.specs.Dhcpv4Writing.{WritesOptions}
-unfoldable pub use Rattle.dhcp_wire.specs.Dhcpv4Writing.{progress, step_all, step_slot}
+pub use Rattle.dhcp_wire.specs.private.Dhcpv4Writing.{WritesOptions}
+unfoldable pub use Rattle.dhcp_wire.specs.private.Dhcpv4Writing.{progress, step_all, step_slot}
 pub use Rattle.wirebase.proofs.Chains.{lent, over-puts, put-append, put-fields, whole-sheet}
 pub use Rattle.wirebase.proofs.Format.{IsFormat, rewrites, round_trips, same_text}
 pub use Rattle.wirebase.proofs.LastOf.{or-assoc, or-none}

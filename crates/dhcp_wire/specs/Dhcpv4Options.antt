@@ -42,10 +42,6 @@ pub data Options : List ℕ → List OptionValue → Type 0 where
       → Options rest options
       → bytes ≡ option_text o ++ rest → Options bytes (o ∷ options)
 
--- the bytes don't begin with padding
-abbrev pub HasNoPadding : List ℕ → Type 0
-HasNoPadding bytes = (rest : List ℕ) → bytes ≢ 0 ∷ rest
-
 -- a call of `next` gives the first option and takes it off; where none is left it gives None, and none is left
 -- afterwards
 abbrev pub GivesFirst : List OptionValue → Option DhcpOption → List OptionValue → Type 0

@@ -5,10 +5,9 @@ pub mod Dhcpv4OptionDisplay
 pub mod Dhcpv4OptionTable
 pub mod Dhcpv4OptionValue
 pub mod Dhcpv4Options
-pub mod Dhcpv4OptionsAhead
 pub mod Dhcpv4Packet
 pub mod Dhcpv4Refusal
 pub mod Dhcpv4Tables
 pub mod Dhcpv4Writer
-pub mod Dhcpv4Writing
 pub mod Words
+pub mod private

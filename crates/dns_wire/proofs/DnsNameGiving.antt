@@ -3,7 +3,7 @@ use Rattle.dns_wire.proofs.Words.{◌≡◌, ◌<◌, [], ◌∷◌, ◌∙◌, 
 use Rattle.dns_wire.proofs.Words.{Result, Some, Walk, ℕ, after_first, answer_of, ap, arith, at_end, false, is_ending}
 use Rattle.dns_wire.proofs.Words.{refl, slice_get}
 use Rattle.std.specs.Iterator.{MakesProgress, at_most}
-use Rattle.dns_wire.specs.DnsNameWalk.{items_in}
+use Rattle.dns_wire.specs.private.Parts.{items_in}
 
 -- A call that gives an item: it was the first answer to come, and the rest follows.
 pub gives_item : (old : Walk) (result : Option (Result (Bor (List ℕ)) Error)) (n : ℕ) (ahead : List Coming)

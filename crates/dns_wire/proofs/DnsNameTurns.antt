@@ -5,7 +5,7 @@ use Rattle.dns_wire.proofs.Words.{drop_at, eqb, false, front_of, inl, inr, label
 use Rattle.dns_wire.proofs.Words.{length-drop, length-take-le, lt-ltb, ltb, ne_eqb, pointer, refl, stop, suc, sym, take}
 use Rattle.dns_wire.proofs.Words.{take-append-drop, take_at, torn, true, whole, zero}
 use Rattle.std.proofs.lemmas.Bool.{ltb-true, ltb-false, eqb-true, eqb-false}
-use Rattle.dns_wire.specs.DnsNameAhead.{pointer_at}
+use Rattle.dns_wire.specs.private.DnsNameAhead.{pointer_at}
 
 -- which way a test went
 pub chosen : {A : Type 0} (b : Bool) (x y z : A) → cond b x y ≡ z → ((b ≡ true) × (x ≡ z)) ⊎ ((b ≡ false) × (y ≡ z))

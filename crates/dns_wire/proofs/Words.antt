@@ -11,8 +11,9 @@ pub use Rattle.byteorder.specs.Endian.{big_bytes}
 pub use Rattle.dns_wire.specs.DnsDisplay.{names_set}
 pub use Rattle.dns_wire.specs.DnsName.{Follows, HasPath, HaveParts, IsBrokenPath, IsCompletePath, IsFront, IsLabel}
 pub use Rattle.dns_wire.specs.DnsName.{IsMark, IsPart, Stop, ends, goes_on, joined, last_window, windows, written}
-pub use Rattle.dns_wire.specs.DnsNameAhead.{NamePart, ahead_of, by_front, front_of, pointer, stop, torn, whole}
-unfoldable pub use Rattle.dns_wire.specs.DnsNameAhead.{answers}
+pub use Rattle.dns_wire.specs.DnsNameAhead.{NamePart, pointer, stop, torn, whole}
+pub use Rattle.dns_wire.specs.private.DnsNameAhead.{ahead_of, by_front, front_of}
+unfoldable pub use Rattle.dns_wire.specs.private.DnsNameAhead.{answers}
 pub use Rattle.dns_wire.specs.DnsNameWalk.{Coming, GivesFirst, Walk, after_first, answer_of, at_end, at_fault}
 pub use Rattle.dns_wire.specs.DnsNameWalk.{broken_name, in_window, in_windows, is_ending, label, whole_name}
 pub use Rattle.dns_wire.specs.DnsPacket.{flags_in, opcode_in}

@@ -5,14 +5,12 @@ use Rattle.std.specs.Int.Bits.{bit_and}
 use Rattle.dns_wire.specs.Words.{Opcode, Rcode, number_of, pieces}
 use Rattle.wirebase.specs.Ipv4 as ipv4
 use Rattle.wirebase.specs.Ipv6Address as ipv6
-use Rattle.dns_wire.specs.DnsTables.{opcode_number, opcode_of, rcode_number, rcode_of, type_number, flag_bits}
+use Rattle.dns_wire.specs.DnsTables.{opcode_number, opcode_of, rcode_number, rcode_of, type_number}
 use Rattle.dns_wire.specs.DnsPacket.{id_field, flags_field, question_count_field, answer_count_field}
 use Rattle.dns_wire.specs.DnsPacket.{authority_count_field, additional_count_field, flags_in, opcode_in, rcode_in}
 use Rattle.dns_wire.specs.DnsQuestion.{QuestionValue}
 use Rattle.dns_wire.specs.DnsRecord.{DataValue, address4, address6, canonical_name, other, RecordValue}
 use Rattle.dns_wire.specs.DnsRepr.{QueryValue}
-use Rattle.dns_wire.specs.declared.dns.display.Counts.{Counts}
-use Rattle.dns_wire.specs.declared.dns.display.Header.{Header}
 use Rattle.dns_wire.specs.declared.dns.tables.Type.{«Type» as RecordType}
 
 -- ---- numbers
@@ -133,24 +131,6 @@ pub record HeaderValue : Type 0 where
   pub flags : ℕ
   pub outcome : Rcode
   pub counts : CountsValue
-
--- the contents of the values that the library prints
-abbrev pub counts_value : Counts → CountsValue
-counts_value counts = record {
-  questions = counts.questions;
-  answers = counts.answers;
-  authorities = counts.authorities;
-  additionals = counts.additionals;
-}
-
-abbrev pub header_value : Header → HeaderValue
-header_value header = record {
-  id = header.id;
-  kind = header.opcode;
-  flags = flag_bits header.flags;
-  outcome = header.rcode;
-  counts = counts_value header.counts;
-}
 
 -- the header that the octets of a message begin with
 abbrev pub counts_in : List ℕ → CountsValue

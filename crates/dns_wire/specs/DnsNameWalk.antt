@@ -51,11 +51,6 @@ pub record GivesFirst (old : Walk) (result : Option (Result (Bor (List ℕ)) Err
   pub first : slice_get old.ahead 0 ≡ Some (record { answer = answer_of result; steps = new.steps })
   pub rest : new.ahead ≡ after_first old.ahead
 
--- how many answers come before the end
-abbrev pub items_in : List Coming → ℕ
-items_in [] = 0
-items_in (c ∷ cs) = if is_ending c.answer then 0 else items_in cs + 1
-
 -- these labels come, and then the end
 abbrev pub Gives : List Coming → List (List ℕ) → Type 0
 Gives [] labels = ⊥

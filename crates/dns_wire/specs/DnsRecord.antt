@@ -48,7 +48,8 @@ abbrev pub IsData : RecordType → List ℕ → DataValue → Type 0
 IsData t bytes (address4 address) = (t ≡ RecordType.A) × (length bytes ≡ 4) × (ipv4.octets_of address ≡ bytes)
 IsData t bytes (address6 address) = (t ≡ RecordType.Aaaa) × (length bytes ≡ 16) × (ipv6.octets_of address ≡ bytes)
 IsData t bytes (canonical_name name) = (t ≡ RecordType.Cname) × (name ≡ bytes)
-IsData t bytes (other u rest) = (t ≢ RecordType.A) × (t ≢ RecordType.Aaaa) × (t ≢ RecordType.Cname) × (u ≡ t) × (rest ≡ bytes)
+IsData t bytes (other u rest) = (t ≢ RecordType.A) × (t ≢ RecordType.Aaaa) × (t ≢ RecordType.Cname) × (u ≡ t)
+    × (rest ≡ bytes)
 
 -- a record by its content; the time to live is in seconds
 pub record RecordValue : Type 0 where

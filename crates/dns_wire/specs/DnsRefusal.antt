@@ -82,7 +82,8 @@ BeginsWithRecord bytes = (value : RecordValue) × (rest : List ℕ) × IsRecord 
 abbrev pub name_refusal_display : NameRefusal → List ℕ
 name_refusal_display NameRefusal.NoEnd = codes "the name has no end"
 name_refusal_display NameRefusal.LabelCut = codes "a label is cut"
-name_refusal_display (NameRefusal.LabelType n) = pieces (decimal n ∷ codes " is neither the length of a label nor a pointer" ∷ [])
+name_refusal_display (NameRefusal.LabelType n) = pieces (decimal n
+    ∷ codes " is neither the length of a label nor a pointer" ∷ [])
 name_refusal_display NameRefusal.PointerCut = codes "a pointer is cut"
 name_refusal_display (NameRefusal.Pointer place) =
     pieces (codes "a pointer to byte " ∷ decimal place ∷ codes " does not lead back" ∷ [])

@@ -10,3 +10,4 @@ pub mod DnsRefusal
 pub mod DnsRepr
 pub mod DnsTables
 pub mod Words
+pub mod private

@@ -100,12 +100,14 @@ pub run-more : (options : Options) (start left : Option (List ℕ)) (s : State) 
     → GainsSome flushed later (λ text. PacketPrints options r.number (packet_of r octets) text outcome)
     → new_tally ≡ counted outcome r.link_type (length octets) tally
     → IfSome start (λ all. SoFar options all remaining new count first new_tally before later)
-run-more options None left s n first tally before now flushed later remaining r octets new count outcome new_tally so_far
+run-more options None left s n first tally before now flushed later remaining r octets new count outcome new_tally
+    so_far
     wrote gives order shows counts = tt
 run-more options (Some all) left s n first tally before now flushed later remaining r octets new count outcome new_tally
     so_far wrote gives order shows counts =
     rw counts
-    (so_far-more options all left s n first tally before now so_far r octets new count remaining later outcome gives order
+    (so_far-more options all left s n first tally before now so_far r octets new count remaining later outcome gives
+    order
     (shows.0, shows.1, gains_both now flushed later [] shows.0 wrote shows.2))
 
 pub run-end : (options : Options) (start left : Option (List ℕ)) (s : State) (n : ℕ) (first tally : TallyValue)

@@ -7,7 +7,8 @@ use Rattle.std.specs.Prelude.{◌==◌, ◌&&◌, if◌then◌else◌, map}
 use Rattle.std.specs.Io.BufRead.{take_through, drop_through, strip_last}
 use Rattle.std.specs.Io.KnownBytes.{Keeps}
 use Rattle.dump_lines.specs.Lines.{before_first}
-use Rattle.dump_lines.specs.BufferedLines.{IsFirst, ShowsFirst}
+use Rattle.dump_lines.specs.BufferedLines.{IsFirst}
+use Rattle.dump_lines.specs.private.Parts.{ShowsFirst}
 use Rattle.dump_lines.proofs.Parts.{strip_last-more}
 use Rattle.dump_lines.specs.Listing.{Shape, line_shape, lines_of, shapes_of, is_known, are_known, LinePrints}
 use Rattle.dump_lines.specs.Listing.{LinesPrint}

@@ -4,7 +4,8 @@ use Rattle.std.proofs.Common.{sym, ne_eqb}
 use Rattle.std.specs.List.{list_all}
 use Rattle.std.specs.Prelude.{◌==◌, ◌&&◌, if◌then◌else◌, bytes_eq, is_some}
 use Rattle.hex.specs.Hex.{hex_digit_value, is_hex_digit}
-use Rattle.dump_lines.specs.Words.{address_of, is_length, with_octet, spelled_by, word_of}
+use Rattle.dump_lines.specs.Words.{address_of, with_octet, spelled_by, word_of}
+use Rattle.dump_lines.specs.private.Parts.{is_length}
 
 -- one octet that is not a digit, among two or among those after them
 bad_pair : (a b : Option ℕ) (rest : Option (List ℕ)) (others : Bool)

@@ -12,7 +12,8 @@ use Rattle.std.specs.Prelude.{◌==◌, ◌||◌, ◌⊎◌, nat_lt, if◌then�
 use Rattle.std.specs.Io.KnownBytes.{Consumes, IsAtEnd}
 use Rattle.std.specs.Io.BufRead.{strip_last, take_through, drop_through}
 use Rattle.dump_lines.specs.Listing.{Shape, bad, line_shape}
-use Rattle.dump_lines.specs.PartialLines.{IsFresh, IsFront, IsKept, NextLine, Takes, TakesPart, shape_from}
+use Rattle.dump_lines.specs.PartialLines.{IsFresh, IsFront, IsKept, NextLine, shape_from}
+use Rattle.dump_lines.specs.private.Parts.{Takes, TakesPart}
 use Rattle.dump_lines.specs.declared.partial_line.Line.{Line}
 use Rattle.dump_lines.proofs.Keeping.{both_bad, spaces_skipped, front_bad, front_more, long_bad}
 use Rattle.dump_lines.proofs.Parts.{Free, strip_last-append, strip_last-free}

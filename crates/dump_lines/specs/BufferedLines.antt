@@ -1,8 +1,7 @@
 -- What one look at an input finds of its next line.
-use Rattle.std.specs.Prelude.{◌≡◌, ◌≢◌, ℕ, Bool, List, [], Option, None, Some}
+use Rattle.std.specs.Prelude.{◌≡◌, ◌≢◌, ℕ, List, [], Option, Some}
 use Rattle.std.specs.Io.BufRead.{strip_last, take_through, drop_through}
-use Rattle.dump_lines.specs.Listing.{Shape, LinePrints, is_known, line_shape}
-use Rattle.listing.specs.Output.{Gains, GainsSome}
+use Rattle.dump_lines.specs.Listing.{Shape, line_shape}
 use Rattle.dump_lines.specs.Shapes.{seen}
 use Rattle.dump_lines.specs.declared.buffered_line.BufferedLine.{BufferedLine}
 use Rattle.dump_lines.specs.declared.buffered_line.BufferedLine.TheVariants.{Line, Part, End}
@@ -19,9 +18,3 @@ abbrev pub Sees : List ℕ → Option (List ℕ) → BufferedLine → Type 0
 Sees octets left (Line shape) = IsFirst octets left (seen shape)
 Sees octets left Part = left ≡ Some octets
 Sees octets left End = octets ≡ []
-
--- the first line is taken, and what it prints is gained; or there was none, and nothing is
-abbrev pub ShowsFirst : List ℕ → Option (List ℕ) → Option (List ℕ) → Option (List ℕ) → Option Bool → Type 0
-ShowsFirst octets left before now (Some known) =
-    (shape : Shape) × IsFirst octets left shape × (known ≡ is_known shape) × GainsSome before now (LinePrints shape)
-ShowsFirst octets left before now None = (octets ≡ []) × Gains before now []

@@ -1,7 +1,6 @@
 -- How a line is read: octets are taken a part at a time, and what is kept of them has the shape that the line has.
-use Rattle.std.specs.Prelude.{◌≡◌, ◌≢◌, ℕ, ◌*◌, ◌≤◌, ◌⊎◌, Bool, true, false, if◌then◌else◌, List, [], ◌∷◌, ◌++◌, All}
-use Rattle.std.specs.Prelude.{OnSome, length, Option, Some}
-use Rattle.std.specs.Io.KnownBytes.{Consumes, IsAtEnd}
+use Rattle.std.specs.Prelude.{◌≡◌, ◌≢◌, ℕ, ◌*◌, ◌≤◌, Bool, true, false, if◌then◌else◌, List, [], ◌++◌, All, length}
+use Rattle.std.specs.Prelude.{Option, Some}
 use Rattle.std.specs.Io.BufRead.{strip_last, take_through, drop_through}
 use Rattle.dump_lines.specs.Lines.{words_in}
 use Rattle.dump_lines.specs.Listing.{Shape, bad, line_shape}
@@ -14,10 +13,6 @@ shape_from line rest = if line.is_bad then bad else line_shape (line.octets.item
 -- nothing is read
 pub record IsFresh (line : Line) : Type 0 where
   pub shape : (rest : List ℕ) → shape_from line rest ≡ line_shape rest
-
--- octets were read: whatever follows, the shape is what it was
-pub record Takes (old new : Line) (octets : List ℕ) : Type 0 where
-  pub shape : (rest : List ℕ) → shape_from old (octets ++ rest) ≡ shape_from new rest
 
 -- octets after which a word begins: this many words, whatever follows, and no CR at the end
 pub record IsFront (front : List ℕ) (n : ℕ) : Type 0 where
@@ -45,15 +40,3 @@ NextLine octets left line true =
     × (shape_from line [] ≡ line_shape (strip_last 10 (take_through 10 octets)))
     × (left ≡ Some (drop_through 10 octets))
 NextLine octets left line false = octets ≡ []
-
--- a part of a line was taken off what a reader had left: octets of the line, and after them its LF where it has ended,
--- or nothing where nothing is left
-pub record TakesPart (old new : Option (List ℕ)) (before behind : Line) (count : ℕ) (ended : Bool) : Type 0 where
-  pub text : List ℕ
-  pub last : List ℕ
-  pub takes : Takes before behind text
-  pub free : All (λ octet. octet ≢ 10) text
-  pub consumed : Consumes old new (text ++ last)
-  pub counted : count ≡ length (text ++ last)
-  pub goes_on : ended ≡ false → last ≡ []
-  pub ends : ended ≡ true → (last ≡ 10 ∷ []) ⊎ ((text ++ last ≡ []) × OnSome old (IsAtEnd new))

@@ -3,7 +3,7 @@
 ghost use Rattle.std.specs.Prelude.{◌≡◌, [], IfOk, OnOk, IfSome};
 ghost use Rattle.std.specs.Io.Buffered.{reader_remaining};
 ghost use Rattle.listing.specs.Output.{Gains, GainsSome};
-ghost use Rattle.dump_lines.specs.BufferedLines.{ShowsFirst};
+ghost use Rattle.dump_lines.specs.private.Parts.{ShowsFirst};
 ghost use Rattle.dump_lines.specs.Listing.{LinesPrint, are_known, shapes_of};
 ghost use Rattle.dump_lines.specs.Status.{status_of};
 

@@ -7,7 +7,8 @@ ghost use Rattle.std.specs.Prelude.{◌≡◌, ◌≢◌, ◌≤◌, ◌⊎◌, 
 ghost use Rattle.std.specs.Prelude.{◌↔◌, IsOk, Option};
 ghost use Rattle.std.specs.IoError.{error_kind};
 ghost use Rattle.std.specs.Io.KnownBytes.{Consumes, IsAtEnd};
-ghost use Rattle.dump_lines.specs.PartialLines.{IsFresh, IsKept, NextLine, Takes, TakesPart, shape_from};
+ghost use Rattle.dump_lines.specs.PartialLines.{IsFresh, IsKept, NextLine, shape_from};
+ghost use Rattle.dump_lines.specs.private.Parts.{Takes, TakesPart};
 ghost use Rattle.dump_lines.specs.Shapes.{seen};
 
 use crate::Fault;

@@ -5,7 +5,8 @@ ghost use Rattle.std.specs.Prelude.{vec_len};
 ghost use Rattle.std.specs.List.{list_all};
 ghost use Rattle.hex.specs.Hex.{is_hex_digit};
 ghost use Rattle.dump_lines.specs.Lines.{words_in};
-ghost use Rattle.dump_lines.specs.Words.{address_of, is_length, offset_of, word_of};
+ghost use Rattle.dump_lines.specs.Words.{address_of, offset_of, word_of};
+ghost use Rattle.dump_lines.specs.private.Parts.{is_length};
 
 use crate::Fault;
 use crate::hex_digits::{are_digits, decode, decode_front};

@@ -4,7 +4,8 @@ use Rattle.std.specs.Str.{str_to_ascii_lowercase}
 use Rattle.control_wire.specs.ErrorType.{Error}
 use Rattle.control_wire.specs.DnsNameWalk.{Coming, Walk, label, fault, ending, answer_of, GivesFirst, Gives}
 use Rattle.control_wire.proofs.DnsNameLabels.{none_at_end, end_at_none, label_before, label_first, same_no_fault}
-use Rattle.examples.specs.Resolver.{lowered, GivesLabel}
+use Rattle.examples.specs.Resolver.{lowered}
+use Rattle.examples.specs.private.Parts.{GivesLabel}
 
 -- labels that are equal in both names follow, and then the end
 pub record GiveSameName (left right : List Coming) : Type 0 where

@@ -5,12 +5,10 @@ use Rattle.std.specs.Str.{str_to_ascii_lowercase}
 use Rattle.control_wire.specs.Bytes.{Reaches, number_of}
 use Rattle.control_wire.specs.DnsTables.{opcode_of, rcode_of}
 use Rattle.control_wire.specs.DnsPacket.{id_field, flags_field, question_count_field, answer_count_field, header}
-use Rattle.control_wire.specs.DnsPacket.{payload_in}
-use Rattle.control_wire.specs.DnsPacket.{flags_in, opcode_in, rcode_in}
+use Rattle.control_wire.specs.DnsPacket.{payload_in, flags_in, opcode_in, rcode_in}
 use Rattle.control_wire.specs.DnsName.{IsName}
-use Rattle.control_wire.specs.DnsNameWalk.{Answer, label}
 use Rattle.control_wire.specs.DnsQuestion.{IsQuestion}
-use Rattle.control_wire.specs.DnsRecord.{DataValue, address4, address6, canonical_name, other, RecordValue, IsRecord}
+use Rattle.control_wire.specs.DnsRecord.{DataValue, address4, address6, canonical_name, RecordValue, IsRecord}
 use Rattle.control_wire.specs.DnsRepr.{QueryValue}
 use Rattle.control_wire.specs.DnsOpcodeType.TheVariants as opcode
 use Rattle.control_wire.specs.DnsRcodeType.{Rcode}
@@ -22,8 +20,6 @@ use Rattle.examples.specs.declared.resolver.AddressRecord.{AddressRecord}
 use Rattle.examples.specs.declared.resolver.Answers.{Answers}
 use Rattle.examples.specs.declared.resolver.Response.{Response}
 use Rattle.examples.specs.declared.resolver.Response.TheVariants.{Whole, Truncated, Failed}
-use Rattle.examples.specs.declared.resolver.Turn.{Turn}
-use Rattle.examples.specs.declared.resolver.Turn.TheVariants.{Found, Sought}
 
 -- ---- the query
 
@@ -50,11 +46,6 @@ pub record AreSameName (message a b : List ℕ) : Type 0 where
   pub left_is : IsName a message left
   pub right_is : IsName b message right
   pub same : lowered left ≡ lowered right
-
--- a walk gave a label that is this one, letters in either case
-abbrev pub GivesLabel : Answer → List ℕ → Type 0
-GivesLabel answer bytes =
-    (given : List ℕ) × (answer ≡ label given) × (str_to_ascii_lowercase given ≡ str_to_ascii_lowercase bytes)
 
 -- ---- the response
 
@@ -131,10 +122,6 @@ search_of answers = record { name = answers.name.now; left = answers.left; bytes
 pub data TurnValue : Type 0 where
   found : AddressRecord → TurnValue
   sought : List ℕ → TurnValue
-
-abbrev pub turn_of : Turn → TurnValue
-turn_of (Found one) = found one
-turn_of (Sought name) = sought name.now
 
 -- A record of the name gives its address, where it has the type that was asked for, or the name of which it is an
 -- alias.

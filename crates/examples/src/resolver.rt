@@ -13,7 +13,8 @@ ghost use Rattle.control_wire.specs.DnsRecord.{value_of};
 ghost use Rattle.control_wire.specs.DnsRepr.{text as message_text, text_len, IsCanonical, IsQuery};
 ghost use Rattle.examples.specs.declared.resolver.AddressRecord.{AddressRecord};
 ghost use Rattle.examples.specs.Resolver.{query_for, AreSameName, Asks, Responds, IsResponse, AreAnswers, Tells};
-ghost use Rattle.examples.specs.Resolver.{Search, search_of, turn_of, Says, Finds, GivesLabel};
+ghost use Rattle.examples.specs.Resolver.{Search, search_of, Says, Finds};
+ghost use Rattle.examples.specs.private.Parts.{turn_of, GivesLabel};
 ghost use Rattle.record_wire.specs.Labels.{wire};
 ghost use Rattle.record_wire.specs.NameText.{IsNameText};
 

@@ -9,7 +9,8 @@ pub use Rattle.byteorder.specs.Endian.{big_bytes, big_number}
 pub use Rattle.frame_wire.specs.Addresses.{sum_before}
 pub use Rattle.frame_wire.specs.Captured.{cut}
 pub use Rattle.frame_wire.specs.Datagram.{Passes, next_header_in}
-pub use Rattle.frame_wire.specs.Link.{IsTagged, typed_of, value_of}
+pub use Rattle.frame_wire.specs.Link.{IsTagged, value_of}
+pub use Rattle.frame_wire.specs.private.Parts.{typed_of}
 unfoldable pub use Rattle.frame_wire.specs.LinkVlans.{tags_in}
 pub use Rattle.frame_wire.specs.Udp.{BeginsWhole, HasChecksum, checksum_field, dst_port_field, len_in, payload_field}
 pub use Rattle.frame_wire.specs.Udp.{src_port_field, view_octets}

@@ -54,7 +54,8 @@ RefusesOpen4 bytes _ = ⊥
 abbrev pub RefusesCaptured4 : List ℕ → Refusal → Type 0
 RefusesCaptured4 bytes (Refusal.TotalLen n) = Refuses4 bytes (Refusal.TotalLen n) × (n ≢ 0)
 RefusesCaptured4 bytes (Refusal.Cut head) = RefusesOpen4 bytes (Refusal.Cut head)
-RefusesCaptured4 bytes (Refusal.Fragment head) = Refuses4 bytes (Refusal.Fragment head) ⊎ RefusesOpen4 bytes (Refusal.Fragment head)
+RefusesCaptured4 bytes (Refusal.Fragment head) = Refuses4 bytes (Refusal.Fragment head)
+    ⊎ RefusesOpen4 bytes (Refusal.Fragment head)
 RefusesCaptured4 bytes refusal = Refuses4 bytes refusal
 
 -- ---- IPv6

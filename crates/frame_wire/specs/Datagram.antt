@@ -111,10 +111,6 @@ pub record HasAtomic (bytes : List ℕ) : Type 0 where
   pub offset : number_of (field 2 4) bytes / 8 ≡ 0
   pub last : number_of (field 2 4) bytes % 2 ≡ 0
 
--- a header that is passed
-abbrev pub IsPassed : IpProtocol → List ℕ → Type 0
-IsPassed p bytes = IsExtension p ⊎ ((p ≡ IpProtocol.Ipv6Frag) × HasAtomic bytes)
-
 -- the end of a header
 pub data EndsAt (p : IpProtocol) (bytes : List ℕ) (end : ℕ) : Type 0 where
   extension : IsExtension p → HasExtension bytes → end ≡ extension_end bytes → EndsAt p bytes end

@@ -12,3 +12,4 @@ pub mod UdpCaptured
 pub mod UdpRefusal
 pub mod UdpText
 pub mod Words
+pub mod private

@@ -4,7 +4,6 @@ use Rattle.std.specs.Prelude.{if◌then◌else◌, length, nat_lt, slice_index, 
 use Rattle.frame_wire.specs.Words.{Link, Network, field, number_of, part}
 use Rattle.byteorder.specs.Endian.{little_number}
 use Rattle.frame_wire.specs.declared.link.Frame.{Frame}
-use Rattle.frame_wire.specs.declared.link.Typed.{Typed}
 use Rattle.wirebase.specs.Numbered.{case_in}
 
 -- a frame by its content: its tags are four bytes each
@@ -43,9 +42,6 @@ pub record TypedValue : Type 0 where
   pub type : ℕ
   pub tags : List ℕ
   pub payload : List ℕ
-
-abbrev pub typed_of : Typed → TypedValue
-typed_of t = record { type = t.kind; tags = t.tags.now; payload = t.payload.now }
 
 -- ---- PPP (RFC 1661 section 2, RFC 1662 section 3.1)
 
@@ -95,7 +91,8 @@ network_of_version n = case_in Network.Other ((Network.Ipv4, 4) ∷ (Network.Ipv
 
 -- the network of an address family: those of Linux, NetBSD, FreeBSD and Darwin
 abbrev pub network_of_family : ℕ → Network
-network_of_family n = case_in Network.Other ((Network.Ipv4, 2) ∷ (Network.Ipv6, 10) ∷ (Network.Ipv6, 24) ∷ (Network.Ipv6, 28) ∷ (Network.Ipv6, 30) ∷ []) n
+network_of_family n = case_in Network.Other ((Network.Ipv4, 2) ∷ (Network.Ipv6, 10) ∷ (Network.Ipv6, 24)
+    ∷ (Network.Ipv6, 28) ∷ (Network.Ipv6, 30) ∷ []) n
 
 -- the bytes are a datagram of IP of either version
 pub record IsRaw (bytes : List ℕ) (v : FrameValue) : Type 0 where

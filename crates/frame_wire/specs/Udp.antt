@@ -61,7 +61,8 @@ pub record BeginsWhole (bytes : List ℕ) : Type 0 where
 
 -- the datagram at the start of the bytes carries its checksum
 abbrev pub IsVerified : Addresses → List ℕ → Type 0
-IsVerified addresses bytes = IsGood (bytes_of (whole_field bytes) bytes) (sum_before addresses IpProtocol.Udp (len_in bytes))
+IsVerified addresses bytes = IsGood (bytes_of (whole_field bytes) bytes) (sum_before addresses IpProtocol.Udp (len_in
+    bytes))
 
 -- a checksum that holds and is not 0, which means that there is none (RFC 768)
 abbrev pub IsSealed : Addresses → List ℕ → Type 0

@@ -8,7 +8,8 @@ ghost use Rattle.wirebase.specs.Ipv6.{dst_addr_field};
 ghost use Rattle.wirebase.specs.Ipv6Address.{octets_of};
 ghost use Rattle.frame_wire.specs.Addresses.{sum_before, IsV4};
 ghost use Rattle.frame_wire.specs.Datagram.{value_of, IsDatagram4, Refuses4, IsHead4, IsDatagram6, Refuses6, IsHead6};
-ghost use Rattle.frame_wire.specs.Datagram.{IsExtension, HasExtension, HasAtomic, IsPassed, EndsAt, IsHeaded6};
+ghost use Rattle.frame_wire.specs.Datagram.{IsExtension, HasExtension, HasAtomic, EndsAt, IsHeaded6};
+ghost use Rattle.frame_wire.specs.private.Parts.{IsPassed};
 ghost use Rattle.frame_wire.specs.Datagram.{options_of, routed, Routes, Passes, LeadsToTorn, RefusesBehind6};
 ghost use Rattle.frame_wire.specs.Datagram.{next_header_in, HasHeader4};
 

@@ -2,7 +2,8 @@
 
 ghost use Rattle.std.specs.Prelude.{◌≡◌, ◌<◌, ◌≤◌, ◌↔◌, ◌+◌, ◌*◌, ◌/◌, ◌%◌, [], IfOk, IfErr, IsOkAnd, IsTrue, length};
 ghost use Rattle.std.specs.Prelude.{drop, take, slice_index};
-ghost use Rattle.frame_wire.specs.Link.{FrameValue, value_of, network_of_type, IsTagType, TypedValue, typed_of};
+ghost use Rattle.frame_wire.specs.Link.{FrameValue, value_of, network_of_type, IsTagType, TypedValue};
+ghost use Rattle.frame_wire.specs.private.Parts.{typed_of};
 ghost use Rattle.frame_wire.specs.Link.{IsTagged};
 ghost use Rattle.frame_wire.specs.Link.{network_of_protocol, IsProtocol, HasAddress, IsPpp, IsSession, IsPayload};
 ghost use Rattle.frame_wire.specs.Link.{IsTypedFrame, link_of, IsFrame, IsRaw, IsFamily, family_in, network_of_family};

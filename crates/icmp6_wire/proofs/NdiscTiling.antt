@@ -15,7 +15,7 @@ use Rattle.icmp6_wire.specs.Icmpv6Tables.{message_number, messages}
 use Rattle.icmp6_wire.specs.Ndisc.{NdiscValue, checks, IsContent, IsMessage}
 use Rattle.icmp6_wire.specs.NdiscBlocks.{IsBlock, AreBlocks, ends, goes_on, skips, source_in, target_in}
 use Rattle.icmp6_wire.specs.NdiscBlocks.{mtu_in, prefix_in, redirected_in}
-use Rattle.icmp6_wire.specs.NdiscOptionsSeen.{Kept, nothing, keep, Says, HasBlocks, Notes, noted, passed}
+use Rattle.icmp6_wire.specs.private.NdiscOptionsSeen.{Kept, nothing, keep, Says, HasBlocks, Notes, noted, passed}
 
 -- ---- blocks
 

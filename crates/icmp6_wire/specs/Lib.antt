@@ -18,3 +18,4 @@ pub mod NdiscPacket
 pub mod NdiscRefusal
 pub mod NdiscTables
 pub mod Words
+pub mod private

@@ -1,7 +1,7 @@
 -- The records of a report in turn, each with its sources and its auxiliary data (RFC 3810 section 5.2), and the sources
 -- of a record in turn.
-use Rattle.std.specs.Prelude.{◌≡◌, ℕ, zero, suc, ◌*◌, ◌/◌, min, nat_le, Bool, true, false, List}
-use Rattle.std.specs.Prelude.{[], ◌∷◌, ◌++◌, length, map, take, drop, Option, None, Some, Result, Ok, Err}
+use Rattle.std.specs.Prelude.{◌≡◌, ℕ, suc, ◌*◌, ◌/◌, min, List, [], ◌∷◌, ◌++◌, length, map, take, drop, Option, None}
+use Rattle.std.specs.Prelude.{Some, Result, Ok, Err}
 use Rattle.std.specs.List.{AllByRecursion, concat}
 use Rattle.icmp6_wire.specs.Words.{octets_of, Ipv6Address, AddressRecordRepr, RecordRefusal}
 use Rattle.icmp6_wire.specs.Mld.{MldValue, records}
@@ -33,20 +33,6 @@ GivesRecord old (Some (Ok one)) new =
     (bytes : List ℕ) × IsRecord bytes (value_of one) × (old ≡ Ok bytes ∷ new)
 GivesRecord old (Some (Err refusal)) new = old ≡ Err refusal ∷ new
 
--- the answers as they are computed, which the iterator's model needs; the reason depends on whether there are 20 bytes
-abbrev pub first_refusal : Bool → RecordRefusal
-first_refusal true = RecordRefusal.Cut
-first_refusal false = RecordRefusal.Short
-
-abbrev pub after_record : Bool → ℕ → List ℕ → (List ℕ → List Answer) → List Answer
-after_record true len bytes go = Ok (take len bytes) ∷ go (drop len bytes)
-after_record false len bytes go = Err (first_refusal (nat_le 20 (length bytes))) ∷ []
-
-unfoldable pub records_ahead : ℕ → List ℕ → List Answer
-records_ahead zero bytes = []
-records_ahead (suc n) bytes =
-    after_record (nat_le (record_len_in bytes) (length bytes)) (record_len_in bytes) bytes (records_ahead n)
-
 -- a record that counts neither sources nor auxiliary data, so that its fields are all of it
 abbrev pub IsBare : RecordValue → Type 0
 IsBare (address_record kind words sources group rest) = (words ≡ 0) × (sources ≡ 0)
@@ -72,12 +58,3 @@ pub record AreSources (count : ℕ) (bytes : List ℕ) (sources : List (List ℕ
 abbrev pub GivesSource : List (List ℕ) → Option Ipv6Address → List (List ℕ) → Type 0
 GivesSource old None new = (old ≡ []) × (new ≡ [])
 GivesSource old (Some address) new = old ≡ octets_of address ∷ new
-
--- the addresses as they are computed: a given number, of 16 bytes each
-unfoldable pub sources_ahead : ℕ → List ℕ → List (List ℕ)
-sources_ahead zero bytes = []
-sources_ahead (suc n) bytes = take 16 bytes ∷ sources_ahead n (drop 16 bytes)
-
--- those that the bytes hold whole
-abbrev pub sources_in : List ℕ → List (List ℕ)
-sources_in bytes = sources_ahead (length bytes / 16) bytes

@@ -14,18 +14,20 @@ pub use Rattle.wirebase.specs.Capabilities.{is_computed, is_verified, sealed_whe
 pub use Rattle.wirebase.specs.Checksum.{IsGood}
 unfoldable pub use Rattle.wirebase.specs.Checksum.{sealed}
 pub use Rattle.wirebase.specs.Display.{pieces, truth_text}
-pub use Rattle.wirebase.specs.Duration.{micros_of, millis_of, seconds_of, whole_millis, whole_seconds}
+pub use Rattle.wirebase.specs.Duration.{micros_of, millis_of, seconds_of, whole_seconds}
+pub use Rattle.wirebase.specs.private.Parts.{whole_millis}
 unfoldable pub use Rattle.wirebase.specs.Duration.{duration_text}
 pub use Rattle.wirebase.specs.Hexadecimal.{hex_colons}
 pub use Rattle.wirebase.specs.Format.{Format, Rewrites, RoundTrips, SameText}
 pub use Rattle.wirebase.specs.HardwareAddress.{raw_bytes}
-pub use Rattle.wirebase.specs.Icmp.{IsEcho, checksum_field, code_field, data_in, echo_fields, header, type_field}
+pub use Rattle.wirebase.specs.Icmp.{checksum_field, code_field, data_in, echo_fields, header, type_field}
+pub use Rattle.wirebase.specs.private.Parts.{IsEcho}
 pub use Rattle.wirebase.specs.Ip.{protocol_number, protocol_rows}
 pub use Rattle.wirebase.specs.Ipv6.{IsHeader, header_display, next_header_field}
 unfoldable pub use Rattle.wirebase.specs.Ipv6.{header_text, pseudo_sum}
 pub use Rattle.wirebase.specs.Ipv6Address.{IsMulticast, address_text, octets_of}
 pub use Rattle.wirebase.specs.LastOf.{last_of}
-unfoldable pub use Rattle.wirebase.specs.LastOf.{keep_all}
+unfoldable pub use Rattle.wirebase.specs.private.Parts.{keep_all}
 pub use Rattle.wirebase.specs.Numbered.{IsProper, case_in, rows_of}
 pub use Rattle.icmp6_wire.specs.declared.mld.record.AddressRecord.{AddressRecord}
 pub use Rattle.icmp6_wire.specs.declared.mld.record.AddressRecordRepr.{AddressRecordRepr}

@@ -8,7 +8,7 @@ use Rattle.dns_wire.specs.DnsPacket.{header}
 use Rattle.record_wire.specs.Entries.{EntryValue, Left, IsNext, IsBroken, RefusesEntry, section_at}
 use Rattle.listing.specs.ListingMessage.{header_listing, EntryPrints, EntriesPrint, is_listed, is_unread, MessagePrints}
 use Rattle.listing.specs.ListingMessage.{has_header, none_begins}
-use Rattle.listing.specs.ListingParts.{RefusesNext}
+use Rattle.listing.specs.private.ListingParts.{RefusesNext}
 use Rattle.listing.proofs.Printing.{gains_none, gains_both}
 
 module _ (margin : List ℕ) (is_multicast : Bool) (message : List ℕ) where

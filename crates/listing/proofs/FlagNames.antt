@@ -5,7 +5,7 @@ use Rattle.listing.proofs.Words.{take, true}
 use Rattle.std.proofs.lemmas.List.{take-take}
 use Rattle.std.proofs.Math.Seq.{take-append_seam}
 use Rattle.listing.specs.ListingMessage.{flag_names, has_bit, names_set, with_commas, flags_text}
-use Rattle.listing.specs.ListingParts.{each_behind}
+use Rattle.listing.specs.private.ListingParts.{each_behind}
 
 -- the first row's name where its bit is set, and then the others
 at_bit : (b : Bool) (name : List ℕ) (names : List (List ℕ))

@@ -28,7 +28,10 @@ calls_append contents a b (part ∷ parts) (next, first, more) =
 pub calls_gain : {W : Type 0} (contents : W → Option (List ℕ)) (a b : W) (text : List ℕ)
     → WritesInCalls (Appending contents) a text b → Gains (contents a) (contents b) text
 calls_gain contents a b text calls =
-    record { appends = subst (Appends (contents a) (contents b)) calls.whole (calls_append contents a b calls.parts calls.calls) }
+    record {
+      appends = subst (Appends (contents a) (contents b)) calls.whole (calls_append contents a b calls.parts
+          calls.calls);
+    }
 
 pub put : {W E : Type 0} (contents : W → Option (List ℕ)) (a b : W) (text : List ℕ)
     → PutsText {E = E} (Appending contents) a text (Ok tt) b → Gains (contents a) (contents b) text

@@ -14,7 +14,6 @@ pub mod ListingMessage
 pub mod ListingMld
 pub mod ListingNdisc
 pub mod ListingNdopt
-pub mod ListingParts
 pub mod ListingQuote
 pub mod ListingRecord
 pub mod ListingUnread
@@ -22,3 +21,4 @@ pub mod Output
 pub mod Page
 pub mod Ports
 pub mod Words
+pub mod private

@@ -22,7 +22,8 @@ question_line margin is_multicast q labels =
 
 abbrev pub record_line : List ℕ → Bool → Section → RecordValue → RecordTextValue → List ℕ
 record_line margin is_multicast section r value =
-    entry_line margin section (zone_line value) ++ line_end (is_multicast && flushes r.kind r.class) (codes "cache-flush")
+    entry_line margin section (zone_line value)
+    ++ line_end (is_multicast && flushes r.kind r.class) (codes "cache-flush")
 
 -- A question prints its line where its name reads, and else nothing.
 pub data QuestionPrints (margin : List ℕ) (is_multicast : Bool) (message : List ℕ) (q : QuestionValue) : List ℕ

@@ -11,7 +11,7 @@ ghost use Rattle.std.specs.Prelude.{◌≡◌, true, IfOk, IfSome, IsSome};
 ghost use Rattle.dns_wire.specs.DnsPacket.{view_octets, header as header_field};
 ghost use Rattle.wirebase.specs.Bytes.{Reaches};
 ghost use Rattle.record_wire.specs.Entries.{entry_of, all_of, record_in};
-ghost use Rattle.listing.specs.ListingParts.{RefusesNext};
+ghost use Rattle.listing.specs.private.ListingParts.{RefusesNext};
 ghost use Rattle.record_wire.specs.Record.{record_of};
 ghost use Rattle.listing.specs.ListingMessage.{MessagePrints, EntryPrints, EntriesPrint};
 ghost use Rattle.listing.specs.Output.{GainsSome};

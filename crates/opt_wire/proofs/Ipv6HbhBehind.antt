@@ -3,7 +3,7 @@ use Rattle.opt_wire.proofs.Words.{[], ◌++◌, ◌+◌, ◌∙◌, ◌∷◌, �
 use Rattle.opt_wire.proofs.Words.{add-one, ap, append-nil, append_assoc, arith, drop, length, length-append, length-map}
 use Rattle.opt_wire.proofs.Words.{map-append, none, refl, subst, suc, sym, take, take_at}
 use Rattle.opt_wire.specs.Ipv6Option.{text_len, BeginsWith}
-use Rattle.opt_wire.specs.Ipv6OptionModel.{answers_of}
+use Rattle.opt_wire.specs.private.Ipv6OptionModel.{answers_of}
 use Rattle.opt_wire.specs.Ipv6OptionRefusal as option
 use Rattle.opt_wire.specs.Ipv6HbhRefusal.{IsRead, AreBehind, one_more}
 use Rattle.opt_wire.proofs.Ipv6OptionTiles.{rest_after, tile_of, answers_of-nothing, answers_of-begins}

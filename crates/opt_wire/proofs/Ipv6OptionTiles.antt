@@ -5,7 +5,8 @@ use Rattle.opt_wire.proofs.Words.{false, goes_on, inl, inr, length, length-appen
 use Rattle.opt_wire.proofs.Words.{subst, suc, sum_by, sum_by-cons, sym, true, unknown, zero}
 use Rattle.opt_wire.specs.Ipv6Option.{text_len, BeginsWith}
 use Rattle.opt_wire.specs.Ipv6OptionRefusal.{IsBehind}
-use Rattle.opt_wire.specs.Ipv6OptionModel.{front_of, after_front, answers_within, answers_of, answers_to_come}
+use Rattle.opt_wire.specs.Ipv6OptionModel.{front_of}
+use Rattle.opt_wire.specs.private.Ipv6OptionModel.{after_front, answers_within, answers_of, answers_to_come}
 use Rattle.opt_wire.proofs.Ipv6OptionGrammar.{begins_with, front_of-begins, begins_with-unique}
 
 -- an option takes the bytes that it counts

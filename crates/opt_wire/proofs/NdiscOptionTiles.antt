@@ -6,9 +6,11 @@ use Rattle.opt_wire.proofs.Words.{suc, sym, take, take-append-drop, take_at, tru
 use Rattle.std.specs.Iterator.{MakesProgress, at_most}
 use Rattle.std.specs.Result.{IfErr}
 use Rattle.opt_wire.specs.NdiscOptionRepr.{value_of, BeginsWith}
-use Rattle.opt_wire.specs.NdiscOptionBlocks.{Answer, Tile, ends, goes_on, breaks, GivesOption, least_units, IsUnread}
-use Rattle.opt_wire.specs.NdiscOptionBlocks.{begins_with_block, reason_by, reason_of, after_block, blocks_within}
-use Rattle.opt_wire.specs.NdiscOptionBlocks.{blocks_of}
+use Rattle.opt_wire.specs.NdiscOptionBlocks.{Answer, Tile, ends, goes_on, breaks, GivesOption, IsUnread}
+use Rattle.opt_wire.specs.private.NdiscOptionBlocks.{least_units}
+use Rattle.opt_wire.specs.private.NdiscOptionBlocks.{begins_with_block, reason_by, reason_of, after_block}
+use Rattle.opt_wire.specs.private.NdiscOptionBlocks.{blocks_within}
+use Rattle.opt_wire.specs.private.NdiscOptionBlocks.{blocks_of}
 use Rattle.opt_wire.specs.NdiscOptionRefusal.{checks, Refuses}
 use Rattle.opt_wire.specs.declared.ndiscoption.refusal.Refusal.{Refusal}
 use Rattle.opt_wire.specs.declared.ndiscoption.repr.Repr.{Repr}

@@ -14,3 +14,4 @@ pub mod NdiscOptionRefusal
 pub mod NdiscOptionRepr
 pub mod NdiscOptionTables
 pub mod Words
+pub mod private

@@ -5,7 +5,7 @@ use Rattle.record_wire.proofs.Words.{first_byte, inl, inr, is_ascii_digit, is_as
 use Rattle.record_wire.proofs.Words.{leb, leb-true, length, length-append, ltb, ltb-true, not, numbered, quoted, refl}
 use Rattle.record_wire.proofs.Words.{sym, true}
 use Rattle.std.proofs.lemmas.Bool.{lt-ltb}
-use Rattle.record_wire.specs.NameReading.{quoted_in, numbered_at, three_digits}
+use Rattle.record_wire.specs.private.NameReading.{quoted_in, numbered_at, three_digits}
 
 -- which case a test took
 pub chosen : {A : Type 0} (b : Bool) (x y z : A) → cond b x y ≡ z → ((b ≡ true) × (x ≡ z)) ⊎ ((b ≡ false) × (y ≡ z))

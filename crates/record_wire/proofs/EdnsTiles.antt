@@ -73,7 +73,8 @@ option_shrinks bytes rest option is =
 why_at : (enough : Bool) → enough ≡ true → cond enough OptionRefusal.Data OptionRefusal.Fields ≡ OptionRefusal.Data
 why_at enough e = rw e refl
 
-why_short : (enough : Bool) → enough ≡ false → cond enough OptionRefusal.Data OptionRefusal.Fields ≡ OptionRefusal.Fields
+why_short : (enough : Bool) → enough ≡ false
+    → cond enough OptionRefusal.Data OptionRefusal.Fields ≡ OptionRefusal.Fields
 why_short enough e = rw e refl
 
 -- octets have one reason

@@ -4,9 +4,11 @@ use Rattle.record_wire.proofs.Words.{QuestionValue, RecordValue, Section, Some, 
 use Rattle.record_wire.proofs.Words.{sym}
 use Rattle.record_wire.specs.declared.refusal.Refusal.{Refusal}
 use Rattle.record_wire.specs.RecordRefusal.{RefusesQuestion, RefusesRecord}
-use Rattle.record_wire.specs.Entries.{EntryValue, IsEntry, HasEntry, RefusesEntry}
+use Rattle.record_wire.specs.Entries.{EntryValue, IsEntry, RefusesEntry}
+use Rattle.record_wire.specs.private.Entries.{HasEntry}
 
-pub as_question : {A : Type 0} (section : Section) (bytes rest : List ℕ) (value : EntryValue) → section ≡ Section.Question
+pub as_question : {A : Type 0} (section : Section) (bytes rest : List ℕ) (value : EntryValue)
+    → section ≡ Section.Question
     → ((q : QuestionValue) → value ≡ question q → IsQuestion bytes q rest → A) → IsEntry section bytes value rest → A
 as_question section bytes rest (question q) e f is = f q refl is.1
 as_question section bytes rest (record_in s r) e f is = absurd (is.0 e)
@@ -28,11 +30,13 @@ pub question_has : (section : Section) (bytes : List ℕ) → section ≡ Sectio
     → HasEntry section bytes
 question_has section bytes e (q, rest, asks) = (question q, rest, (e, asks))
 
-pub has_record : (section : Section) (bytes : List ℕ) → section ≢ Section.Question → HasEntry section bytes → HasRecord bytes
+pub has_record : (section : Section) (bytes : List ℕ) → section ≢ Section.Question → HasEntry section bytes
+    → HasRecord bytes
 has_record section bytes other (value, rest, is) =
     as_record section bytes rest value other (λ s r same section_is reads. (r, rest, reads)) is
 
-pub record_has : (section : Section) (bytes : List ℕ) → section ≢ Section.Question → HasRecord bytes → HasEntry section bytes
+pub record_has : (section : Section) (bytes : List ℕ) → section ≢ Section.Question → HasRecord bytes
+    → HasEntry section bytes
 record_has section bytes other (r, rest, reads) = (record_in section r, rest, (other, refl, reads))
 
 pub refuses_question : (section : Section) (bytes : List ℕ) (r : Option Refusal) → section ≡ Section.Question

@@ -3,7 +3,7 @@ use Rattle.record_wire.proofs.Words.{◌≡◌, ◌+◌, ◌-◌, ◌*◌, ◌/�
 use Rattle.record_wire.proofs.Words.{IsAscii-nil, List, MapValue, None, Some, ℕ, ap, arith, base64, byte_text, cond}
 use Rattle.record_wire.proofs.Words.{false, first_map, flat_map, leb, leb-true, map, map_text, maps_text}
 use Rattle.record_wire.proofs.Words.{number_at, refl, sym, true, types_text}
-use Rattle.record_wire.specs.NameReading.{first_octet, first_group}
+use Rattle.record_wire.specs.private.NameReading.{first_octet, first_group}
 use Rattle.record_wire.specs.ZoneText.{base64_digit}
 use Rattle.record_wire.proofs.Ahead.{ahead_none, ahead_some}
 use Rattle.record_wire.proofs.FieldParts.{maps_shrink}

@@ -9,13 +9,16 @@ use Rattle.record_wire.specs.declared.line.Before.{Before}
 use Rattle.record_wire.specs.declared.name.refusal.NameRefusal.{NameRefusal}
 use Rattle.record_wire.specs.declared.text.refusal.TextRefusal.{TextRefusal}
 use Rattle.record_wire.specs.FieldsText.{IsSecondText}
-use Rattle.record_wire.specs.Lines.{PutsSome, QuestionPuts, RecordPuts, DataPuts, NamedPuts, RefusesData}
-use Rattle.record_wire.specs.Lines.{asked_line, line_behind, numbers_text, owner_front}
+use Rattle.record_wire.specs.Lines.{PutsSome, QuestionPuts, RecordPuts}
+use Rattle.record_wire.specs.private.Lines.{DataPuts, NamedPuts, RefusesData}
+use Rattle.record_wire.specs.Lines.{line_behind}
+use Rattle.record_wire.specs.private.Lines.{asked_line, numbers_text, owner_front}
 use Rattle.record_wire.specs.Mnemonics.{class_text}
-use Rattle.record_wire.specs.NameReads.{NameReads}
+use Rattle.record_wire.specs.private.NameReads.{NameReads}
 use Rattle.record_wire.specs.NameRefusal.{HasName}
 use Rattle.record_wire.specs.RData as rdata
-use Rattle.record_wire.specs.RecordText.{AuthorityTextValue, DataTextValue, RecordTextValue, IsAuthorityText, IsDataText}
+use Rattle.record_wire.specs.RecordText.{AuthorityTextValue, DataTextValue, RecordTextValue, IsAuthorityText}
+use Rattle.record_wire.specs.RecordText.{IsDataText}
 use Rattle.record_wire.specs.RecordText.{IsRecordText, RefusesNamesOf, data_text, question_text}
 use Rattle.record_wire.specs.RecordText.{zone_line}
 use Rattle.record_wire.specs.RecordText as text
@@ -77,7 +80,8 @@ question_put took a b before message class q name read calls = (
 -- ---- records
 
 pub front_is : (before : Before) (r : RecordTextValue) (name : List ℕ) → name ≡ whole_name r.name
-    → owner_front (Some before) name ++ word (decimal r.ttl) ++ (word (class_text r.class) ++ word (type_display r.kind))
+    → owner_front (Some before) name ++ word (decimal r.ttl) ++ (word (class_text r.class)
+    ++ word (type_display r.kind))
     ++ codes " " ++ data_text r.«data» ≡ line_behind before (zone_line r)
 unfolding word
 front_is before r name is =
@@ -88,7 +92,8 @@ front_is before r name is =
 module _ (before : Before) (message : List ℕ) (class : ℕ) (r : RecordValue) (name : List ℕ)
     (read : NameReads message r.name name) where
   -- a record whose data is not what its type has
-  pub data_refused : (why : Option TextRefusal) → ((value : rdata.RDataValue) → IsDataOf r.kind class r.«data» value → ⊥)
+  pub data_refused : (why : Option TextRefusal) → ((value : rdata.RDataValue) → IsDataOf r.kind class r.«data» value
+      → ⊥)
       → IfSome why (RefusesData class r) → IsSome why → RecordPuts before message class r [] why
   data_refused None none told some = cc some
   data_refused (Some why) none (refused, is, refuses) some =
@@ -141,8 +146,10 @@ module _ (before : Before) (message : List ℕ) (class : ℕ) (r : RecordValue) 
 
 -- data of numbers and then a name
 module _ (front message bytes shown : List ℕ) where
-  named : (numbers : List ℕ) (make : List (List ℕ) → DataTextValue) (value : rdata.RDataValue) (why : Option NameRefusal)
-      → ((labels : List (List ℕ)) → front ++ numbers_text numbers ++ whole_name labels ≡ front ++ data_text (make labels))
+  named : (numbers : List ℕ) (make : List (List ℕ)
+      → DataTextValue) (value : rdata.RDataValue) (why : Option NameRefusal)
+      → ((labels : List (List ℕ)) → front ++ numbers_text numbers ++ whole_name labels ≡ front
+      ++ data_text (make labels))
       → ((labels : List (List ℕ)) → Names message bytes labels → IsDataText message value (make labels))
       → ((read : DataTextValue) → IsDataText message value read → HasName bytes message)
       → ((why : NameRefusal) → RefusesName bytes message why → text.RefusesNameIn message value why)
@@ -265,7 +272,8 @@ data_one message (rdata.fields those) a b (read, is, e) (other, also, f) =
 data_one message (rdata.other bytes) a b first second = second ∙ sym first
 
 -- data whose names read is put
-pub own_put : {O : Type 0} (took : O → List ℕ → O → Type 0) (a b : O) (front message : List ℕ) (value : rdata.RDataValue)
+pub own_put : {O : Type 0} (took : O → List ℕ → O
+    → Type 0) (a b : O) (front message : List ℕ) (value : rdata.RDataValue)
     (read : DataTextValue) (why : Option NameRefusal) → IsDataText message value read
     → PutsSome took a b (λ shown. DataPuts front message value shown why)
     → WritesInCalls took a (front ++ data_text read) b

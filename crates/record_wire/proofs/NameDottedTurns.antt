@@ -9,7 +9,7 @@ use Rattle.std.proofs.lemmas.Slice.{take-put_mid}
 use Rattle.std.proofs.Math.Seq.{take-append-add}
 use borrow.Rule.Slice.PartMut.{put_mid}
 use Rattle.record_wire.specs.NameDotted.{dotted_text, AreUsual}
-use Rattle.record_wire.specs.NameParts.{StandInFront}
+use Rattle.record_wire.specs.private.NameParts.{StandInFront}
 use Rattle.record_wire.proofs.LabelLists.{in_written, in_nothing, written_more, each_more}
 use Rattle.record_wire.proofs.NameDotted.{front_usual}
 use Rattle.record_wire.proofs.NameParts.{IsReadTo, nothing_read, pointer_read, label_read, all_read, all_same}

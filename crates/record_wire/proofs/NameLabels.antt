@@ -3,7 +3,7 @@ use Rattle.record_wire.proofs.Words.{◌≡◌, ◌+◌, ◌≤◌, [], ◌∷�
 use Rattle.record_wire.proofs.Words.{IsTextOf, List, None, Spells, ℕ, ap, arith, at_other, behind_in, codes, eqb}
 use Rattle.record_wire.proofs.Words.{eqb-true, first_byte, inl, inr, length, length-append, refl, subst, sym, wire}
 use Rattle.record_wire.proofs.Words.{written, written_all}
-use Rattle.record_wire.specs.NameReading.{HasLabelsOfText, at_end, at_label}
+use Rattle.record_wire.specs.private.NameReading.{HasLabelsOfText, at_end, at_label}
 use Rattle.record_wire.specs.TextRefusal.{Leads}
 use Rattle.record_wire.proofs.LabelLists.{written_more, each_more, room_before}
 use Rattle.record_wire.proofs.Characters.{chosen, character_some, character_first}

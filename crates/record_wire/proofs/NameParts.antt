@@ -6,7 +6,8 @@ use Rattle.record_wire.proofs.Words.{length-append, length-take-le, ltb, most_po
 use Rattle.record_wire.proofs.Words.{sym, take, take-append_seam, torn, true, whole, wire, written, written_all, zero}
 use Rattle.std.proofs.lemmas.List.{take_all, length-drop, drop-drop}
 use Rattle.dns_wire.specs.DnsName.{IsName, joined}
-use Rattle.dns_wire.specs.DnsNameAhead.{NamePart, ahead_of, answers, by_front}
+use Rattle.dns_wire.specs.DnsNameAhead.{NamePart}
+use Rattle.dns_wire.specs.private.DnsNameAhead.{ahead_of, answers, by_front}
 use Rattle.dns_wire.specs.DnsNameWalk.{Coming, label, Gives, in_window, in_windows, at_end, at_fault}
 use Rattle.dns_wire.proofs.DnsNameTurns.{ahead_pointer, ahead_far, ahead_stop, ahead_torn}
 use Rattle.dns_wire.proofs.DnsNameRoutes.{labels_ahead}

@@ -1,12 +1,13 @@
 -- The texts of names that are read.
 use Rattle.record_wire.proofs.Words.{◌≡◌, ◌<◌, [], ◌∷◌, ◌++◌, ◌∙◌, AreOfName, IsAscii, IsAscii-cons, IsAscii-nil}
-use Rattle.record_wire.proofs.Words.{List, Names, ℕ, ap, append-nil, are_usual, arith, dotted, is_usual, refl, rules, sym}
+use Rattle.record_wire.proofs.Words.{List, Names, ℕ, ap, append-nil, are_usual, arith, dotted, is_usual, refl, rules}
+use Rattle.record_wire.proofs.Words.{sym}
 use Rattle.record_wire.proofs.Words.{true, wire}
 use Rattle.std.proofs.lemmas.Bool.{and_parts}
 use Rattle.std.proofs.lemmas.Str.{IsAscii-append}
 use Rattle.dns_wire.proofs.DnsNameTheorem.{complete_follows}
 use Rattle.record_wire.specs.NameDotted.{dotted_text, is_usual_label, AreUsual}
-use Rattle.record_wire.specs.NameReads.{NameReads}
+use Rattle.record_wire.specs.private.NameReads.{NameReads}
 use Rattle.record_wire.specs.ZoneText.{whole_name}
 use Rattle.record_wire.proofs.NameDotted.{usual_name}
 

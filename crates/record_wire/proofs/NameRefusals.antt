@@ -5,7 +5,7 @@ use Rattle.record_wire.proofs.Words.{append_assoc, arith, cases_lt, drop, front_
 use Rattle.record_wire.proofs.Words.{most_pointers, pointer, refl, stop, subst, sym, take, torn, whole, written}
 use Rattle.record_wire.proofs.Words.{written_all}
 use Rattle.dns_wire.proofs.DnsNameTurns.{front-whole}
-use Rattle.record_wire.specs.NameParts.{HasLabelsOfName}
+use Rattle.record_wire.specs.private.NameParts.{HasLabelsOfName}
 use Rattle.record_wire.specs.NameRefusal.{PointsTo, ComesTo, begins, passes, follows, IsLeft}
 use Rattle.record_wire.proofs.NameParts.{IsReadTo, nothing_read, pointer_read, labels_read, all_read, in_front}
 use Rattle.record_wire.proofs.NameParts.{behind_front}

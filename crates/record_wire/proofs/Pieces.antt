@@ -1,7 +1,8 @@
 -- Text that is put by the piece.
 use Rattle.record_wire.proofs.Words.{◌≡◌, ◌+◌, ◌/◌, ◌%◌, ◌<◌, ◌≤◌, ◌&&◌, ◌||◌, [], ◌∷◌, ◌++◌, ◌∙◌, Bool, Err, IsAscii}
 use Rattle.record_wire.proofs.Words.{IsAscii-cons, IsAscii-nil, List, Ok, Result, Takes, WritesInCalls, ℕ, ap}
-use Rattle.record_wire.proofs.Words.{append_assoc, arith, beq, booleans_Decides, cases_lt, codes, cond, decimal, decimal_digit, false, inl}
+use Rattle.record_wire.proofs.Words.{append_assoc, arith, beq, booleans_Decides, cases_lt, codes, cond, decimal}
+use Rattle.record_wire.proofs.Words.{decimal_digit, false, inl}
 use Rattle.record_wire.proofs.Words.{inr, is_ascii_graphic, leb, leb-true, length, not, refl, rules, slice_set, subst}
 use Rattle.record_wire.proofs.Words.{suc, sym, take, true, zero}
 use Rattle.std.proofs.Math.Seq.{lt-length-set}
@@ -9,7 +10,8 @@ use Rattle.std.proofs.lemmas.Bool.{and_parts}
 use Rattle.std.proofs.lemmas.Grind.{take-set_at}
 use Rattle.std.proofs.lemmas.Fmt.{IsAscii-decimal}
 use Rattle.std.proofs.lemmas.Str.{IsAscii-append}
-use Rattle.record_wire.specs.Escapes.{escaped, has_meaning, hidden_text, is_plain, is_set, is_visible, plain_table}
+use Rattle.record_wire.specs.Escapes.{escaped, has_meaning, is_visible}
+use Rattle.record_wire.specs.private.Escapes.{hidden_text, is_plain, is_set, plain_table}
 use Rattle.record_wire.specs.Escapes.{written_by}
 use Rattle.record_wire.specs.declared.escapes.Escaping.{Escaping}
 use Rattle.wirebase.specs.Sink.{PutsText}
@@ -164,7 +166,8 @@ module _ {O : Type 0} (took : O → List ℕ → O → Type 0) where
   takes_from f g p a q one = record { written = one.written; has = one.has; whole = one.whole; ascii = one.ascii }
 
   -- what waits at the end is put
-  pub takes_all : {E : Type 0} (f g h : O) (text waits : List ℕ) (r : Result (Unit {0}) E) → Takes took f [] text g waits
+  pub takes_all : {E : Type 0} (f g h : O) (text waits : List ℕ) (r : Result (Unit {0}) E)
+      → Takes took f [] text g waits
       → PutsText took g waits r h → PutsText took f text r h
   takes_all f g h text waits (Ok x) one last = record {
     calls = subst (λ (t : List ℕ). WritesInCalls took f t h) (sym one.whole)

@@ -3,8 +3,9 @@ use Rattle.record_wire.proofs.Words.{◌≡◌, ◌≢◌, ◌+◌, ◌<◌, ◌
 use Rattle.record_wire.proofs.Words.{None, Option, Some, Spells, ℕ, ap, arith, at_other, behind_in, cases_lt, codes}
 use Rattle.record_wire.proofs.Words.{first_byte, inl, inr, length, length-append, refl, suc, sym, wire, written}
 use Rattle.record_wire.proofs.Words.{written_all, zero}
-use Rattle.record_wire.specs.NameReading.{IsSpelling}
-use Rattle.record_wire.specs.TextRefusal.{IsReadTo, BeginsWithNone, IsLabelEnd, RefusesRest, RefusesLabel, RefusesText}
+use Rattle.record_wire.specs.private.NameReading.{IsSpelling}
+use Rattle.record_wire.specs.TextRefusal.{IsReadTo, BeginsWithNone, IsLabelEnd, RefusesRest, RefusesText}
+use Rattle.record_wire.specs.private.Parts.{RefusesLabel}
 use Rattle.record_wire.specs.declared.name.text_refusal.NameTextRefusal.{NameTextRefusal}
 use Rattle.record_wire.proofs.Characters.{first_character, character_first, first_shorter}
 use Rattle.record_wire.proofs.LabelLists.{written_more, each_more}
@@ -87,7 +88,12 @@ label_refused text octets left NameTextRefusal.LongLabel so root (label, rest, s
     (rest, read_to text octets left label rest so spells, long)
 label_refused text octets left NameTextRefusal.TooLong so root is = absurd is
 label_refused text octets left NameTextRefusal.Escape so root is = (left, read_to text octets left [] left so refl, is)
-label_refused text octets left (NameTextRefusal.Byte byte) so root is = (left, read_to text octets left [] left so refl, is)
+label_refused text octets left (NameTextRefusal.Byte byte) so root is = (
+  left,
+  read_to text octets left [] left so
+      refl,
+  is,
+)
 
 no_end : (rest : List ℕ) → IsLabelEnd rest → behind_in rest ≡ at_other → ⊥
 no_end [] is e = cc e

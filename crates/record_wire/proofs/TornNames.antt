@@ -6,7 +6,7 @@ use Rattle.record_wire.proofs.Words.{ltb-true, pointer, refl, slice_index_or, st
 use Rattle.record_wire.proofs.Words.{written_all}
 use Rattle.std.proofs.lemmas.Bool.{ltb-false}
 use Rattle.dns_wire.specs.DnsName.{Stop, ends, goes_on, IsMark}
-use Rattle.dns_wire.specs.DnsNameAhead.{pointer_at}
+use Rattle.dns_wire.specs.private.DnsNameAhead.{pointer_at}
 use Rattle.dns_wire.proofs.DnsNameTurns.{chosen, stop-front}
 use Rattle.record_wire.specs.RecordRefusal.{IsCut}
 use Rattle.record_wire.proofs.LabelLists.{written_more, each_more}

@@ -1,6 +1,7 @@
 -- The words that the proofs of this crate are said in: those of std, of the crates below and of the definitions.
 pub use Rattle.std.proofs.Common.{◌≡◌, ◌<◌, ◌≤◌, [], ◌∷◌, ◌∙◌, ◌+◌, ◌-◌, ◌*◌, ◌⊎◌, ◌&&◌, ◌++◌, ◌≢◌, ◌/◌, ◌%◌, ◌↔◌, ◌||◌}
-pub use Rattle.std.proofs.Common.{◌==◌, ◌^◌, Bool, Err, IfErr, IfOk, IfSome, IsOk, IsSome, List, None, Ok, OnOk, Option, Result}
+pub use Rattle.std.proofs.Common.{◌==◌, ◌^◌, Bool, Err, IfErr, IfOk, IfSome, IsOk, IsSome, List, None, Ok, OnOk, Option}
+pub use Rattle.std.proofs.Common.{Result}
 pub use Rattle.std.proofs.Common.{Some, ℕ, ap, append_assoc, arith, bit_and, codes, cond, decimal, drop, eq-eqb, eqb}
 pub use Rattle.std.proofs.Common.{false, flat_map, get_or, inl, inr, leb, length, length-append, length-drop, ltb, map}
 pub use Rattle.std.proofs.Common.{nat_eq, not, refl, rules, slice_index_or, slice_set, subst, suc, sym, take, true}
@@ -21,9 +22,11 @@ pub use Rattle.std.specs.List.{AllByRecursion, count_by}
 pub use Rattle.std.specs.Str.{IsAscii}
 pub use Rattle.dns_wire.proofs.DnsNameTurns.{Points-front, Whole-front}
 pub use Rattle.dns_wire.specs.DnsName.{IsLabel, written}
-pub use Rattle.dns_wire.specs.DnsNameAhead.{front_of, pointer, stop, torn, whole}
+pub use Rattle.dns_wire.specs.DnsNameAhead.{pointer, stop, torn, whole}
+pub use Rattle.dns_wire.specs.private.DnsNameAhead.{front_of}
 pub use Rattle.dns_wire.specs.DnsPacket.{view_octets}
-pub use Rattle.dns_wire.specs.DnsPart.{IsSplit, shown}
+pub use Rattle.dns_wire.specs.DnsPart.{IsSplit}
+pub use Rattle.dns_wire.specs.private.Parts.{shown}
 pub use Rattle.dns_wire.specs.DnsTables.{type_of}
 pub use Rattle.record_wire.specs.Edns.{Answer, answers_in, option_of}
 pub use Rattle.record_wire.specs.Entries.{question, record_in}
@@ -32,15 +35,16 @@ pub use Rattle.record_wire.specs.FieldsText.{maps_text, number_at, types_text}
 unfoldable pub use Rattle.record_wire.specs.FieldsText.{byte_text, map_text}
 pub use Rattle.record_wire.specs.Labels.{AreOfName, first_label, labels_in, wire, written_all}
 pub use Rattle.record_wire.specs.NameDotted.{are_usual, dotted, is_usual}
-pub use Rattle.record_wire.specs.NameParts.{LabelsAtFront}
-pub use Rattle.record_wire.specs.Pieces.{Takes}
-pub use Rattle.record_wire.specs.NameReading.{at_other, behind_in, first_byte}
+pub use Rattle.record_wire.specs.private.NameParts.{LabelsAtFront}
+pub use Rattle.record_wire.specs.private.Pieces.{Takes}
+pub use Rattle.record_wire.specs.private.NameReading.{at_other, behind_in, first_byte}
 pub use Rattle.record_wire.specs.NameRefusal.{RefusesName}
 pub use Rattle.record_wire.specs.NameText.{GoesOn, IsCharacter, IsNameText, IsTextOf, Spells, behind_dots, character}
 pub use Rattle.record_wire.specs.NameText.{is_in, is_special, itself, label_text, name_text, numbered, quoted, specials}
 pub use Rattle.record_wire.specs.Names.{Names, most_pointers}
 pub use Rattle.record_wire.specs.OptText.{options_text}
-pub use Rattle.record_wire.specs.RData.{AreStrings, address6, fields, string_rest}
+pub use Rattle.record_wire.specs.RData.{AreStrings, address6, fields}
+pub use Rattle.record_wire.specs.private.Parts.{string_rest}
 pub use Rattle.record_wire.specs.Record.{IsBehindName, IsQuestion, IsRecord, QuestionValue, RecordValue, record_of}
 pub use Rattle.record_wire.specs.RecordRefusal.{Behind, HasQuestion, HasRecord, IsNoPart}
 pub use Rattle.record_wire.specs.Strings.{strings_in}

@@ -1,7 +1,7 @@
 -- What follows the header of a message, in order (RFC 1035 section 4.1): the questions, and then the records that
 -- answer, those that name an authority, and those that add to them, as many of each as the header counts.
-use Rattle.std.specs.Prelude.{◌≡◌, ◌≢◌, ◌+◌, ◌-◌, ◌<◌, ◌≤◌, ◌&&◌, ◌⊎◌, Bool, Err, List, None, Ok, Option, Result, Some}
-use Rattle.std.specs.Prelude.{ℕ, false, if◌then◌else◌, nat_lt, not, true}
+use Rattle.std.specs.Prelude.{◌≡◌, ◌≢◌, ◌+◌, ◌-◌, ◌<◌, ◌⊎◌, Bool, Err, List, None, Ok, Option, Result, Some, ℕ, false}
+use Rattle.std.specs.Prelude.{if◌then◌else◌, nat_lt, not, true}
 use Rattle.record_wire.specs.Words.{Refusal, Section, number_of}
 use Rattle.wirebase.specs.declared.error.Error.{Error}
 use Rattle.dns_wire.specs.DnsPacket.{question_count_field, answer_count_field, authority_count_field}
@@ -51,10 +51,6 @@ abbrev pub IsEntry : Section → List ℕ → EntryValue → List ℕ → Type 0
 IsEntry section bytes (question q) rest = (section ≡ Section.Question) × IsQuestion bytes q rest
 IsEntry section bytes (record_in s r) rest = (section ≢ Section.Question) × (s ≡ section) × IsRecord bytes r rest
 
--- the octets begin with an entry of a section
-abbrev pub HasEntry : Section → List ℕ → Type 0
-HasEntry section bytes = (value : EntryValue) × (rest : List ℕ) × IsEntry section bytes value rest
-
 -- why they do not
 abbrev pub RefusesEntry : Section → List ℕ → Refusal → Type 0
 RefusesEntry Section.Question bytes why = RefusesQuestion bytes why
@@ -69,19 +65,6 @@ pub record Left : Type 0 where
 
 abbrev pub all_of : List ℕ → Left
 all_of message = record { ends = ends_in message; taken = 0; refused = false; bytes = payload_in message }
-
--- a further entry is left where the header counts one more, and none was refused
-abbrev pub is_left : Left → Bool
-is_left left = not left.refused && nat_lt left.taken left.ends.all
-
--- the number of entries that are left
-abbrev pub are_left : Left → ℕ
-are_left left = if left.refused then 0 else left.ends.all - left.taken
-
--- no more were returned than there are, and where one was refused none begins
-pub record IsSettled (left : Left) : Type 0 where
-  pub most : left.taken ≤ left.ends.all
-  pub none : left.refused ≡ true → HasEntry (section_at left.ends left.taken) left.bytes → ⊥
 
 -- the next entry is at the start of the bytes
 pub record IsNext (old : Left) (e : EntryValue) (new : Left) : Type 0 where

@@ -1,10 +1,8 @@
 -- Bytes of labels and of strings in a zone file (RFC 1035 section 5.1).
-use Rattle.std.specs.Prelude.{◌/◌, ◌%◌, ◌^◌, ◌==◌, ◌||◌, ◌&&◌, [], ◌∷◌, ◌++◌, Bool, List, ℕ, codes, decimal, false}
-use Rattle.std.specs.Prelude.{if◌then◌else◌, nat_eq, nat_le, not, slice_index_or}
-use Rattle.std.specs.Int.Bits.{bit_and}
+use Rattle.std.specs.Prelude.{◌/◌, ◌%◌, ◌==◌, ◌||◌, ◌&&◌, [], ◌∷◌, ◌++◌, Bool, List, ℕ, codes, decimal, false}
+use Rattle.std.specs.Prelude.{if◌then◌else◌, nat_le}
 use Rattle.std.specs.Char.{is_ascii_graphic}
 use Rattle.record_wire.specs.declared.escapes.Escaping.{Escaping}
-use Rattle.record_wire.specs.declared.escapes.TheConstants.{PLAIN_IN_LABEL, PLAIN_IN_STRING}
 
 -- "  $  (  )  .  ;  @  \   have a meaning of their own in a label
 abbrev pub specials : List ℕ
@@ -26,10 +24,6 @@ abbrev pub is_visible : Escaping → ℕ → Bool
 is_visible Escaping.Label byte = is_ascii_graphic byte
 is_visible Escaping.String byte = nat_le 32 byte && nat_le byte 126
 
--- a byte that is written as itself
-abbrev pub is_plain : Escaping → ℕ → Bool
-is_plain escaping byte = is_visible escaping byte && not (has_meaning escaping byte)
-
 -- a byte is written as the first of these that it can be: after a backslash, as itself, by its number
 abbrev pub written_by : Bool → Bool → ℕ → List ℕ
 written_by meaning visible byte =
@@ -41,15 +35,3 @@ abbrev pub escaped : Escaping → ℕ → List ℕ
 escaped escaping byte = written_by (has_meaning escaping byte) (is_visible escaping byte) byte
 
 -- ---- as they are put: the results of private functions
-
--- a byte that is not written as itself: after a backslash where it is visible, by its number
-abbrev pub hidden_text : ℕ → List ℕ
-hidden_text byte = written_by (is_ascii_graphic byte) false byte
-
--- a bit for each byte, and those of the bytes that are written as themselves
-abbrev pub is_set : List ℕ → ℕ → Bool
-is_set table byte = nat_eq (bit_and (slice_index_or {A = ℕ} table (byte / 64) 0 / 2 ^ (byte % 64)) 1) 1
-
-abbrev pub plain_table : Escaping → List ℕ
-plain_table Escaping.Label = PLAIN_IN_LABEL
-plain_table Escaping.String = PLAIN_IN_STRING

@@ -193,7 +193,3 @@ first_map (upper ∷ n ∷ rest) =
     if nat_le 1 n && nat_le n 32 && nat_le n (length rest)
     then Some (record { upper = upper; map = take n rest }, drop n rest)
     else None
-
-abbrev pub seen_map : Option (ℕ × Bor (List ℕ) × Bor (List ℕ)) → Option (MapValue × List ℕ)
-seen_map None = None
-seen_map (Some (upper, map, rest)) = Some (record { upper = upper; map = map.now }, rest.now)

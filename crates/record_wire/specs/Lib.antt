@@ -12,14 +12,10 @@ pub mod Multicast
 pub mod Name
 pub mod NameCase
 pub mod NameDotted
-pub mod NameParts
-pub mod NameReading
-pub mod NameReads
 pub mod NameRefusal
 pub mod NameText
 pub mod Names
 pub mod OptText
-pub mod Pieces
 pub mod RData
 pub mod RDataRefusal
 pub mod Record
@@ -31,3 +27,4 @@ pub mod TextRefusal
 pub mod Update
 pub mod Words
 pub mod ZoneText
+pub mod private

@@ -1,7 +1,5 @@
 -- The data of resource records by their type (RFC 1035 sections 3.3 and 3.4, RFC 2782, RFC 3596, RFC 3597 section 4).
-use Rattle.std.specs.Prelude.{◌≡◌, ◌==◌, ◌≤◌, [], ◌∷◌, ◌++◌, Bool, List, None, Option, Some, ℕ, drop, false}
-use Rattle.std.specs.Prelude.{if◌then◌else◌, length, nat_le, true}
-use Rattle.std.specs.Borrow.{Bor}
+use Rattle.std.specs.Prelude.{◌≡◌, ◌==◌, ◌≤◌, ◌++◌, Bool, List, ℕ, drop, false, if◌then◌else◌, length, true}
 use Rattle.std.specs.List.{flat_map}
 use Rattle.record_wire.specs.Words.{Field, Form, FrontForm, Ipv4Address, Ipv6Address, IsOnePart, Layout, Reaches}
 use Rattle.record_wire.specs.Words.{RestForm, field, number_of, written}
@@ -85,15 +83,6 @@ minimum_field = field 16 20
 -- strings of up to 255 bytes, each after its length (RFC 1035 section 3.3)
 abbrev pub AreStrings : List ℕ → Type 0
 AreStrings bytes = (strings : List (List ℕ)) × (bytes ≡ flat_map written strings)
-
--- what follows the first string, as it is computed
-abbrev pub string_rest : List ℕ → Option (List ℕ)
-string_rest [] = None
-string_rest (n ∷ rest) = if nat_le n (length rest) then Some (drop n rest) else None
-
-abbrev pub seen_rest : Option (Bor (List ℕ)) → Option (List ℕ)
-seen_rest None = None
-seen_rest (Some rest) = Some rest.now
 
 -- who is responsible for a zone, and how copies of it are kept (RFC 1035 section 3.3.13)
 pub record AuthorityValue : Type 0 where

@@ -40,13 +40,6 @@ RefusesRest rest (NameTextRefusal.Byte byte) =
     (more : List ℕ) × (rest ≡ byte ∷ more) × (byte ≢ 46) × (byte ≢ 92) × BeginsWithNone rest
 RefusesRest rest _ = ⊥
 
--- the rest of a text that does not begin with a label of 1 to 63 bytes: too many characters or none
-abbrev pub RefusesLabel : List ℕ → NameTextRefusal → Type 0
-RefusesLabel text NameTextRefusal.LongLabel =
-    (label : List ℕ) × (rest : List ℕ) × Spells text label rest × (63 < length label)
-RefusesLabel text NameTextRefusal.TooLong = ⊥
-RefusesLabel text why = RefusesRest text why
-
 -- A label has no characters, and the text is not a dot alone; it has too many; with it the name has too many octets; it
 -- is followed by a backslash or another byte that begins no character.
 abbrev pub RefusesText : List ℕ → NameTextRefusal → Type 0
@@ -56,7 +49,8 @@ RefusesText text NameTextRefusal.LongLabel = (rest : List ℕ) × (read : IsRead
 RefusesText text NameTextRefusal.TooLong =
     (rest : List ℕ) × (read : IsReadTo text rest) × (255 < length (wire (read.done ++ read.label ∷ [])))
 RefusesText text NameTextRefusal.Escape = (rest : List ℕ) × IsReadTo text rest × RefusesRest rest NameTextRefusal.Escape
-RefusesText text (NameTextRefusal.Byte byte) = (rest : List ℕ) × IsReadTo text rest × RefusesRest rest (NameTextRefusal.Byte byte)
+RefusesText text (NameTextRefusal.Byte byte) = (rest : List ℕ) × IsReadTo text rest
+    × RefusesRest rest (NameTextRefusal.Byte byte)
 
 -- the text of a name
 abbrev pub IsText : List ℕ → Type 0

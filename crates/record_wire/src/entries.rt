@@ -3,7 +3,8 @@
 ghost use Rattle.std.specs.Prelude.{◌≡◌, ◌↔◌, true, ℕ, List, IfOk, IsOkAnd, IfSome, IsSome, IsNone};
 ghost use Rattle.dns_wire.specs.DnsPacket.{view_octets, header};
 ghost use Rattle.wirebase.specs.Bytes.{Reaches};
-ghost use Rattle.record_wire.specs.Entries.{EntryValue, entry_of, IsEntry, HasEntry, section_at, RefusesEntry};
+ghost use Rattle.record_wire.specs.Entries.{EntryValue, entry_of, IsEntry, section_at, RefusesEntry};
+ghost use Rattle.record_wire.specs.private.Entries.{HasEntry};
 
 use crate::record::{Question, Record};
 use crate::refusal::Refusal;
@@ -98,7 +99,8 @@ pub struct Entries<'a> {
 }
 
 impl<'a> Model for Entries<'a> {
-    ghost use Rattle.record_wire.specs.Entries.{Ends, Left, IsSettled};
+    ghost use Rattle.record_wire.specs.Entries.{Ends, Left};
+    ghost use Rattle.record_wire.specs.private.Entries.{IsSettled};
 
     ghost Value = { Left };
 
@@ -128,7 +130,8 @@ impl<'a> Model for Entries<'a> {
 }
 
 impl<'a> Entries<'a> {
-    ghost use Rattle.record_wire.specs.Entries.{all_of, is_left};
+    ghost use Rattle.record_wire.specs.Entries.{all_of};
+    ghost use Rattle.record_wire.specs.private.Entries.{is_left};
 
     /// The questions and the records of this message. Requires at least 12 bytes, which `Packet::new_checked` verifies.
     /// The entries borrow the octets, so the view must be of a slice: for a `Vec<u8>` or an array,
@@ -199,7 +202,8 @@ impl<'a> Entries<'a> {
 
 impl<'a> Iterator for Entries<'a> {
     ghost use Rattle.std.specs.Iterator.{at_most};
-    ghost use Rattle.record_wire.specs.Entries.{GivesEntry, are_left};
+    ghost use Rattle.record_wire.specs.Entries.{GivesEntry};
+    ghost use Rattle.record_wire.specs.private.Entries.{are_left};
 
     type Item = Result<Entry<'a>>;
 

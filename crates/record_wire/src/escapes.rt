@@ -3,8 +3,9 @@
 
 ghost use Rattle.std.specs.Prelude.{◌≡◌, ◌≤◌, ◌+◌, ◌++◌, [], ◌∷◌, IfOk, flat_map, take};
 ghost use Rattle.std.specs.Str.{IsAscii};
-ghost use Rattle.record_wire.specs.Escapes.{escaped, hidden_text, is_plain, is_set, plain_table};
-ghost use Rattle.record_wire.specs.Pieces.{TakesOnOk};
+ghost use Rattle.record_wire.specs.Escapes.{escaped};
+ghost use Rattle.record_wire.specs.private.Escapes.{hidden_text, is_plain, is_set, plain_table};
+ghost use Rattle.record_wire.specs.private.Pieces.{TakesOnOk};
 
 use std::result;
 use wirebase::text::Sink;

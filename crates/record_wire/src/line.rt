@@ -6,10 +6,12 @@
 ghost use Rattle.std.specs.Prelude.{◌++◌, IfOk, IfSome, IsSome, decimal};
 ghost use Rattle.wirebase.specs.Sink.{PutsText};
 ghost use Rattle.dns_wire.specs.DnsDisplay.{type_display};
-ghost use Rattle.record_wire.specs.Lines.{PutsSome, QuestionPuts, RecordPuts, DataPuts, NamedPuts};
-ghost use Rattle.record_wire.specs.Lines.{RefusesData, asked_line, front_of, line_front, numbers_text, owner_front};
+ghost use Rattle.record_wire.specs.Lines.{PutsSome, QuestionPuts, RecordPuts};
+ghost use Rattle.record_wire.specs.private.Lines.{DataPuts, NamedPuts};
+ghost use Rattle.record_wire.specs.private.Lines.{RefusesData, asked_line, front_of, line_front, numbers_text};
+ghost use Rattle.record_wire.specs.private.Lines.{owner_front};
 ghost use Rattle.record_wire.specs.Mnemonics.{class_text};
-ghost use Rattle.record_wire.specs.NameReads.{text_of};
+ghost use Rattle.record_wire.specs.private.NameReads.{text_of};
 ghost use Rattle.record_wire.specs.Fields.{fields_of};
 ghost use Rattle.record_wire.specs.RData.{RDataValue, rdata_of, authority, authority_of, fields};
 ghost use Rattle.record_wire.specs.Record.{question_of, record_of};

@@ -13,7 +13,7 @@ ghost use Rattle.wirebase.specs.Bytes.{IsBytes};
 ghost use Rattle.dns_wire.specs.DnsPacket.{view_octets};
 ghost use Rattle.record_wire.specs.Labels.{wire, labels_in, AreOfName};
 ghost use Rattle.record_wire.specs.Names.{Names};
-ghost use Rattle.record_wire.specs.NameParts.{HasLabelsOfName};
+ghost use Rattle.record_wire.specs.private.NameParts.{HasLabelsOfName};
 ghost use Rattle.record_wire.specs.NameCase.{lower_labels};
 ghost use Rattle.record_wire.specs.NameRefusal.{RefusesName, HasName};
 ghost use Rattle.record_wire.specs.TextRefusal.{RefusesText, IsText};

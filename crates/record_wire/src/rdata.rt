@@ -8,7 +8,8 @@ ghost use Rattle.std.specs.Prelude.{◌≡◌, ◌↔◌, IfOk, IsOkAnd, IsTrue}
 ghost use Rattle.dns_wire.specs.DnsName.{IsOnePart};
 ghost use Rattle.record_wire.specs.RData.{layout_of, RDataValue, rdata_of, IsRData, IsLaidOut, IsAddress4, IsAddress6};
 ghost use Rattle.record_wire.specs.RData.{IsNameData, IsMail, IsService, IsAuthority, IsStrings, AreStrings};
-ghost use Rattle.record_wire.specs.RData.{IsFieldsData, string_rest, seen_rest, form};
+ghost use Rattle.record_wire.specs.RData.{IsFieldsData, form};
+ghost use Rattle.record_wire.specs.private.Parts.{string_rest, seen_rest};
 ghost use Rattle.record_wire.specs.Multicast.{class_of};
 
 use crate::rdata::fields::{Fields, Form, FrontForm, RestForm};

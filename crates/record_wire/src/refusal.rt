@@ -2,7 +2,8 @@
 
 ghost use Rattle.std.specs.Prelude.{List, ℕ, ◌≡◌};
 ghost use Rattle.dns_wire.specs.DnsPart.{IsSplit};
-ghost use Rattle.dns_wire.specs.DnsNameAhead.{front_of, torn};
+ghost use Rattle.dns_wire.specs.DnsNameAhead.{torn};
+ghost use Rattle.dns_wire.specs.private.DnsNameAhead.{front_of};
 ghost use Rattle.record_wire.specs.RecordRefusal.{IsNoPart};
 
 use dns_wire::octets::{NamePart, read_front};

@@ -3,7 +3,7 @@
 ghost use Rattle.std.specs.Prelude.{◌≡◌, List, ℕ, length};
 ghost use Rattle.record_wire.specs.Ahead.{GivesBytes};
 ghost use Rattle.record_wire.specs.Strings.{AreStringsAhead, first_string};
-ghost use Rattle.record_wire.specs.NameReading.{seen_label};
+ghost use Rattle.record_wire.specs.private.NameReading.{seen_label};
 
 use std::marker::Model;
 

@@ -28,7 +28,7 @@ ghost use Rattle.std.specs.Option.{option_map};
 ghost use Rattle.wirebase.specs.Sink.{PutsText};
 ghost use Rattle.dns_wire.specs.DnsPacket.{view_octets};
 ghost use Rattle.record_wire.specs.Edns.{edns_of};
-ghost use Rattle.record_wire.specs.Lines.{front_of};
+ghost use Rattle.record_wire.specs.private.Lines.{front_of};
 ghost use Rattle.record_wire.specs.Multicast.{record_class_of};
 ghost use Rattle.record_wire.specs.RData.{rdata_of, authority_of};
 ghost use Rattle.record_wire.specs.Record.{record_of};

@@ -1,6 +1,7 @@
 -- A duration is its number of microseconds; one of whole milliseconds or seconds is determined by this number.
 use Rattle.wirebase.proofs.Words.{◌≡◌, ◌*◌, ◌∙◌, ℕ, ap, arith, sym}
-use Rattle.wirebase.specs.Duration.{micros_of, of_micros, millis_of, seconds_of, whole_millis, whole_seconds}
+use Rattle.wirebase.specs.Duration.{micros_of, of_micros, millis_of, seconds_of, whole_seconds}
+use Rattle.wirebase.specs.private.Parts.{whole_millis}
 use Rattle.wirebase.specs.declared.duration.Duration.{Duration}
 
 pub same_duration : (d e : Duration) → micros_of d ≡ micros_of e → d ≡ e

@@ -1,7 +1,8 @@
 -- A field that is overwritten by each option that gives it is what the last such option gives.
 use Rattle.wirebase.proofs.Words.{◌≡◌, [], ◌∷◌, ◌∙◌, List, None, Option, Some, ap, refl}
 use Rattle.std.specs.Option.{option_or}
-use Rattle.wirebase.specs.LastOf.{last_of, keep_all}
+use Rattle.wirebase.specs.LastOf.{last_of}
+use Rattle.wirebase.specs.private.Parts.{keep_all}
 
 pub or-assoc : {A : Type 0} (a b c : Option A) → option_or a (option_or b c) ≡ option_or (option_or a b) c
 or-assoc None b c = refl

@@ -44,7 +44,8 @@ hex-ascii n fits =
     IsAscii-drop
     (digit_char (n / 0x1000) ∷ digit_char (n / 0x100 % 16) ∷ digit_char (n / 0x10 % 16) ∷ digit_char (n % 16) ∷ [])
     (leading_zero_digits n)
-    (four-ascii (digit_char (n / 0x1000)) (digit_char (n / 0x100 % 16)) (digit_char (n / 0x10 % 16)) (digit_char (n % 16))
+    (four-ascii (digit_char (n / 0x1000)) (digit_char (n / 0x100 % 16)) (digit_char (n / 0x10 % 16)) (digit_char (n %
+    16))
     (digit-ascii (n / 0x1000) (omega arith)) third second (digit-ascii (n % 16) (omega arith)))
 
 abbrev pub IsGroup : ℕ → Type 0

@@ -7,8 +7,3 @@ use Rattle.std.specs.Option.{option_or}
 abbrev pub last_of : {O A : Type 0} → (O → Option A) → List O → Option A
 last_of says [] = None
 last_of says (o ∷ os) = option_or (last_of says os) (says o)
-
--- what is kept after each option was noted in turn
-unfoldable pub keep_all : {O K : Type 0} → (K → O → K) → K → List O → K
-keep_all keep k [] = k
-keep_all keep k (o ∷ os) = keep_all keep (keep k o) os

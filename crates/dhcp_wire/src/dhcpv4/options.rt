@@ -3,10 +3,11 @@
 ghost use Rattle.std.specs.Prelude.{◌≡◌, ◌≤◌, ◌<◌, ◌+◌, ◌++◌, ◌∷◌, [], ◌↔◌, List, ℕ, length, drop, IsOk, IsTrue, OnOk};
 ghost use Rattle.std.specs.Prelude.{OnErr};
 ghost use Rattle.dhcp_wire.specs.Dhcpv4Options.{OptionValue, value_of_option, option, option_text, Options};
-ghost use Rattle.dhcp_wire.specs.Dhcpv4OptionsAhead.{list_of};
+ghost use Rattle.dhcp_wire.specs.private.Dhcpv4OptionsAhead.{list_of};
 ghost use Rattle.std.specs.Option.{option_map};
 ghost use Rattle.dhcp_wire.specs.Dhcpv4.{slot};
-ghost use Rattle.dhcp_wire.specs.Dhcpv4Options.{GivesFirst, HasNoPadding};
+ghost use Rattle.dhcp_wire.specs.Dhcpv4Options.{GivesFirst};
+ghost use Rattle.dhcp_wire.specs.private.Parts.{HasNoPadding};
 
 use super::option_data::Data;
 use super::option_kinds::{OPT_END, OPT_PAD};
@@ -45,7 +46,7 @@ pub struct OptionsIter<'a> {
 impl<'a> Model for OptionsIter<'a> {
     ghost use Rattle.std.specs.Prelude.{List};
     ghost use Rattle.dhcp_wire.specs.Dhcpv4Options.{OptionValue};
-    ghost use Rattle.dhcp_wire.specs.Dhcpv4OptionsAhead.{list_of};
+    ghost use Rattle.dhcp_wire.specs.private.Dhcpv4OptionsAhead.{list_of};
 
     ghost Value = { List OptionValue };
 
@@ -140,7 +141,7 @@ pub struct DhcpOptionWriter<'a> {
 
 impl<'a> DhcpOptionWriter<'a> {
     ghost use Rattle.dhcp_wire.specs.Dhcpv4Writer.{settled, free, the_slice, Fits, IsUnchanged};
-    ghost use Rattle.dhcp_wire.specs.Dhcpv4Writing.{progress, step_slot};
+    ghost use Rattle.dhcp_wire.specs.private.Dhcpv4Writing.{progress, step_slot};
 
     /// A writer over this slice, all of whose bytes are free.
     pub fn new(buffer: &'a mut [u8]) -> DhcpOptionWriter<'a>

@@ -7,7 +7,7 @@ ghost use Rattle.wirebase.specs.HardwareAddress.{ethernet_of};
 ghost use Rattle.dhcp_wire.specs.Dhcpv4.{value_of, with_options, said, type_in, type_among, address_in, number_in};
 ghost use Rattle.dhcp_wire.specs.Dhcpv4.{identifier_in, IsOfEthernet, AreOfEthernet};
 ghost use Rattle.dhcp_wire.specs.Dhcpv4Options.{value_of_option, option};
-ghost use Rattle.dhcp_wire.specs.Dhcpv4OptionsAhead.{list_of};
+ghost use Rattle.dhcp_wire.specs.private.Dhcpv4OptionsAhead.{list_of};
 ghost use Rattle.dhcp_wire.specs.Dhcpv4OptionValue.{addresses_in};
 ghost use Rattle.dhcp_wire.specs.Dhcpv4Packet.{inner, op_field, magic_field, options_in};
 

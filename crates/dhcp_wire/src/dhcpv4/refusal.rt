@@ -4,7 +4,7 @@ ghost use Rattle.std.specs.Prelude.{◌≡◌, ◌↔◌, Some, None, IfSome, Is
 ghost use Rattle.std.specs.Option.{option_map};
 ghost use Rattle.dhcp_wire.specs.Dhcpv4.{Value, value_of, IsOfEthernet, AreOfEthernet, HasHeader, IsPacket};
 ghost use Rattle.dhcp_wire.specs.Dhcpv4Options.{value_of_option};
-ghost use Rattle.dhcp_wire.specs.Dhcpv4OptionsAhead.{list_of};
+ghost use Rattle.dhcp_wire.specs.private.Dhcpv4OptionsAhead.{list_of};
 ghost use Rattle.dhcp_wire.specs.Dhcpv4Packet.{inner, options_in};
 ghost use Rattle.dhcp_wire.specs.Dhcpv4Refusal.{IsRead, IsOther, Ends, Refuses, HasNoType, last_type, refusal_display};
 

@@ -9,7 +9,7 @@ ghost use Rattle.wirebase.specs.Ethernet.{octets_of as ethernet_octets};
 ghost use Rattle.wirebase.specs.HardwareAddress.{ethernet_of};
 ghost use Rattle.wirebase.specs.Ipv4.{octets_of};
 ghost use Rattle.dhcp_wire.specs.Dhcpv4.{value_of, slot, slots_of, options_of, header_fields, text};
-ghost use Rattle.dhcp_wire.specs.Dhcpv4Writing.{WritesOptions, progress, step_slot, steps, step_all};
+ghost use Rattle.dhcp_wire.specs.private.Dhcpv4Writing.{WritesOptions, progress, step_slot, steps, step_all};
 ghost use Rattle.dhcp_wire.specs.Dhcpv4Format.{data_len, fields_len, text_len, format, Emits};
 ghost use Rattle.dhcp_wire.specs.Dhcpv4Options.{value_of_option};
 ghost use Rattle.dhcp_wire.specs.Dhcpv4Packet.{inner, magic_field, ethernet_type};

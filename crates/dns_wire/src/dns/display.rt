@@ -12,7 +12,8 @@ ghost use Rattle.dns_wire.specs.DnsRepr.{value_of as query_value};
 ghost use Rattle.dns_wire.specs.DnsDisplay.{type_names, name_in, type_display, opcode_display, rcode_display};
 ghost use Rattle.dns_wire.specs.DnsDisplay.{flags_display, names_set};
 ghost use Rattle.dns_wire.specs.DnsDisplay.{question_display, data_display, record_display, query_display};
-ghost use Rattle.dns_wire.specs.DnsDisplay.{counts_value, header_value, header_in};
+ghost use Rattle.dns_wire.specs.DnsDisplay.{header_in};
+ghost use Rattle.dns_wire.specs.private.Parts.{counts_value, header_value};
 ghost use Rattle.dns_wire.specs.DnsDisplay.{counts_display, header_display, view_display};
 
 use super::{Flags, Opcode, Packet, Question, Rcode, Record, RecordData, Repr, Type};

@@ -23,7 +23,7 @@ pub struct NameIter<'a> {
 impl<'a> Model for NameIter<'a> {
     ghost use Rattle.std.specs.Prelude.{◌+◌, ◌*◌, ◌<◌, ◌^◌, length};
     ghost use Rattle.dns_wire.specs.DnsNameWalk.{Walk};
-    ghost use Rattle.dns_wire.specs.DnsNameAhead.{ahead_of};
+    ghost use Rattle.dns_wire.specs.private.DnsNameAhead.{ahead_of};
 
     ghost Value = { Walk };
 
@@ -37,7 +37,8 @@ impl<'a> Model for NameIter<'a> {
 
 impl<'a> Iterator for NameIter<'a> {
     ghost use Rattle.std.specs.Iterator.{at_most};
-    ghost use Rattle.dns_wire.specs.DnsNameWalk.{GivesFirst, items_in};
+    ghost use Rattle.dns_wire.specs.DnsNameWalk.{GivesFirst};
+    ghost use Rattle.dns_wire.specs.private.Parts.{items_in};
 
     type Item = Result<&'a [u8]>;
 

@@ -1,8 +1,10 @@
 //! One part of a name (RFC 1035 section 4.1.4): what it begins with, and where it stops.
 
 ghost use Rattle.std.specs.Prelude.{◌≡◌, ◌≤◌, ℕ, List, length, IfOk, IfErr, IsOkAnd, IfSome, None};
-ghost use Rattle.dns_wire.specs.DnsNameAhead.{front_of, torn};
-ghost use Rattle.dns_wire.specs.DnsPart.{shown, LeadsTo, IsSplit};
+ghost use Rattle.dns_wire.specs.DnsNameAhead.{torn};
+ghost use Rattle.dns_wire.specs.private.DnsNameAhead.{front_of};
+ghost use Rattle.dns_wire.specs.DnsPart.{IsSplit};
+ghost use Rattle.dns_wire.specs.private.Parts.{shown, LeadsTo};
 ghost use Rattle.dns_wire.specs.DnsRefusal.{IsTorn, PartBreaks};
 
 use crate::dns::refusal::NameRefusal;

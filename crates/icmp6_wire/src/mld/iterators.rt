@@ -26,7 +26,8 @@ pub struct Records<'a> {
 
 impl<'a> Model for Records<'a> {
     ghost use Rattle.std.specs.Prelude.{List};
-    ghost use Rattle.icmp6_wire.specs.MldIterators.{Answer, records_ahead};
+    ghost use Rattle.icmp6_wire.specs.MldIterators.{Answer};
+    ghost use Rattle.icmp6_wire.specs.private.MldIterators.{records_ahead};
 
     ghost Value = { List Answer };
 
@@ -136,7 +137,7 @@ pub struct Sources<'a> {
 
 impl<'a> Model for Sources<'a> {
     ghost use Rattle.std.specs.Prelude.{List, ℕ};
-    ghost use Rattle.icmp6_wire.specs.MldIterators.{sources_in};
+    ghost use Rattle.icmp6_wire.specs.private.MldIterators.{sources_in};
 
     ghost Value = { List (List ℕ) };
 

@@ -4,7 +4,7 @@ ghost use Rattle.std.specs.Prelude.{◌≡◌, ◌++◌, List, ℕ, IsOk, IfOk, 
 ghost use Rattle.opt_wire.specs.NdiscOption.{BeginsWithBlock};
 ghost use Rattle.opt_wire.specs.NdiscOptionRepr.{OptionValue, value_of};
 ghost use Rattle.icmp6_wire.specs.NdiscBlocks.{IsBlock, AreBlocks};
-ghost use Rattle.icmp6_wire.specs.NdiscOptionsSeen.{kept_of, nothing, keep, Says, Notes};
+ghost use Rattle.icmp6_wire.specs.private.NdiscOptionsSeen.{kept_of, nothing, keep, Says, Notes};
 
 use opt_wire::ndiscoption;
 use opt_wire::ndiscoption::{NdiscOption, PrefixInformation, RedirectedHeader};

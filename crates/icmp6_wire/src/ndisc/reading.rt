@@ -4,7 +4,7 @@ ghost use Rattle.std.specs.Prelude.{◌≡◌};
 ghost use Rattle.wirebase.specs.Checks.{Passes};
 ghost use Rattle.icmp6_wire.specs.Icmpv6Packet.{view_octets, message_in, payload_in};
 ghost use Rattle.icmp6_wire.specs.Ndisc.{value_of, checks, IsMessage};
-ghost use Rattle.icmp6_wire.specs.NdiscOptionsSeen.{kept_of, Says};
+ghost use Rattle.icmp6_wire.specs.private.NdiscOptionsSeen.{kept_of, Says};
 ghost use Rattle.icmp6_wire.specs.declared.icmpv6.tables.Message.TheVariants.{RouterSolicit, RouterAdvert, Redirect};
 ghost use Rattle.icmp6_wire.specs.declared.icmpv6.tables.Message.TheVariants.{NeighborSolicit, NeighborAdvert};
 

@@ -6,7 +6,7 @@ ghost use Rattle.std.specs.Prelude.{◌≡◌, ◌<◌, ◌≤◌, ◌+◌, [], 
 ghost use Rattle.dns_wire.specs.DnsPacket.{header as header_field};
 ghost use Rattle.wirebase.specs.Bytes.{Reaches};
 ghost use Rattle.listing.specs.ListingMessage.{header_listing, flag_names, names_set, flags_text, has_bit};
-ghost use Rattle.listing.specs.ListingParts.{each_behind};
+ghost use Rattle.listing.specs.private.ListingParts.{each_behind};
 ghost use Rattle.listing.specs.Output.{Gains};
 
 use crate::printer::{Value, part_field};

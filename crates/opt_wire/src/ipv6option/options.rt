@@ -19,7 +19,7 @@ pub struct Ipv6OptionsIterator<'a> {
 impl<'a> Model for Ipv6OptionsIterator<'a> {
     ghost use Rattle.std.specs.Prelude.{List};
     ghost use Rattle.opt_wire.specs.Ipv6OptionAnswers.{Answer};
-    ghost use Rattle.opt_wire.specs.Ipv6OptionModel.{answers_to_come};
+    ghost use Rattle.opt_wire.specs.private.Ipv6OptionModel.{answers_to_come};
 
     ghost Value = { List Answer };
 

@@ -41,7 +41,8 @@ pub struct NdiscOptions<'a> {
 
 impl<'a> Model for NdiscOptions<'a> {
     ghost use Rattle.std.specs.Prelude.{List};
-    ghost use Rattle.opt_wire.specs.NdiscOptionBlocks.{Answer, blocks_of};
+    ghost use Rattle.opt_wire.specs.NdiscOptionBlocks.{Answer};
+    ghost use Rattle.opt_wire.specs.private.NdiscOptionBlocks.{blocks_of};
 
     ghost Value = { List Answer };
 

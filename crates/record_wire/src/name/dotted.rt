@@ -4,7 +4,7 @@ ghost use Rattle.std.specs.Prelude.{◌≡◌, ◌↔◌, ◌+◌, ◌<◌, ◌�
 ghost use Rattle.std.specs.List.{count_by};
 ghost use Rattle.dns_wire.specs.DnsPacket.{view_octets};
 ghost use Rattle.record_wire.specs.NameDotted.{is_usual, dotted_text, AreUsual};
-ghost use Rattle.record_wire.specs.NameParts.{StandInFront};
+ghost use Rattle.record_wire.specs.private.NameParts.{StandInFront};
 
 use crate::name::MAX_POINTERS;
 use dns_wire::dns::Packet;

@@ -4,7 +4,7 @@ ghost use Rattle.std.specs.Prelude.{◌≡◌, ◌↔◌, ◌+◌, ◌≤◌, �
 ghost use Rattle.dns_wire.specs.DnsName.{written};
 ghost use Rattle.record_wire.specs.Ahead.{GivesBytes};
 ghost use Rattle.record_wire.specs.Labels.{first_label, labels_in};
-ghost use Rattle.record_wire.specs.NameReading.{seen_label};
+ghost use Rattle.record_wire.specs.private.NameReading.{seen_label};
 
 use crate::name::MAX_NAME_LEN;
 use arrayvec::ArrayVec;

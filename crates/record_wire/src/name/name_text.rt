@@ -30,7 +30,7 @@ pub(crate) struct NameText {
 }
 
 impl NameText {
-    ghost use Rattle.record_wire.specs.NameReads.{NameReads, text_of};
+    ghost use Rattle.record_wire.specs.private.NameReads.{NameReads, text_of};
 
     /// The text of no name.
     #[inline(always)]

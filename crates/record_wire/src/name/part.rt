@@ -1,9 +1,9 @@
 //! The labels in a part of a name (RFC 1035 section 4.1.4).
 
 ghost use Rattle.std.specs.Prelude.{◌≡◌, ◌≤◌, length, drop};
-ghost use Rattle.dns_wire.specs.DnsNameAhead.{front_of};
-ghost use Rattle.dns_wire.specs.DnsPart.{shown};
-ghost use Rattle.record_wire.specs.NameParts.{LabelsAtFront, EndsTooFar};
+ghost use Rattle.dns_wire.specs.private.DnsNameAhead.{front_of};
+ghost use Rattle.dns_wire.specs.private.Parts.{shown};
+ghost use Rattle.record_wire.specs.private.NameParts.{LabelsAtFront, EndsTooFar};
 
 use crate::name::MAX_NAME_LEN;
 use dns_wire::octets::{NamePart, read_front};

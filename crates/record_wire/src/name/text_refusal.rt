@@ -1,9 +1,10 @@
 //! Why texts of names are refused: the check that fails first.
 
 ghost use Rattle.std.specs.Prelude.{◌≡◌, ◌≢◌, ◌≤◌, codes, ℕ, List, None, length};
-ghost use Rattle.record_wire.specs.NameReading.{first_byte, IsSpelling};
+ghost use Rattle.record_wire.specs.private.NameReading.{first_byte, IsSpelling};
 ghost use Rattle.record_wire.specs.NameText.{IsNameText};
-ghost use Rattle.record_wire.specs.TextRefusal.{RefusesText, RefusesLabel, RefusesRest};
+ghost use Rattle.record_wire.specs.TextRefusal.{RefusesText, RefusesRest};
+ghost use Rattle.record_wire.specs.private.Parts.{RefusesLabel};
 
 use crate::name::MAX_NAME_LEN;
 use crate::name::label::push_label;

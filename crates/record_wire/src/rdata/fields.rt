@@ -6,7 +6,8 @@ ghost use Rattle.std.specs.Prelude.{◌≡◌, ◌↔◌, List, ℕ, Option, IfO
 ghost use Rattle.record_wire.specs.Fields.{FrontValue, RestValue, FieldsValue, front_of, rest_of, name_of};
 ghost use Rattle.record_wire.specs.Fields.{fields_of};
 ghost use Rattle.record_wire.specs.Fields.{IsFront, AreThree, IsSecond, IsRest, IsFields, IsMap, AreMaps};
-ghost use Rattle.record_wire.specs.Fields.{first_map, seen_map};
+ghost use Rattle.record_wire.specs.Fields.{first_map};
+ghost use Rattle.record_wire.specs.private.Parts.{seen_map};
 ghost use Rattle.record_wire.specs.declared.rdata.fields.FrontForm.TheVariants as front;
 
 use crate::rdata::behind_string;

@@ -7,7 +7,7 @@ ghost use Rattle.wirebase.specs.Sink.{PutsText};
 ghost use Rattle.record_wire.specs.Strings.{strings_in};
 ghost use Rattle.record_wire.specs.ZoneText.{string_text, string_words, strings_text};
 ghost use Rattle.record_wire.specs.ZoneText.{generic_text, base64, base64_digit};
-ghost use Rattle.record_wire.specs.NameReading.{seen_byte, first_octet, first_group, seen_group};
+ghost use Rattle.record_wire.specs.private.NameReading.{seen_byte, first_octet, first_group, seen_group};
 
 use crate::escapes::{Escaping, PIECE_LEN, put_bytes, put_one};
 use crate::strings::TxtStrings;

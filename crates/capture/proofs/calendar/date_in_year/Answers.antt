@@ -1,6 +1,6 @@
 -- The months pass one by one, and then the days of the last.
 use Rattle.std.proofs.Common.{arith}
-use Rattle.capture.specs.Calendar.{days_of_months}
+use Rattle.capture.specs.private.Parts.{days_of_months}
 use Rattle.capture.proofs.Calendars.{months_left, date_found, december}
 use Rattle.capture.proofs.calendar.date_in_year.Goals as goal
 

@@ -1,6 +1,6 @@
 -- The head is read, and then the rest, or it is passed over.
 use Rattle.std.proofs.Common.{◌∙◌}
-use Rattle.capture.specs.Unit.{no_head}
+use Rattle.capture.specs.private.Unit.{no_head}
 use Rattle.capture.proofs.Filling.{fills_reads, reads_whole}
 use Rattle.capture.proofs.Sections.{if_ok}
 use Rattle.capture.proofs.unit.read_record_parts.Goals as goal

@@ -1,6 +1,6 @@
 -- The rest of the record or block is read, or passed over.
 use Rattle.std.proofs.Common.{arith, refl}
-use Rattle.capture.specs.Unit.{cut}
+use Rattle.capture.specs.private.Unit.{cut}
 use Rattle.capture.proofs.Filling.{fills_reads, reads_length, reads_fits, skips_reads, skips_short}
 use Rattle.capture.proofs.Sections.{told, told_not}
 use Rattle.capture.proofs.unit.read_rest.Goals as goal
@@ -21,7 +21,8 @@ pub returns-then-as_slice-len-clause-reads : goal.returns-then-as_slice-len-clau
 returns-then-as_slice-len-clause-reads g c order all reads is =
     let len = g.H.UnitHead.form.unit_len c.args.head in
     let more =
-    fills_reads all _ _ _ _ _ len c.requires.front reads (rw c.unit_len-len.ensures at c.in_ok-read_onto.ensures.fills) in
+    fills_reads all _ _ _ _ _ len c.requires.front reads (rw c.unit_len-len.ensures at c.in_ok-read_onto.ensures.fills)
+    in
     cut c.args.head is (reads_length all _ _ len len more (omega arith)
     (rw (c.as_slice-2.ensures.value, c.unit_len-len.ensures) at c.if-as_slice-len.true)) refl
 
@@ -29,7 +30,8 @@ pub returns-clause-reads : goal.returns-clause-reads
 returns-clause-reads g c order all reads is =
     let len = g.H.UnitHead.form.unit_len c.args.head in
     let more =
-    fills_reads all _ _ _ _ _ len c.requires.front reads (rw c.unit_len-len.ensures at c.in_ok-read_onto.ensures.fills) in
+    fills_reads all _ _ _ _ _ len c.requires.front reads (rw c.unit_len-len.ensures at c.in_ok-read_onto.ensures.fills)
+    in
     let fits =
     reads_fits all _ _ len more
     (rw (c.as_slice-2.ensures.value, c.unit_len-len.ensures) at c.if-as_slice-len.false) in

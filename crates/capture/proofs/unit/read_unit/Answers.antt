@@ -1,6 +1,6 @@
 -- The record or block that the buffer shows is consumed, or what is missing of it is read.
 use Rattle.std.proofs.Common.{sym, ◌∙◌, ap, length, eqb-true, refl}
-use Rattle.capture.specs.Unit.{none}
+use Rattle.capture.specs.private.Unit.{none}
 use Rattle.capture.proofs.Filling.{no_byte, shown_none}
 use Rattle.capture.proofs.unit.read_unit.Goals as goal
 

@@ -13,7 +13,8 @@ loop-kind-init c = refl
 pub returns-then-eq : goal.returns-then-eq
 returns-then-eq c =
     let is = rw c.name.ensures at (sym c.eq.ensures ∙ c.if-eq.true) in
-    sym (c.loop-kind.invariant ∙ first-named c.args.name.now kinds c.loop-kind.kind-index Icmp4 c.loop-kind-test.true is)
+    sym (c.loop-kind.invariant ∙ first-named c.args.name.now kinds c.loop-kind.kind-index Icmp4 c.loop-kind-test.true
+    is)
 
 pub loop-kind-preserved : goal.loop-kind-preserved
 loop-kind-preserved c =

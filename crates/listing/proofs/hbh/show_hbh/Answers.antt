@@ -13,7 +13,8 @@ returns-in_default g c =
 
 pub loop-option-preserved : goal.loop-option-preserved
 loop-option-preserved g c =
-    rw (one_more_listed option_value option_listing c.as_slice-option-items.result.now c.loop-option.option-index Repr.Pad1
+    rw (one_more_listed option_value option_listing c.as_slice-option-items.result.now c.loop-option.option-index
+    Repr.Pad1
     (omega arith))
     (gains_both _ _ _ _ _ c.loop-option.invariant c.in_ok-show_option.ensures)
 

@@ -1,6 +1,6 @@
 -- None was refused, and what is printed so far goes on to the whole by what the entries that are left print.
 use Rattle.listing.proofs.Words.{◌≡◌, GainsSome, all_of, false, view_octets}
-use Rattle.record_wire.specs.Entries.{are_left}
+use Rattle.record_wire.specs.private.Entries.{are_left}
 use Rattle.listing.proofs.Entries.{AreLeft}
 use Rattle.listing.proofs.message.show_entries.Given as goal
 

@@ -12,7 +12,8 @@ loop-byte-preserved g c =
     let bytes = c.args.bytes.now in
     let escaping = c.args.escaping in
     let byte = slice_index_or {A = ℕ} bytes i 0 in
-    let plain = sym (table_tells escaping byte (c.type_inv.bytes i).fits) ∙ sym (rw c.plain_of-plain.ensures at c.is_set.ensures) in
+    let plain = sym (table_tells escaping byte (c.type_inv.bytes i).fits)
+    ∙ sym (rw c.plain_of-plain.ensures at c.is_set.ensures) in
     let before = take c.in_ok-len.len c.loop-byte.piece in
     let put : (c.if-is_set.len ≤ 64) × (take c.if-is_set.len c.if-is_set.piece ≡ before ++ escaped escaping byte) =
     elim c.if-is_set.branch [

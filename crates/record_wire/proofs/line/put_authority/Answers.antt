@@ -27,7 +27,8 @@ pub returns : goal.returns
 returns g c = (
   _,
   authority_put _ _ _ _ _ c.in_default.ensures.reads c.in_default-read.ensures.reads,
-  c.in_ok-put_front.ensures.calls then (c.in_ok-put.ensures.calls then (c.in_ok-put_str.ensures.calls then (c.in_ok-put-2.ensures.calls
+  c.in_ok-put_front.ensures.calls then (c.in_ok-put.ensures.calls then (c.in_ok-put_str.ensures.calls then
+      (c.in_ok-put-2.ensures.calls
       then (c.in_ok-put_word.ensures.calls then (c.in_ok-put_word-2.ensures.calls then (c.in_ok-put_word-3.ensures.calls
       then (c.in_ok-put_word-4.ensures.calls then c.in_ok-put_word-5.ensures.calls))))))),
 )

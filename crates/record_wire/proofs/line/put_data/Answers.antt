@@ -10,7 +10,8 @@ returns-in-Name g c =
 pub returns-in-Mx : goal.returns-in-Mx
 returns-in-Mx g c =
     rw c.in-Mx.is
-    (kind_put g.S.Sink.took _ _ _ _ _ (λ shown why. mail_put _ _ _ shown c.in-Mx.preference why) c.put_named-in-Mx.ensures)
+    (kind_put g.S.Sink.took _ _ _ _ _ (λ shown why. mail_put _ _ _ shown c.in-Mx.preference why)
+    c.put_named-in-Mx.ensures)
 
 pub returns-in-Srv : goal.returns-in-Srv
 returns-in-Srv g c =
@@ -31,12 +32,27 @@ returns-in_ok-put_v4-in-A g c =
 
 pub returns-in_ok-put_v6-in-Aaaa : goal.returns-in_ok-put_v6-in-Aaaa
 returns-in_ok-put_v6-in-Aaaa g c =
-    rw c.in-Aaaa.is (_, (_, refl, refl), c.in_ok-put_front-in-Aaaa.ensures.calls then c.in_ok-put_v6-in-Aaaa.ensures.calls)
+    rw c.in-Aaaa.is (
+      _,
+      (_, refl, refl),
+      c.in_ok-put_front-in-Aaaa.ensures.calls then
+          c.in_ok-put_v6-in-Aaaa.ensures.calls,
+    )
 
 pub returns-in_ok-put_strings-in-Txt : goal.returns-in_ok-put_strings-in-Txt
 returns-in_ok-put_strings-in-Txt g c =
-    rw c.in-Txt.is (_, (_, refl, refl), c.in_ok-put_front-in-Txt.ensures.calls then c.in_ok-put_strings-in-Txt.ensures.calls)
+    rw c.in-Txt.is (
+      _,
+      (_, refl, refl),
+      c.in_ok-put_front-in-Txt.ensures.calls then
+          c.in_ok-put_strings-in-Txt.ensures.calls,
+    )
 
 pub returns-in_ok-put_generic-in-Other : goal.returns-in_ok-put_generic-in-Other
 returns-in_ok-put_generic-in-Other g c =
-    rw c.in-Other.is (_, (_, refl, refl), c.in_ok-put_front-in-Other.ensures.calls then c.in_ok-put_generic-in-Other.ensures.calls)
+    rw c.in-Other.is (
+      _,
+      (_, refl, refl),
+      c.in_ok-put_front-in-Other.ensures.calls then
+          c.in_ok-put_generic-in-Other.ensures.calls,
+    )

@@ -12,4 +12,5 @@ loop-number-preserved g c =
     subst (λ (t : List ℕ). WritesInCalls g.S.Sink.took c.args.output.now t c.put_str.new.output)
     (one_more (λ number. decimal number ++ codes " ") c.args.numbers.now c.loop-number.number-index 0
     c.loop-number-test.true)
-    (c.loop-number.invariant then ((rw c.from.ensures at c.in_ok-put_number.ensures.calls) then c.in_ok-put_str.ensures.calls))
+    (c.loop-number.invariant then ((rw c.from.ensures at c.in_ok-put_number.ensures.calls) then
+    c.in_ok-put_str.ensures.calls))

@@ -1,5 +1,5 @@
 use Rattle.record_wire.proofs.Words.{WritesInCalls, take}
-use Rattle.record_wire.specs.Lines.{numbers_text}
+use Rattle.record_wire.specs.private.Lines.{numbers_text}
 use Rattle.record_wire.proofs.line.put_numbers.Given as goal
 
 abbrev pub invariant-loop-number : goal.invariant-loop-number

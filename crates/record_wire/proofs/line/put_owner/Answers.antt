@@ -1,6 +1,6 @@
 use Rattle.record_wire.proofs.Words.{WritesInCalls}
 use Rattle.wirebase.proofs.Sinks.{put_none}
-use Rattle.record_wire.specs.Lines.{before_text}
+use Rattle.record_wire.specs.private.Lines.{before_text}
 use Rattle.record_wire.proofs.Puts.{◌then◌, puts_last}
 use Rattle.record_wire.proofs.line.put_owner.Goals.{in-Some+in_ok-put_str+in_ok-put_str-2, in_default}
 use Rattle.record_wire.proofs.line.put_owner.Goals as goal

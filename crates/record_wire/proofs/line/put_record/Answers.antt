@@ -27,11 +27,13 @@ returns-in_default-parse_update g c = (
 pub returns-in-Some : goal.returns-in-Some
 returns-in-Some g c =
     name_refused c.args.before c.args.message.now c.args.class (record_of c.args.«record».now) _
-    c.in_default.ensures.reads (rdata_of c.in-Ok.«data») c.in-Ok.ensures.sound c.in-Ok.ensures.complete g.S.Sink.took _ _
+    c.in_default.ensures.reads (rdata_of c.in-Ok.«data») c.in-Ok.ensures.sound c.in-Ok.ensures.complete g.S.Sink.took _
+    _
     [] c.in-Some.refusal (rw c.in-Some.is at c.in_ok-refusal.ensures)
 
 pub returns : goal.returns
 returns g c =
     record_put c.args.before c.args.message.now c.args.class (record_of c.args.«record».now) _
-    c.in_default.ensures.reads (rdata_of c.in-Ok.«data») c.in-Ok.ensures.sound c.in-Ok.ensures.complete g.S.Sink.took _ _
+    c.in_default.ensures.reads (rdata_of c.in-Ok.«data») c.in-Ok.ensures.sound c.in-Ok.ensures.complete g.S.Sink.took _
+    _
     (rw c.in_default-2.is at c.in_ok-refusal.ensures)

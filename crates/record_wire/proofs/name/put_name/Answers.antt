@@ -1,7 +1,7 @@
 -- Each turn reads the labels up to a pointer, and goes on where it leads.
 use Rattle.record_wire.proofs.Words.{◌≡◌, ◌+◌, ◌<◌, [], ◌∷◌, ◌++◌, ◌∙◌, IsNoPart, List, ℕ, ap, arith, front_of, length}
 use Rattle.record_wire.proofs.Words.{length-append, length-take-le, refl, rules, shown, subst, sym, take}
-use Rattle.record_wire.specs.NameParts.{EndsTooFar}
+use Rattle.record_wire.specs.private.NameParts.{EndsTooFar}
 use Rattle.record_wire.proofs.NameParts.{all_same, no_name_far, no_name_torn, no_name_long, no_name_more}
 use Rattle.record_wire.proofs.NameParts.{room_for_labels, drop_whole}
 use Rattle.record_wire.proofs.NameRefusals.{at_start, at_labels, at_pointer, named, labels_long, label_long}

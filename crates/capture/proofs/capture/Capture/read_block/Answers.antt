@@ -1,7 +1,7 @@
 -- A block is passed over, or taken.
 use Rattle.std.proofs.Common.{[], sym, subst, ◌∙◌}
 use Rattle.capture.specs.Capture.{state_of}
-use Rattle.capture.specs.Taken.{BlockTakes}
+use Rattle.capture.specs.private.Taken.{BlockTakes}
 use Rattle.capture.proofs.Sections.{block_ends, block_passed, block_read, block_whole, if_ok}
 use Rattle.capture.proofs.capture.Capture.read_block.Goals as goal
 

@@ -1,7 +1,7 @@
 -- The state of the reading decides what comes next.
 use Rattle.std.proofs.Common.{sym, subst, ap, ◌∙◌, arith}
 use Rattle.capture.specs.Capture.{State, state_of}
-use Rattle.capture.specs.Reader.{Reads}
+use Rattle.capture.specs.private.Reader.{Reads}
 use Rattle.capture.proofs.Sections.{if_ok}
 use Rattle.capture.proofs.Units.{record_gives, block_gives}
 use Rattle.capture.proofs.capture.Capture.read_step.Goals as goal

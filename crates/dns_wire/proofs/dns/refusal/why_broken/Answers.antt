@@ -32,7 +32,8 @@ loop-rest-preserved c =
 pub returns-in_default-clause-told : goal.returns-in_default-clause-told
 returns-in_default-clause-told c =
     let place = c.in-Pointer.place in
-    route_breaks c.args.text.now c.args.message.now (NameRefusal.Pointer place) (c.loop-rest.invariant.breaks (NameRefusal.Pointer place)
+    route_breaks c.args.text.now c.args.message.now (NameRefusal.Pointer place) (c.loop-rest.invariant.breaks
+    (NameRefusal.Pointer place)
     (breaks_far c.loop-rest.left.now c.loop-rest.reach.now place c.in-Pointer.ensures
     (c.follow.ensures.none c.in_default.is)))
 

@@ -8,7 +8,8 @@ use Rattle.record_wire.proofs.name.name_text.put_labels.Goals as goal
 
 pub returns-in_default : goal.returns-in_default
 returns-in_default g c =
-    puts_as _ _ _ _ _ _ (sym (ap name_text (labels-none c.args.octets.now (sym c.in_default.ensures)))) c.put_str.ensures
+    puts_as _ _ _ _ _ _ (sym (ap name_text (labels-none c.args.octets.now (sym c.in_default.ensures))))
+    c.put_str.ensures
 
 pub loop-len-init : goal.loop-len-init
 loop-len-init g c = record {

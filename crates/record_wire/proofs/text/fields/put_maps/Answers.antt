@@ -18,7 +18,8 @@ loop-upper-preserved g c =
     let put : WritesInCalls g.S.Sink.took c.loop-upper.output text c.put_map.new.output =
     rw c.from.ensures at c.in_ok-put_map.ensures.calls in (
       done ++ text,
-      one_text done (maps_text c.loop-upper.left.now) text (maps_text c.in-Some.rest.now) (maps_text c.args.octets.now) is
+      one_text done (maps_text c.loop-upper.left.now) text (maps_text c.in-Some.rest.now) (maps_text c.args.octets.now)
+          is
           (maps_more c.loop-upper.left.now c.in-Some.rest.now first (sym c.in-Some.ensures)),
       before then put,
     )

@@ -11,4 +11,5 @@ returns g c =
     (puts_before s.labels _ _ _ (rw c.from-2.ensures at c.in_ok-put_before-2.ensures.calls)
     (puts_before s.original_ttl _ _ _ c.in_ok-put_before-3.ensures.calls
     (puts_before s.expiration _ _ _ c.in_ok-put_before-4.ensures.calls
-    (puts_before s.inception _ _ _ c.in_ok-put_before-5.ensures.calls (rw c.from-3.ensures at c.put_number.ensures)))))))
+    (puts_before s.inception _ _ _ c.in_ok-put_before-5.ensures.calls (rw c.from-3.ensures at
+    c.put_number.ensures)))))))

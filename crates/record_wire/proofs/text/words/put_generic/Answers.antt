@@ -16,5 +16,6 @@ returns g c =
     let octets = c.args.octets.now in
     puts_as _ _ _ _ _ _
     (generic_some octets (eqb-false (length octets) 0 (sym c.is_empty.ensures ∙ c.if-is_empty.false)))
-    (puts_last _ _ _ (c.in_ok-put_str.ensures.calls then c.in_ok-put_number.ensures.calls then c.in_ok-put_str-2.ensures.calls)
+    (puts_last _ _ _ (c.in_ok-put_str.ensures.calls then c.in_ok-put_number.ensures.calls then
+    c.in_ok-put_str-2.ensures.calls)
     c.put_hex.ensures)

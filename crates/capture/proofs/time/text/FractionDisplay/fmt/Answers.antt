@@ -13,7 +13,8 @@ put-requires g c =
     let time = c.args.self.now in
     let text : c.first_digits.result.now ≡ take time.digits (last_digits 9 time.nanoseconds)
     = c.first_digits.ensures ∙ ap (take time.digits) (c.nine_digits-all.ensures ∙ ap (last_digits 9) c.from.ensures) in
-    subst IsAscii (sym text) (IsAscii-take (last_digits 9 time.nanoseconds) time.digits (last_digits-ascii 9 time.nanoseconds))
+    subst IsAscii (sym text) (IsAscii-take (last_digits 9 time.nanoseconds) time.digits (last_digits-ascii 9
+    time.nanoseconds))
 
 pub returns-clause-writes : goal.returns-clause-writes
 returns-clause-writes g c = λ plain ok.

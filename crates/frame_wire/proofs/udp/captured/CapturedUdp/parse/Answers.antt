@@ -8,7 +8,13 @@ use Rattle.frame_wire.specs.declared.udp.Refusal.{Refusal}
 pub returns-in-Some-Cut-clause-sound : goal.returns-in-Some-Cut-clause-sound
 returns-in-Some-Cut-clause-sound c =
     let octets = c.args.octets.now in
-    let refused : RefusesLen octets (Refusal.Cut c.in-Some-Cut.total) = first_of (search rules, grind (arith, common_steps)) in
+    let refused : RefusesLen octets (Refusal.Cut c.in-Some-Cut.total) = first_of (
+      search rules,
+      grind (
+        arith,
+        common_steps,
+      ),
+    ) in
     cut _ (record { fixed = refused.0; order = first_of (search rules, grind (arith, common_steps)) })
     (omega (arith, refused.1, refused.3)) (omega (arith, refused.1, refused.3))
     (record {

@@ -1,6 +1,6 @@
 use Rattle.std.proofs.Common.{◌≡◌, List, ◌∷◌, ℕ, take, rules, sym, ap, ◌∙◌}
 use Rattle.icmp6_wire.specs.Words.{octets_of}
-use Rattle.icmp6_wire.specs.MldIterators.{sources_in}
+use Rattle.icmp6_wire.specs.private.MldIterators.{sources_in}
 use Rattle.icmp6_wire.proofs.MldIterators.{no_source_ahead, source_ahead, first_off}
 use Rattle.icmp6_wire.proofs.mld.iterators.SourcesIterator.next.Goals as goal
 

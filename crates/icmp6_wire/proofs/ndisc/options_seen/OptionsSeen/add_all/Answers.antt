@@ -1,7 +1,7 @@
 use Rattle.std.proofs.Common.{length, refl, sym}
 use Rattle.std.proofs.lemmas.Bool.{eqb-true, eqb-false}
 use Rattle.std.proofs.lemmas.List.{nil_from_length}
-use Rattle.icmp6_wire.specs.NdiscOptionsSeen.{kept_of}
+use Rattle.icmp6_wire.specs.private.NdiscOptionsSeen.{kept_of}
 use Rattle.icmp6_wire.proofs.NdiscTiling.{front_lacks, blocks_behind, says_more, says_all}
 use Rattle.icmp6_wire.proofs.ndisc.options_seen.OptionsSeen.add_all.Goals as goal
 

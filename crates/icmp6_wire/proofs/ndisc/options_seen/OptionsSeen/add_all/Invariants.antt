@@ -1,7 +1,7 @@
 use Rattle.std.proofs.Common.{List, length}
 use Rattle.icmp6_wire.specs.Words.{keep_all, OptionValue}
 use Rattle.icmp6_wire.specs.NdiscBlocks.{AreBlocks}
-use Rattle.icmp6_wire.specs.NdiscOptionsSeen.{kept_of, keep, Says, HasBlocks}
+use Rattle.icmp6_wire.specs.private.NdiscOptionsSeen.{kept_of, keep, Says, HasBlocks}
 use Rattle.icmp6_wire.proofs.ndisc.options_seen.OptionsSeen.add_all.Given as goal
 
 -- the options to come, kept too, are all that the payload says; and what is left is blocks, where all is

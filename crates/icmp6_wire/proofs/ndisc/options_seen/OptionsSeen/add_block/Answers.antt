@@ -1,4 +1,4 @@
-use Rattle.icmp6_wire.specs.NdiscOptionsSeen.{noted}
+use Rattle.icmp6_wire.specs.private.NdiscOptionsSeen.{noted}
 use Rattle.icmp6_wire.proofs.ndisc.options_seen.OptionsSeen.add_block.Goals as goal
 
 pub returns-in-Ok : goal.returns-in-Ok

@@ -7,7 +7,8 @@ abbrev behind_colon : ℕ → List ℕ
 behind_colon byte = codes ":" ++ encode_lower (byte ∷ [])
 
 first_and_rest : (bytes : List ℕ) → 1 ≤ length bytes
-    → encode_lower (get_or bytes 0 0 ∷ []) ++ flat_map behind_colon (take (length bytes - 1) (drop 1 bytes)) ≡ hex_colons bytes
+    → encode_lower (get_or bytes 0 0 ∷ []) ++ flat_map behind_colon (take (length bytes - 1) (drop 1 bytes)) ≡
+    hex_colons bytes
 first_and_rest [] some = absurd (omega arith)
 first_and_rest (byte ∷ rest) some =
     ap (λ (l : List ℕ). encode_lower (byte ∷ []) ++ flat_map behind_colon l) (take_rest (byte ∷ rest) 1)

@@ -1,0 +1,4 @@
+pub mod Parts
+pub mod Reader
+pub mod Taken
+pub mod Unit

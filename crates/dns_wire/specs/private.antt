@@ -1,0 +1,2 @@
+pub mod DnsNameAhead
+pub mod Parts

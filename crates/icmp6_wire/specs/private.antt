@@ -1,0 +1,2 @@
+pub mod MldIterators
+pub mod NdiscOptionsSeen

@@ -1,0 +1,2 @@
+pub mod Ipv6OptionModel
+pub mod NdiscOptionBlocks
