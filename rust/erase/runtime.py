@@ -66,6 +66,27 @@ def files(file, i):
 
 
 @rule(RUNTIME)
+def holder(file, i):
+    """A struct that holds the runtime alone, `struct S<'a, R> { rt: &'a R }`, holds nothing, and a trait that it has over
+    any runtime, `impl<R: Files> T for S<'_, R>`, it has over std's: `R::Reader` is `io::Stdin`, `R::File` is `fs::File`."""
+    if file.text(i) == "struct" and file.texts(i + 2, "<", "'a", ",", "R", ">", "{", *"rt : & 'a R , }".split()):
+        file.remove(i + 8, i + 14, comment=False)
+        return file.remove(i + 2, i + 7, comment=False)
+    if file.texts(i, "{", "rt", "}"):
+        return file.remove(i + 1, i + 2, comment=False)
+    if file.texts(i, "let", "rt", "=", "self", ".", "rt", ";"):
+        return file.remove(i, i + 7)
+    body = file.body(i) if file.texts(i, "impl", "<", "R", ":") else 0
+    if not file.texts(body - 5, "<", "'_", ",", "R", ">", "{"):
+        return None
+    for k in range(file.close(body), body, -1):
+        if file.texts(k, "R", "::"):
+            file.replace(k, k + 3, {"Reader": "io::Stdin", "File": "fs::File"}[file.text(k + 2)])
+    file.remove(body - 5, body, comment=False)
+    return file.remove(i + 1, file.close_angle(i + 1) + 1, comment=False)
+
+
+@rule(RUNTIME)
 def generator(file, i):
     """`Rng` of rand_core is `RngCore` before its version 0.10, as in those that Debian has."""
     if not file.texts(i, "Rng") or not file.texts(i - 4, "use", "rand_core", "::", "{"):

@@ -53,6 +53,8 @@ SHAPES = {
                     r"to_string_in|concat_in|to_vec_in|repeat_in|try_clone|(crate :: )?rattle_std :: vec|"),
     "reader": (r"rt \. reader", r"io :: reader"),
     "files": (r"< R : Files >|R :: File", r"(fs :: File)?"),
+    "holder": (r"< 'a , R >|rt : & 'a R ,|rt|let rt = self \. rt ;|< R : \w+( \+ \w+)* >|< '_ , R >|R :: (Reader|File)",
+               r"(io :: Stdin|fs :: File)?"),
     "generator": (r"Rng", r"RngCore"),
     "handed": (r"let alloc = rt \. alloc \( \.\. \) ;|(, )?&? ?(rt|alloc)"
                r"( : &? ?(impl \w+|\( \.\. \)|HostRuntime|Global|R))?( \. alloc \( \.\. \))?( ,)?", ""),

@@ -1,3 +1,4 @@
+pub mod EachFile
 pub mod Faults
 pub mod Headings
 pub mod Names

@@ -1,14 +1,14 @@
 -- What a capture prints, from its first byte on, and the counts of its packets. This is the manual, with the headings,
 -- the listings and the counts in files of their own.
 use Rattle.std.specs.Prelude.{◌≡◌, ℕ, ◌+◌, ◌-◌, ◌^◌, ◌||◌, ◌&&◌, min, Bool, true, false, List, [], ◌∷◌, ◌++◌, length}
-use Rattle.std.specs.Prelude.{get_or, is_some, Option, None, Some}
+use Rattle.std.specs.Prelude.{get_or, is_some, Option, None, Some, IfSome}
 use Rattle.capture.specs.Capture.{IsCapture}
 use Rattle.capture.specs.Packet.{PacketValue}
 use Rattle.capture.specs.declared.ending.Ending.{Ending}
 use Rattle.dump_captures.specs.Heading.{heading}
 use Rattle.dump_captures.specs.Kinds.{kind_place}
 use Rattle.dump_captures.specs.Messages.{ListingPrints}
-use Rattle.dump_captures.specs.Sight.{HeadersValue, unread, other, control, IsSight}
+use Rattle.dump_captures.specs.Sight.{HeadersValue, kind_in, unread, other, control, IsSight}
 use Rattle.dump_captures.specs.Tally.{TallyValue, counted}
 use Rattle.dump_captures.specs.declared.kind.Kind.{Kind}
 use Rattle.dump_captures.specs.declared.kind.Reason.{Reason}
@@ -21,7 +21,7 @@ use Rattle.dump_captures.specs.declared.tally.Outcome.TheVariants.{Unread, Other
 
 -- the packets that are chosen: by their kind, or by their hop-by-hop options
 abbrev pub is_chosen : Only → HeadersValue → Bool
-is_chosen only h = get_or only.kinds (kind_place h.kind) false || (only.hop_by_hop && is_some h.hop_by_hop)
+is_chosen only h = get_or only.kinds (kind_place (kind_in h.content)) false || (only.hop_by_hop && is_some h.hop_by_hop)
 
 -- what becomes of a control packet
 abbrev pub outcome_of : Kind → Option Reason → Outcome
@@ -36,11 +36,11 @@ pub data PacketPrints (options : Options) (number : ℕ) (p : PacketValue) (text
   of_other : IsSight p other → text ≡ [] → outcome ≡ Other → PacketPrints options number p text outcome
   printed : (h : HeadersValue) (listing : List ℕ) (why : Option Reason) → IsSight p (control h)
       → is_chosen options.only h ≡ true → options.prints ≡ true → ListingPrints h listing why
-      → text ≡ heading number p h ++ listing → outcome ≡ outcome_of h.kind why
+      → text ≡ heading number p h ++ listing → outcome ≡ outcome_of (kind_in h.content) why
       → PacketPrints options number p text outcome
   counted_alone : (h : HeadersValue) (listing : List ℕ) (why : Option Reason) → IsSight p (control h)
       → is_chosen options.only h ≡ true → options.prints ≡ false → ListingPrints h listing why → text ≡ []
-      → outcome ≡ outcome_of h.kind why → PacketPrints options number p text outcome
+      → outcome ≡ outcome_of (kind_in h.content) why → PacketPrints options number p text outcome
   passed : (h : HeadersValue) → IsSight p (control h) → is_chosen options.only h ≡ false → text ≡ []
       → outcome ≡ Passed → PacketPrints options number p text outcome
 
@@ -64,4 +64,12 @@ pub record CapturePrints (options : Options) (bytes : List ℕ) (old : TallyValu
     (ending : Ending) : Type 0 where
   pub packets : List PacketValue
   pub holds : IsCapture bytes packets ending
+  pub prints : PacketsPrint options 0 old packets text new
+
+-- What an input prints: packets, which are those of the capture where its bytes are known and were all read. It ends so,
+-- or none says how where a read fails.
+pub record InputPrints (options : Options) (bytes : Option (List ℕ)) (old : TallyValue) (text : List ℕ)
+    (new : TallyValue) (ending : Option Ending) : Type 0 where
+  pub packets : List PacketValue
+  pub holds : IfSome ending (λ e. IfSome bytes (λ all. IsCapture all packets e))
   pub prints : PacketsPrint options 0 old packets text new

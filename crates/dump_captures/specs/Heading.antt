@@ -9,7 +9,7 @@ use Rattle.frame_wire.specs.declared.datagram.Addresses.TheVariants.{V4, V6}
 use Rattle.wirebase.specs.EndpointText.{v4_text, v6_text}
 use Rattle.listing.specs.Layout.{line}
 use Rattle.dump_captures.specs.Kinds.{kind_text}
-use Rattle.dump_captures.specs.Sight.{HeadersValue}
+use Rattle.dump_captures.specs.Sight.{HeadersValue, kind_in}
 use Rattle.dump_captures.specs.TimeText.{time_text}
 
 -- the time of a packet, where it has one
@@ -48,4 +48,4 @@ hop_by_hop_text (Some options) = codes " hbh"
 unfoldable pub heading : ℕ → PacketValue → HeadersValue → List ℕ
 heading number p h =
     decimal number ++ codes " " ++ packet_time p.time ++ addresses_text h.addresses h.ports ++ tags_text h.tags
-    ++ hop_by_hop_text h.hop_by_hop ++ codes " " ++ line (kind_text h.kind)
+    ++ hop_by_hop_text h.hop_by_hop ++ codes " " ++ line (kind_text (kind_in h.content))

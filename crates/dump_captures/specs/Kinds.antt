@@ -1,8 +1,5 @@
--- The kinds of control packets, which datagrams are of which kind, and the reasons for which a packet is refused.
-use Rattle.std.specs.Prelude.{ℕ, ◌==◌, ◌||◌, ◌&&◌, Bool, if◌then◌else◌, List, [], ◌∷◌, codes, Option, None, Some}
-use Rattle.wirebase.specs.declared.ip.IpProtocol.{IpProtocol}
-use Rattle.wirebase.specs.declared.ip.IpProtocol.TheVariants.{HopByHop, Icmp, Igmp, Udp, Ipv6Route, Ipv6Frag, Icmpv6}
-use Rattle.wirebase.specs.declared.ip.IpProtocol.TheVariants.{Ipv6Opts}
+-- The kinds of control packets, and the reasons for which one is refused.
+use Rattle.std.specs.Prelude.{ℕ, List, [], ◌∷◌, codes}
 use Rattle.dump_captures.specs.declared.kind.Kind.{Kind}
 use Rattle.dump_captures.specs.declared.kind.Kind.TheVariants as kind
 use Rattle.dump_captures.specs.declared.kind.Reason.{Reason}
@@ -33,41 +30,6 @@ kind_place kind.Dns = 3
 kind_place kind.Mdns = 4
 kind_place kind.Dhcp = 5
 kind_place kind.Frame = 6
-
--- ---- which datagrams are of which kind
-
--- a port is that of the source or of the destination
-abbrev pub has_port : ℕ × ℕ → ℕ → Bool
-has_port ports n = (ports.0 == n) || (ports.1 == n)
-
--- of UDP, over IPv4 or not, by the first row that holds
-abbrev pub kind_of_ports : Bool → ℕ × ℕ → Option Kind
-kind_of_ports is_v4 ports =
-    if has_port ports 53 then Some kind.Dns
-    else if has_port ports 5353 then Some kind.Mdns
-    else if is_v4 && (has_port ports 67 || has_port ports 68) then Some kind.Dhcp
-    else None
-
--- where the ports are not there, the kind can't be told
-abbrev pub kind_of_udp : Bool → Option (ℕ × ℕ) → Option Kind
-kind_of_udp is_v4 None = Some kind.Frame
-kind_of_udp is_v4 (Some ports) = kind_of_ports is_v4 ports
-
--- after an IPv6 header that was not passed it can't be told either
-abbrev pub kind_behind : Bool → Option Kind
-kind_behind is_v4 = if is_v4 then None else Some kind.Frame
-
--- of a protocol, over IPv4 or not; none is of another protocol
-abbrev pub kind_of : Bool → IpProtocol → Option (ℕ × ℕ) → Option Kind
-kind_of is_v4 Icmp ports = if is_v4 then Some kind.Icmp4 else None
-kind_of is_v4 Igmp ports = if is_v4 then Some kind.Igmp else None
-kind_of is_v4 Icmpv6 ports = if is_v4 then None else Some kind.Icmp6
-kind_of is_v4 Udp ports = kind_of_udp is_v4 ports
-kind_of is_v4 HopByHop ports = kind_behind is_v4
-kind_of is_v4 Ipv6Route ports = kind_behind is_v4
-kind_of is_v4 Ipv6Frag ports = kind_behind is_v4
-kind_of is_v4 Ipv6Opts ports = kind_behind is_v4
-kind_of is_v4 _ ports = None
 
 -- ---- reasons
 

@@ -1,6 +1,7 @@
 pub mod Arguments
 pub mod Dump
 pub mod Fault
+pub mod Files
 pub mod Heading
 pub mod Kinds
 pub mod Messages

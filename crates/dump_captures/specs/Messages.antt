@@ -1,5 +1,5 @@
 -- What a control packet prints below its heading, each line after two spaces, and why it is refused if it is.
-use Rattle.std.specs.Prelude.{◌≡◌, ℕ, Bool, true, false, List, [], ◌++◌, length, nat_lt, if◌then◌else◌}
+use Rattle.std.specs.Prelude.{◌≡◌, ℕ, Bool, true, false, List, [], ◌++◌}
 use Rattle.std.specs.Prelude.{Option, None, Some, codes}
 use Rattle.std.specs.Option.{option_map}
 use Rattle.wirebase.specs.Bytes.{bytes_of}
@@ -15,10 +15,7 @@ use Rattle.quote_wire.specs.Icmpv6Message as icmpv6
 use Rattle.frame_wire.specs.Udp.{IsDatagram, payload_field}
 use Rattle.frame_wire.specs.UdpRefusal as udp_refusals
 use Rattle.frame_wire.specs.declared.datagram.Addresses.{Addresses}
-use Rattle.frame_wire.specs.declared.datagram.Addresses.TheVariants.{V4, V6}
-use Rattle.frame_wire.specs.declared.datagram.Refusal.TheVariants.{Version}
 use Rattle.frame_wire.specs.declared.udp.Refusal.{Refusal as UdpRefusal}
-use Rattle.frame_wire.specs.declared.udp.Refusal.TheVariants.{Short}
 use Rattle.frame_wire.specs.declared.udp.UdpRepr.{UdpRepr}
 use Rattle.listing.specs.Indented.{indented}
 use Rattle.listing.specs.Layout.{part_field}
@@ -32,9 +29,8 @@ use Rattle.listing.specs.ListingIgmp.{igmp_listing}
 use Rattle.listing.specs.ListingMessage.{MessagePrints}
 use Rattle.listing.specs.declared.message.unread.Unread.{Unread}
 use Rattle.dump_captures.specs.Refusals.{reason_of, refusal_display}
-use Rattle.dump_captures.specs.Sight.{ContentValue, whole, refused, HeadersValue}
-use Rattle.dump_captures.specs.declared.kind.Kind.{Kind}
-use Rattle.dump_captures.specs.declared.kind.Kind.TheVariants as kind
+use Rattle.dump_captures.specs.Sight.{ContentValue, HeadersValue}
+use Rattle.dump_captures.specs.Sight as sight
 use Rattle.dump_captures.specs.declared.kind.Reason.{Reason}
 use Rattle.dump_captures.specs.declared.refusal.Refusal.{Refusal}
 use Rattle.dump_captures.specs.declared.refusal.Refusal.TheVariants as refusal
@@ -124,26 +120,20 @@ pub data OptionsPrint (options : Option (List ℕ)) (text : List ℕ) : Type 0 w
   some : (octets listed : List ℕ) → options ≡ Some octets → HbhPrints octets listed → text ≡ indented listed
       → OptionsPrint options text
 
--- a payload by its kind; no payload is of the last ones
-abbrev pub PayloadPrints : Kind → Addresses → List ℕ → List ℕ → Option Reason → Type 0
-PayloadPrints kind.Icmp4 addresses octets text why = Icmp4Prints octets text why
-PayloadPrints kind.Igmp addresses octets text why = IgmpPrints octets text why
-PayloadPrints kind.Icmp6 (V6 source destination) octets text why = Icmp6Prints source destination octets text why
-PayloadPrints kind.Dns addresses octets text why = UdpPrints addresses octets (DnsPrints false) text why
-PayloadPrints kind.Mdns addresses octets text why = UdpPrints addresses octets (DnsPrints true) text why
-PayloadPrints kind.Dhcp addresses octets text why = UdpPrints addresses octets DhcpPrints text why
-PayloadPrints kind.Icmp6 (V4 source destination) octets text why =
-    IsMessageRefusal (refusal.Datagram (Version 4)) text why
-PayloadPrints kind.Frame addresses octets text why = IsMessageRefusal (refusal.Udp Short) text why
-
-abbrev pub ContentPrints : Kind → ContentValue → List ℕ → Option Reason → Type 0
-ContentPrints kind (whole addresses octets) text why = PayloadPrints kind addresses octets text why
-ContentPrints kind (refused reason r) text why = IsRefusal reason r text why
+-- a message, or why there is none to read
+abbrev pub ContentPrints : ContentValue → List ℕ → Option Reason → Type 0
+ContentPrints (sight.icmp4 octets) = Icmp4Prints octets
+ContentPrints (sight.igmp octets) = IgmpPrints octets
+ContentPrints (sight.icmp6 source destination octets) = Icmp6Prints source destination octets
+ContentPrints (sight.dns addresses octets) = UdpPrints addresses octets (DnsPrints false)
+ContentPrints (sight.mdns addresses octets) = UdpPrints addresses octets (DnsPrints true)
+ContentPrints (sight.dhcp addresses octets) = UdpPrints addresses octets DhcpPrints
+ContentPrints (sight.refused kind reason r) = IsRefusal reason r
 
 -- all of it: the hop-by-hop options, and then the message
 pub record ListingPrints (h : HeadersValue) (text : List ℕ) (why : Option Reason) : Type 0 where
   pub options_text : List ℕ
   pub content_text : List ℕ
   pub options : OptionsPrint h.hop_by_hop options_text
-  pub content : ContentPrints h.kind h.content content_text why
+  pub content : ContentPrints h.content content_text why
   pub text_is : text ≡ options_text ++ content_text

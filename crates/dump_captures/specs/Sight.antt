@@ -1,9 +1,12 @@
 -- What the headers of a packet tell: whether it is a control packet and of which kind, and what its heading says of it.
-use Rattle.std.specs.Prelude.{◌≡◌, ℕ, ◌==◌, nat_lt, Bool, true, false, if◌then◌else◌, List, [], length, drop}
-use Rattle.std.specs.Prelude.{Option, None, Some}
+use Rattle.std.specs.Prelude.{◌≡◌, ℕ, ◌==◌, ◌||◌, ◌&&◌, nat_lt, Bool, true, false, if◌then◌else◌, List, [], length}
+use Rattle.std.specs.Prelude.{drop, Option, None, Some}
 use Rattle.std.specs.Option.{option_map}
 use Rattle.wirebase.specs.Ipv4.{header_len_in}
 use Rattle.wirebase.specs.declared.ip.IpProtocol.{IpProtocol}
+use Rattle.wirebase.specs.declared.ip.IpProtocol.TheVariants.{HopByHop, Icmp, Igmp, Udp, Ipv6Route, Ipv6Frag, Icmpv6}
+use Rattle.wirebase.specs.declared.ip.IpProtocol.TheVariants.{Ipv6Opts}
+use Rattle.wirebase.specs.declared.ipv6.address.Ipv6Address.{Ipv6Address}
 use Rattle.capture.specs.Packet.{PacketValue}
 use Rattle.frame_wire.specs.Captured.{CapturedValue, IsCaptured4, RefusesCaptured4, IsCaptured6, RefusesCaptured6}
 use Rattle.frame_wire.specs.Datagram.{DatagramValue, IsDatagram4, Refuses4, IsDatagram6, Refuses6}
@@ -19,7 +22,6 @@ use Rattle.frame_wire.specs.declared.link.Network.TheVariants as network
 use Rattle.frame_wire.specs.declared.link.refusal.Refusal.{Refusal as LinkRefusal}
 use Rattle.frame_wire.specs.declared.udp.Refusal.TheVariants.{Short}
 use Rattle.listing.specs.Ports.{ports_in}
-use Rattle.dump_captures.specs.Kinds.{kind_of}
 use Rattle.dump_captures.specs.Refusals.{reason_of}
 use Rattle.dump_captures.specs.declared.kind.Kind.{Kind}
 use Rattle.dump_captures.specs.declared.kind.Kind.TheVariants as kind
@@ -35,11 +37,16 @@ use Rattle.dump_captures.specs.declared.sight.Sight.TheVariants as sight
 
 -- ---- by content
 
--- the payload of a datagram between two addresses; or the reason under which a packet without one is counted, and why
--- it has none
+-- what a control packet holds: the octets of a message or of a UDP datagram, with the addresses that its checksum
+-- covers; or nothing that can be read: its kind, the reason under which it is counted, and why
 pub data ContentValue : Type 0 where
-  whole : Addresses → List ℕ → ContentValue
-  refused : Reason → Refusal → ContentValue
+  icmp4 : List ℕ → ContentValue
+  igmp : List ℕ → ContentValue
+  icmp6 : Ipv6Address → Ipv6Address → List ℕ → ContentValue
+  dns : Addresses → List ℕ → ContentValue
+  mdns : Addresses → List ℕ → ContentValue
+  dhcp : Addresses → List ℕ → ContentValue
+  refused : Kind → Reason → Refusal → ContentValue
 
 -- what the headers of a control packet tell: VLAN tags of four bytes each, and the addresses, the ports and the
 -- hop-by-hop options where there are any
@@ -48,7 +55,6 @@ pub record HeadersValue : Type 0 where
   pub addresses : Option Addresses
   pub ports : Option (ℕ × ℕ)
   pub hop_by_hop : Option (List ℕ)
-  pub kind : Kind
   pub content : ContentValue
 
 -- a frame of a link that is not read, a packet of another protocol, or a control packet
@@ -58,8 +64,13 @@ pub data SightValue : Type 0 where
   control : HeadersValue → SightValue
 
 abbrev pub content_of : Content → ContentValue
-content_of (content.Whole addresses octets) = whole addresses octets.now
-content_of (content.Refused counted r) = refused counted r
+content_of (content.Icmp4 octets) = icmp4 octets.now
+content_of (content.Igmp octets) = igmp octets.now
+content_of (content.Icmp6 source destination octets) = icmp6 source destination octets.now
+content_of (content.Dns addresses octets) = dns addresses octets.now
+content_of (content.Mdns addresses octets) = mdns addresses octets.now
+content_of (content.Dhcp addresses octets) = dhcp addresses octets.now
+content_of (content.Refused kind counted r) = refused kind counted r
 
 abbrev pub headers_of : Headers → HeadersValue
 headers_of h = record {
@@ -67,7 +78,6 @@ headers_of h = record {
   addresses = h.addresses;
   ports = h.ports;
   hop_by_hop = option_map (λ octets. octets.now) h.hop_by_hop;
-  kind = h.kind;
   content = content_of h.content;
 }
 
@@ -76,34 +86,68 @@ sight_of sight.Unread = unread
 sight_of sight.Other = other
 sight_of (sight.Control h) = control (headers_of h)
 
--- ---- a datagram that is whole
+abbrev pub kind_in : ContentValue → Kind
+kind_in (icmp4 octets) = kind.Icmp4
+kind_in (igmp octets) = kind.Igmp
+kind_in (icmp6 source destination octets) = kind.Icmp6
+kind_in (dns addresses octets) = kind.Dns
+kind_in (mdns addresses octets) = kind.Mdns
+kind_in (dhcp addresses octets) = kind.Dhcp
+kind_in (refused kind counted r) = kind
+
+-- ---- what a datagram holds
+
+-- a port is that of the source or of the destination
+abbrev pub has_port : ℕ × ℕ → ℕ → Bool
+has_port ports n = (ports.0 == n) || (ports.1 == n)
 
 abbrev pub is_v4 : Addresses → Bool
 is_v4 (V4 source destination) = true
 is_v4 (V6 source destination) = false
 
--- without its ports, nothing more of a UDP datagram can be read
-abbrev pub content_by : Kind → Addresses → List ℕ → ContentValue
-content_by kind.Frame addresses payload = refused reason.Short (refusal.Udp Short)
-content_by _ addresses payload = whole addresses payload
+-- too little of a datagram can be read to tell its kind
+abbrev pub unknown : ContentValue
+unknown = refused kind.Frame reason.Short (refusal.Udp Short)
 
-abbrev pub datagram_headers : List ℕ → DatagramValue → Kind → HeadersValue
-datagram_headers tags d kind = record {
+-- of UDP, by its ports and the first row that holds
+abbrev pub content_of_udp : Addresses → Option (ℕ × ℕ) → List ℕ → Option ContentValue
+content_of_udp addresses None payload = Some unknown
+content_of_udp addresses (Some ports) payload =
+    if has_port ports 53 then Some (dns addresses payload)
+    else if has_port ports 5353 then Some (mdns addresses payload)
+    else if is_v4 addresses && (has_port ports 67 || has_port ports 68) then Some (dhcp addresses payload)
+    else None
+
+-- of a protocol over IPv4 or IPv6, where an IPv6 header that was not passed hides the kind; none is of another protocol
+abbrev pub content_by : Addresses → IpProtocol → Option (ℕ × ℕ) → List ℕ → Option ContentValue
+content_by addresses Udp ports payload = content_of_udp addresses ports payload
+content_by (V4 source destination) Icmp ports payload = Some (icmp4 payload)
+content_by (V4 source destination) Igmp ports payload = Some (igmp payload)
+content_by (V6 source destination) Icmpv6 ports payload = Some (icmp6 source destination payload)
+content_by (V6 source destination) HopByHop ports payload = Some unknown
+content_by (V6 source destination) Ipv6Route ports payload = Some unknown
+content_by (V6 source destination) Ipv6Frag ports payload = Some unknown
+content_by (V6 source destination) Ipv6Opts ports payload = Some unknown
+content_by _ _ ports payload = None
+
+-- ---- a datagram that is whole
+
+abbrev pub sight_by : Option ContentValue → (ContentValue → HeadersValue) → SightValue
+sight_by None headers = other
+sight_by (Some content) headers = control (headers content)
+
+abbrev pub datagram_headers : List ℕ → DatagramValue → ContentValue → HeadersValue
+datagram_headers tags d content = record {
   tags = tags;
   addresses = Some d.addresses;
   ports = ports_in d.protocol d.payload;
   hop_by_hop = d.hop_by_hop;
-  kind = kind;
-  content = content_by kind d.addresses d.payload;
+  content = content;
 }
-
-abbrev pub sight_by : Option Kind → (Kind → HeadersValue) → SightValue
-sight_by None headers = other
-sight_by (Some kind) headers = control (headers kind)
 
 abbrev pub datagram_sight : List ℕ → DatagramValue → SightValue
 datagram_sight tags d =
-    sight_by (kind_of (is_v4 d.addresses) d.protocol (ports_in d.protocol d.payload)) (datagram_headers tags d)
+    sight_by (content_by d.addresses d.protocol (ports_in d.protocol d.payload) d.payload) (datagram_headers tags d)
 
 -- ---- a datagram that is refused
 
@@ -111,24 +155,24 @@ datagram_sight tags d =
 abbrev pub is_cut : PacketValue → Bool
 is_cut p = nat_lt (length p.octets) p.original_len
 
-abbrev pub refused_headers : List ℕ → Option Addresses → Option (ℕ × ℕ) → Reason → Refusal → Kind → HeadersValue
-refused_headers tags addresses ports counted r kind = record {
+abbrev pub refused_headers : List ℕ → Option Addresses → Option (ℕ × ℕ) → Kind → Reason → Refusal → HeadersValue
+refused_headers tags addresses ports kind counted r = record {
   tags = tags;
   addresses = addresses;
   ports = ports;
   hop_by_hop = None;
-  kind = kind;
-  content = refused counted r;
+  content = refused kind counted r;
 }
 
 -- only the VLAN tags are known
 abbrev pub untold : List ℕ → Reason → Refusal → SightValue
-untold tags counted r = control (refused_headers tags None None counted r kind.Frame)
+untold tags counted r = control (refused_headers tags None None kind.Frame counted r)
 
--- its addresses and its protocol are known, and the ports where they are there
+-- its addresses and its protocol are known, and the ports where they are there: they tell the kind, whatever the payload
 abbrev pub told : List ℕ → Addresses → IpProtocol → Option (ℕ × ℕ) → Reason → Refusal → SightValue
 told tags addresses protocol ports counted r =
-    sight_by (kind_of (is_v4 addresses) protocol ports) (refused_headers tags (Some addresses) ports counted r)
+    sight_by (content_by addresses protocol ports [])
+    (λ content. refused_headers tags (Some addresses) ports (kind_in content) counted r)
 
 -- the start of a datagram, as far as the capture has it
 abbrev pub told_front : List ℕ → DatagramValue → Reason → Refusal → SightValue

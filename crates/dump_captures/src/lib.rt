@@ -3,6 +3,7 @@
 
 pub mod arguments;
 mod fault;
+mod files;
 mod heading;
 mod help;
 pub mod kind;
@@ -11,6 +12,7 @@ pub mod options;
 mod packets;
 mod program;
 pub mod refusal;
+mod reports;
 mod sight;
 pub mod summary;
 pub mod table;
@@ -18,5 +20,6 @@ pub mod tally;
 pub mod time;
 
 pub use fault::Fault;
+pub use files::{Captures, dump_all};
 pub use packets::{Report, dump, run_onto};
 pub use program::run_program;

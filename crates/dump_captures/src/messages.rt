@@ -9,18 +9,16 @@ ghost use Rattle.std.specs.Prelude.{◌≡◌, OnOk, IfOk, None, Some, false};
 ghost use Rattle.std.specs.Option.{option_map};
 ghost use Rattle.listing.specs.Indented.{indented};
 ghost use Rattle.listing.specs.Output.{Gains, GainsSome};
-ghost use Rattle.dump_captures.specs.Messages.{refusal_text, OptionsPrint, PayloadPrints, ContentPrints};
-ghost use Rattle.dump_captures.specs.Messages.{ListingPrints};
+ghost use Rattle.dump_captures.specs.Messages.{refusal_text, OptionsPrint, ContentPrints, ListingPrints};
 ghost use Rattle.dump_captures.specs.Refusals.{reason_of};
 ghost use Rattle.dump_captures.specs.Sight.{headers_of, content_of};
 
 use crate::Fault;
-use crate::kind::{Kind, Reason};
+use crate::kind::Reason;
 use crate::messages::icmp::{show_icmp4, show_icmp6, show_igmp};
 use crate::messages::udp::{show_dhcp, show_dns};
 use crate::refusal::Refusal;
 use crate::sight::{Content, Headers};
-use frame_wire::{Addresses, udp as udp_wire};
 use listing::hbh::show_hbh;
 use listing::page::{Page, write_indented};
 use std::io;
@@ -37,7 +35,7 @@ pub fn show_listing<W: Write>(
         (λ text. ListingPrints (headers_of headers.now) text why)) }
 {
     show_options(output, page, headers.hop_by_hop)?;
-    show_content(output, page, headers.kind, headers.content)
+    show_content(output, page, &headers.content)
 }
 
 // Prints hop-by-hop options, where there are any.
@@ -58,47 +56,25 @@ fn show_options<W: Write>(
     Ok(())
 }
 
+// Prints a message, or why there is none to read.
 fn show_content<W: Write>(
     output: &mut W,
     page: &mut Page,
-    kind: Kind,
-    content: Content<'_>,
+    content: &Content<'_>,
 ) -> Result<Option<Reason>, Fault>
     ensures { IfOk result (λ why. GainsSome (W.contents output.old) (W.contents output.new)
-        (λ text. ContentPrints kind (content_of content.entry) text why)) }
+        (λ text. ContentPrints (content_of content.now) text why)) }
 {
     match content {
-        Content::Whole(addresses, octets) => show_payload(output, page, kind, addresses, octets),
-        Content::Refused(reason, refusal) => refuse(output, reason, &refusal),
-    }
-}
-
-// Prints a payload by its kind.
-fn show_payload<W: Write>(
-    output: &mut W,
-    page: &mut Page,
-    kind: Kind,
-    addresses: Addresses,
-    octets: &[u8],
-) -> Result<Option<Reason>, Fault>
-    ensures { IfOk result (λ why. GainsSome (W.contents output.old) (W.contents output.new)
-        (λ text. PayloadPrints kind addresses octets.now text why)) }
-{
-    match kind {
-        Kind::Icmp4 => show_icmp4(output, page, octets),
-        Kind::Igmp => show_igmp(output, page, octets),
-        Kind::Icmp6 => match addresses {
-            Addresses::V6(src_addr, dst_addr) => {
-                show_icmp6(output, page, &src_addr, &dst_addr, octets)
-            }
-            Addresses::V4(_, _) => {
-                refuse_message(output, &Refusal::Datagram(frame_wire::Refusal::Version(4)))
-            }
-        },
-        Kind::Dns => show_dns(output, &addresses, octets, false),
-        Kind::Mdns => show_dns(output, &addresses, octets, true),
-        Kind::Dhcp => show_dhcp(output, page, &addresses, octets),
-        Kind::Frame => refuse_message(output, &Refusal::Udp(udp_wire::Refusal::Short)),
+        Content::Icmp4(octets) => show_icmp4(output, page, octets),
+        Content::Igmp(octets) => show_igmp(output, page, octets),
+        Content::Icmp6(src_addr, dst_addr, octets) => {
+            show_icmp6(output, page, src_addr, dst_addr, octets)
+        }
+        Content::Dns(addresses, octets) => show_dns(output, addresses, octets, false),
+        Content::Mdns(addresses, octets) => show_dns(output, addresses, octets, true),
+        Content::Dhcp(addresses, octets) => show_dhcp(output, page, addresses, octets),
+        Content::Refused(_, reason, refusal) => refuse(output, *reason, refusal),
     }
 }
 

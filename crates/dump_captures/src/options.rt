@@ -34,7 +34,8 @@ impl Only {
     pub fn chooses(&self, headers: &Headers<'_>) -> bool
         ensures { result ≡ is_chosen self.now (headers_of headers.now) }
     {
-        self.kinds[headers.kind.place()] || (self.hop_by_hop && headers.hop_by_hop.is_some())
+        let place = headers.content.kind().place();
+        self.kinds[place] || (self.hop_by_hop && headers.hop_by_hop.is_some())
     }
 }
 

@@ -4,9 +4,9 @@ ghost use Rattle.std.specs.Prelude.{◌≡◌, ◌<◌, ℕ, List, Option, [], I
 ghost use Rattle.capture.specs.Capture.{packet_of};
 ghost use Rattle.std.specs.Io.Buffered.{reader_remaining};
 ghost use Rattle.listing.specs.Output.{Gains, GainsSome};
-ghost use Rattle.dump_captures.specs.Dump.{PacketPrints, CapturePrints, outcome_of};
+ghost use Rattle.dump_captures.specs.Dump.{PacketPrints, CapturePrints, InputPrints, outcome_of};
 ghost use Rattle.dump_captures.specs.Messages.{ListingPrints};
-ghost use Rattle.dump_captures.specs.Sight.{headers_of, IsSight, control};
+ghost use Rattle.dump_captures.specs.Sight.{headers_of, content_of, kind_in, IsSight, control};
 ghost use Rattle.dump_captures.specs.Tally.{tally_of, empty};
 ghost use Rattle.dump_captures.specs.declared.kind.Reason.{Reason as AnyReason};
 
@@ -78,43 +78,65 @@ pub fn dump<R: Read + Drop, W: Write>(
         GainsSome (W.contents output.old) (W.contents output.new) (λ text.
         CapturePrints options.now bytes (tally_of tally.old) text (tally_of tally.new) ending))) }
 {
+    match dump_readable(alloc, options, input, output, tally)? {
+        Some(ending) => Ok(ending),
+        None => Err(Fault::Read),
+    }
+}
+
+/// Dumps as far as the input can be read. None is returned where a read failed.
+pub fn dump_readable<R: Read + Drop, W: Write>(
+    alloc: Global,
+    options: &Options,
+    input: R,
+    output: &mut W,
+    tally: &mut Tally,
+) -> Result<Option<Ending>, Fault>
+    ensures { IfOk result (λ ending. GainsSome (W.contents output.old) (W.contents output.new) (λ text.
+        InputPrints options.now (R.remaining input) (tally_of tally.old) text (tally_of tally.new) ending)) }
+{
     let Ok(mut input) = BufReader::with_capacity(alloc, BUFFER_LEN, input) else {
         return Err(Fault::Memory);
     };
     let answer = show_packets(alloc, options, &mut input, output, tally);
     let flushed = output.flush();
     let ending = answer?;
-    flushed?;
+    if ending.is_some() {
+        flushed?;
+    }
     Ok(ending)
 }
 
-// Prints the packets, and returns what ends them. What is printed is written out before the input is waited for.
+// Prints the packets, and returns what ends them, or None where a read failed. What is printed is written out before
+// the input is waited for.
 fn show_packets<R: Read, W: Write>(
     alloc: Global,
     options: &Options,
     input: &mut BufReader<R>,
     output: &mut W,
     tally: &mut Tally,
-) -> Result<Ending, Fault>
-    ensures { IfOk result (λ ending. IfSome (reader_remaining R.remaining input.old) (λ bytes.
-        GainsSome (W.contents output.old) (W.contents output.new) (λ text.
-        CapturePrints options.now bytes (tally_of tally.old) text (tally_of tally.new) ending))) }
+) -> Result<Option<Ending>, Fault>
+    ensures { IfOk result (λ ending. GainsSome (W.contents output.old) (W.contents output.new) (λ text.
+        InputPrints options.now (reader_remaining R.remaining input.old) (tally_of tally.old) text (tally_of tally.new)
+        ending)) }
 {
     let mut capture = Capture::new(alloc);
     let mut page = Page::new(alloc);
     let mut clock = Clock::new();
     'packets: for _ in 0..u64::MAX {
         write_out_before_wait(&capture, input, output)?;
-        match capture.next(input)? {
-            Next::Record(record) => {
+        match capture.next(input) {
+            Ok(Next::Record(record)) => {
                 let octets = capture.octets();
                 let outcome = show_packet(options, output, &mut page, &mut clock, &record, octets)?;
                 tally.count(outcome, record.link_type, octets.len() as u64);
             }
-            Next::Ended(ending) => return Ok(ending),
+            Ok(Next::Ended(ending)) => return Ok(Some(ending)),
+            Err(capture::Fault::Read) => return Ok(None),
+            Err(fault) => return Err(Fault::from(fault)),
         }
     }
-    Err(Fault::Read)
+    Ok(None)
 }
 
 // Writes out what was printed, where the reading of the next packet has to wait for more of the input.
@@ -144,11 +166,11 @@ pub fn show_packet<W: Write>(
     ensures { IfOk result (λ outcome. GainsSome (W.contents output.old) (W.contents output.new) (λ text.
         PacketPrints options.now captured.now.number (packet_of captured.now octets.now) text outcome)) }
 {
-    match look(captured, octets) {
+    match &look(captured, octets) {
         Sight::Unread => Ok(Outcome::Unread),
         Sight::Other => Ok(Outcome::Other),
         Sight::Control(headers) => {
-            show_control(options, output, page, clock, captured, octets, &headers)
+            show_control(options, output, page, clock, captured, octets, headers)
         }
     }
 }
@@ -178,16 +200,16 @@ fn show_control<W: Write>(
     }
     show_heading(output, clock, captured, octets, headers)?;
     let why = show_listing(output, page, headers)?;
-    Ok(outcome(headers.kind, why))
+    Ok(outcome(headers.content.kind(), why))
 }
 
 // Reads a control packet that is only counted.
 fn count_alone(page: &mut Page, headers: &Headers<'_>) -> Result<Outcome, Fault>
     ensures { IfOk result (λ outcome. (listing : List ℕ) × (why : Option AnyReason)
-        × ListingPrints (headers_of headers.now) listing why × (outcome ≡ outcome_of headers.now.kind why)) }
+        × ListingPrints (headers_of headers.now) listing why × (outcome ≡ outcome_of (kind_in (content_of headers.now.content)) why)) }
 {
     let why = show_listing(&mut io::sink(), page, headers)?;
-    Ok(outcome(headers.kind, why))
+    Ok(outcome(headers.content.kind(), why))
 }
 
 // The outcome for a control packet.

@@ -1,49 +1,47 @@
-//! The program: its files, what it says on standard error, and its status.
+//! The program: its arguments, its files and its status.
+
+ghost use Rattle.std.specs.Prelude.{None};
 
 use crate::arguments::{Task, Wrong, read_task};
+use crate::files::{Captures, FAILED, WHOLE, WRONG, dump_all};
 use crate::options::Options;
-use crate::summary::write_summary;
-use crate::table::show_table;
-use crate::tally::Tally;
-use crate::{Fault, dump, help};
-use capture::Ending;
+use crate::reports::{report_fault, report_wrong};
+use crate::{Fault, help};
 use std::env::Env;
-use std::io::{BufWriter, Input, Read, Write};
+use std::io::{BufWriter, Input, Write};
 use std::rt::Files;
-use std::str::from_utf8;
 use std::{env, fs, io};
-
-// The exit statuses: all was read; a capture ends within a record, or its continuation is not one; an argument, a
-// file's name or a file is wrong; reading, writing or memory failed.
-const WHOLE: u8 = 0;
-
-const BROKEN: u8 = 1;
-
-const WRONG: u8 = 2;
-
-const FAILED: u8 = 3;
 
 // The bytes of the output's buffer.
 const BUFFER_LEN: usize = 65_536;
 
-// An input that keeps the last error of a read.
+// The standard input and the files of the machine.
 #[derive(Drop)]
-struct Watched<R> {
-    input: R,
-    error: Option<io::Error>,
+struct Machine<'a, R> {
+    rt: &'a R,
 }
 
-impl<R: Read> Read for Watched<R> {
-    fn read(&mut self, buf: &mut [u8]) -> io::Result<usize> {
-        match self.input.read(buf) {
-            Ok(count) => Ok(count),
-            Err(error) => {
-                // The reader knows by the error's kind whether to try again.
-                let kind = error.kind();
-                self.error = Some(error);
-                Err(io::Error::from(kind))
-            }
+impl<R: Files + Input> Captures for Machine<'_, R> {
+    type Reader = R::Reader;
+
+    type File = R::File;
+
+    ghost input_bytes = { λ machine. None };
+
+    ghost file_bytes = { λ machine name. None };
+
+    fn reader(&self) -> Self::Reader {
+        let rt = self.rt;
+        rt.reader()
+    }
+
+    // A directory can be opened too, but not read.
+    fn open(&self, name: &str) -> io::Result<Self::File> {
+        let rt = self.rt;
+        if fs::metadata(rt, name)?.is_dir() {
+            return Err(io::Error::from(io::ErrorKind::IsADirectory));
         }
+        fs::open(rt, name)
     }
 }
 
@@ -54,13 +52,16 @@ pub fn run_program(rt: &(impl Env + Files + Input + Print + Eprint + AllocGlobal
         Err(error) if error.kind() == io::ErrorKind::InvalidData => {
             Ok(Task::Unknown(Wrong::NotText))
         }
-        Err(_) => return report_fault(rt, Fault::Memory),
+        Err(_) => Err(Fault::Memory),
     };
     match task {
-        Ok(Task::Dump(options, files)) => dump_all(rt, &options, files.as_slice()),
+        Ok(Task::Dump(options, files)) => dump_files(rt, &options, files.as_slice()),
         Ok(Task::Help) => print_help(rt),
-        Ok(Task::Unknown(wrong)) => report_wrong(rt, &wrong),
-        Err(fault) => report_fault(rt, fault),
+        Ok(Task::Unknown(wrong)) => {
+            report_wrong(rt, &wrong);
+            WRONG
+        }
+        Err(fault) => end_by(rt, fault),
     }
 }
 
@@ -68,195 +69,36 @@ pub fn run_program(rt: &(impl Env + Files + Input + Print + Eprint + AllocGlobal
 fn print_help(rt: &(impl Print + Eprint)) -> u8 {
     match println!(rt; "{}\n\n{}", help::USAGE, help::HELP) {
         Ok(()) => WHOLE,
-        Err(error) => report_fault(rt, Fault::from(error)),
+        Err(error) => end_by(rt, Fault::from(error)),
     }
 }
 
 // Prints the captures of these files, and returns the highest of their statuses.
-fn dump_all(
+fn dump_files(
     rt: &(impl Files + Input + Print + Eprint + AllocGlobal),
     options: &Options,
     files: &[String],
 ) -> u8 {
     let Ok(mut output) = BufWriter::with_capacity(rt.alloc(), BUFFER_LEN, io::writer(rt)) else {
-        return report_fault(rt, Fault::Memory);
+        return end_by(rt, Fault::Memory);
     };
     let mut status = WHOLE;
-    let answer = dump_each(rt, options, files, &mut output, &mut status);
+    let machine = Machine { rt };
+    let answer = dump_all(rt, &machine, options, files, &mut output, &mut status);
     // What a fault left in the buffer precedes the fault's message.
     let flushed = output.flush();
     match (answer, flushed) {
         (Ok(()), Ok(())) => status,
-        (Err(fault), _) => status.max(report_fault(rt, fault)),
-        (_, Err(error)) => status.max(report_fault(rt, Fault::from(error))),
+        (Err(fault), _) => status.max(end_by(rt, fault)),
+        (_, Err(error)) => status.max(end_by(rt, Fault::from(error))),
     }
-}
-
-// Prints the captures of these files, and where packets are only counted the table at the end, with one line for all
-// files. The status covers each file, also where a fault ends the program.
-fn dump_each<W: Write>(
-    rt: &(impl Files + Input + Print + Eprint + AllocGlobal),
-    options: &Options,
-    files: &[String],
-    output: &mut W,
-    status: &mut u8,
-) -> Result<(), Fault> {
-    let mut total = Tally::new();
-    if files.is_empty() {
-        *status = dump_file(rt, options, "-", output, &mut total)?;
-    }
-    for file in files {
-        if files.len() > 1 && options.prints {
-            output.write_all(file.as_bytes())?;
-            output.write_all(b":\n")?;
-        }
-        let own = dump_file(rt, options, file.as_str(), output, &mut total)?;
-        *status = (*status).max(own);
-    }
-    if !options.prints {
-        show_table(output, &options.only, &total)?;
-        output.flush()?;
-        report_counts(rt, name_of_all(files), &total)?;
-    }
-    Ok(())
-}
-
-// Prints the capture of a file, and returns the status. A fault of the output or of memory ends the program.
-fn dump_file<W: Write>(
-    rt: &(impl Files + Input + Print + Eprint + AllocGlobal),
-    options: &Options,
-    file: &str,
-    output: &mut W,
-    total: &mut Tally,
-) -> Result<u8, Fault> {
-    let before = total.packets;
-    let mut own = Tally::new();
-    let tally = if options.prints { &mut own } else { total };
-    let (answer, error) = if file == "-" {
-        dump_input(rt, options, rt.reader(), output, tally)
-    } else {
-        match open(rt, file) {
-            Ok(input) => dump_input(rt, options, input, output, tally),
-            Err(error) => {
-                let _ = eprintln!(rt; "pcapdump: {file}: {error}");
-                return Ok(WRONG);
-            }
-        }
-    };
-    let ending = match answer {
-        Ok(ending) => Some(ending),
-        Err(Fault::Read) => None,
-        Err(fault) => return Err(fault),
-    };
-    if options.prints {
-        report_counts(rt, Some(file), tally)?;
-    }
-    let packets = tally.packets.saturating_sub(before);
-    match ending {
-        Some(ending) => Ok(report_ending(rt, file, ending, packets)),
-        None => Ok(report_unread(rt, file, error, packets)),
-    }
-}
-
-// Prints the capture of an input, and returns what ends it, and the error with which the last read failed, if any.
-fn dump_input<R: Read + Drop, W: Write>(
-    rt: &impl AllocGlobal,
-    options: &Options,
-    input: R,
-    output: &mut W,
-    tally: &mut Tally,
-) -> (Result<Ending, Fault>, Option<io::Error>) {
-    let mut input = Watched { input, error: None };
-    let answer = dump(rt.alloc(), options, &mut input, output, tally);
-    (answer, input.error)
-}
-
-// Opens a file. A directory can be opened too, but not read.
-fn open<R: Files>(rt: &R, file: &str) -> io::Result<R::File> {
-    if fs::metadata(rt, file)?.is_dir() {
-        return Err(io::Error::from(io::ErrorKind::IsADirectory));
-    }
-    fs::open(rt, file)
-}
-
-// The name of all these captures together; only a single capture has one.
-fn name_of_all(files: &[String]) -> Option<&str> {
-    match files {
-        [] => Some("-"),
-        [file] => Some(file.as_str()),
-        _ => None,
-    }
-}
-
-// Prints the number of packets of a capture, or of all captures where they have no name.
-fn report_counts(
-    rt: &(impl Eprint + AllocGlobal),
-    name: Option<&str>,
-    tally: &Tally,
-) -> Result<(), Fault> {
-    let mut summary = Vec::new(rt.alloc());
-    write_summary(&mut summary, tally)?;
-    if let Ok(summary) = from_utf8(summary.as_slice()) {
-        let _ = match name {
-            Some(name) => eprintln!(rt; "pcapdump: {name}: {summary}"),
-            None => eprintln!(rt; "pcapdump: {summary}"),
-        };
-    }
-    Ok(())
-}
-
-// Prints what ended a capture if it did not end after a whole record, and returns the status.
-fn report_ending(rt: &impl Eprint, file: &str, ending: Ending, packets: u64) -> u8 {
-    let status = match ending {
-        Ending::Whole => return WHOLE,
-        Ending::Version | Ending::NotACapture => WRONG,
-        _ => BROKEN,
-    };
-    let _ = match packets {
-        0 => eprintln!(rt; "pcapdump: {file}: {ending}"),
-        last => eprintln!(rt; "pcapdump: {file}: {ending}, after packet {last}"),
-    };
-    status
-}
-
-// Prints that an input could not be read further, and why, and returns the status.
-fn report_unread(rt: &impl Eprint, file: &str, error: Option<io::Error>, packets: u64) -> u8 {
-    let Some(error) = error else {
-        let _ = eprintln!(rt; "pcapdump: {file}: reading failed");
-        return FAILED;
-    };
-    let _ = match packets {
-        0 => eprintln!(rt; "pcapdump: {file}: reading failed: {error}"),
-        last => eprintln!(rt; "pcapdump: {file}: reading failed: {error}, after packet {last}"),
-    };
-    FAILED
-}
-
-// Prints what is wrong with the arguments, and the usage, and returns the status.
-fn report_wrong(rt: &impl Eprint, wrong: &Wrong) -> u8 {
-    let _ = match wrong {
-        Wrong::UnknownOption(word) => {
-            eprintln!(rt; "pcapdump: there is no option '{}'", word.as_str())
-        }
-        Wrong::UnknownKind(name) => {
-            let (name, kinds) = (name.as_str(), help::KINDS);
-            eprintln!(rt; "pcapdump: there is no kind '{name}'; the kinds are {kinds}")
-        }
-        Wrong::MissingList => eprintln!(rt; "pcapdump: no list of kinds stands behind --only"),
-        Wrong::NotText => eprintln!(rt; "pcapdump: an argument is not UTF-8"),
-    };
-    let _ = eprintln!(rt; "{}", help::USAGE);
-    WRONG
 }
 
 // Prints what ended the program, and returns the status. A closed output is not a fault.
-fn report_fault(rt: &impl Eprint, fault: Fault) -> u8 {
-    let what = match fault {
-        Fault::Closed => return WHOLE,
-        Fault::Memory => "there is no memory",
-        Fault::Read => "reading failed",
-        Fault::Write => "writing failed",
-    };
-    let _ = eprintln!(rt; "pcapdump: {what}");
-    FAILED
+fn end_by(rt: &impl Eprint, fault: Fault) -> u8 {
+    report_fault(rt, fault);
+    match fault {
+        Fault::Closed => WHOLE,
+        Fault::Memory | Fault::Read | Fault::Write => FAILED,
+    }
 }

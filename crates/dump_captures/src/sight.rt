@@ -1,21 +1,21 @@
 //! What the headers of a packet tell.
 
 ghost use Rattle.std.specs.Prelude.{◌≡◌, None, drop};
+ghost use Rattle.std.specs.Option.{option_map};
 ghost use Rattle.wirebase.specs.Ipv4.{header_len_in};
 ghost use Rattle.capture.specs.Capture.{packet_of};
 ghost use Rattle.frame_wire.specs.Datagram.{value_of as datagram_of};
 ghost use Rattle.frame_wire.specs.Link.{value_of as frame_of};
-ghost use Rattle.dump_captures.specs.Kinds.{kind_of, kind_of_ports};
-ghost use Rattle.dump_captures.specs.Sight.{sight_of, content_of, content_by, datagram_sight, is_cut, untold, told};
-ghost use Rattle.dump_captures.specs.Sight.{told_front, head_of, ports_behind, IsRefused4, IsRefused6, IsFrameSight};
-ghost use Rattle.dump_captures.specs.Sight.{IsSight};
+ghost use Rattle.dump_captures.specs.Sight.{sight_of, content_of, kind_in, content_by, datagram_sight, is_cut, untold};
+ghost use Rattle.dump_captures.specs.Sight.{content_of_udp, told, told_front, head_of, ports_behind, IsRefused4};
+ghost use Rattle.dump_captures.specs.Sight.{IsRefused6, IsFrameSight, IsSight};
 
 use crate::kind::{Kind, Reason};
 use crate::refusal::Refusal;
 use capture::Record;
 use frame_wire::{Addresses, Captured, Datagram, Frame, Head, Link, Network, udp};
 use listing::ports::ports_of;
-use wirebase::{IpProtocol, Ipv4Packet};
+use wirebase::{IpProtocol, Ipv4Packet, Ipv6Address};
 
 /// What the headers of a packet tell.
 #[derive(Debug, PartialEq, Eq, Clone, Copy)]
@@ -39,19 +39,45 @@ pub struct Headers<'a> {
     pub ports: Option<(u16, u16)>,
     /// The hop-by-hop options, where there are any.
     pub hop_by_hop: Option<&'a [u8]>,
-    /// The kind.
-    pub kind: Kind,
-    /// The payload to read.
+    /// What it holds.
     pub content: Content<'a>,
 }
 
-/// The payload of a datagram, or why there is none to read.
+/// What a control packet holds: a message, with the addresses that its checksum covers, or nothing that can be read.
 #[derive(Debug, PartialEq, Eq, Clone, Copy)]
 pub enum Content<'a> {
-    /// A payload, between two addresses.
-    Whole(Addresses, &'a [u8]),
-    /// No payload: the packet is refused and counted under this reason.
-    Refused(Reason, Refusal),
+    /// An ICMPv4 message.
+    Icmp4(&'a [u8]),
+    /// An IGMP message.
+    Igmp(&'a [u8]),
+    /// An ICMPv6 message from one address to another.
+    Icmp6(Ipv6Address, Ipv6Address, &'a [u8]),
+    /// A UDP datagram of DNS.
+    Dns(Addresses, &'a [u8]),
+    /// A UDP datagram of multicast DNS.
+    Mdns(Addresses, &'a [u8]),
+    /// A UDP datagram of DHCP.
+    Dhcp(Addresses, &'a [u8]),
+    /// A packet of this kind that is refused and counted under this reason.
+    Refused(Kind, Reason, Refusal),
+}
+
+impl Content<'_> {
+    /// The kind of the packet.
+    #[inline]
+    pub fn kind(&self) -> Kind
+        ensures { result ≡ kind_in (content_of self.now) }
+    {
+        match self {
+            Content::Icmp4(_) => Kind::Icmp4,
+            Content::Igmp(_) => Kind::Igmp,
+            Content::Icmp6(_, _, _) => Kind::Icmp6,
+            Content::Dns(_, _) => Kind::Dns,
+            Content::Mdns(_, _) => Kind::Mdns,
+            Content::Dhcp(_, _) => Kind::Dhcp,
+            Content::Refused(kind, _, _) => *kind,
+        }
+    }
 }
 
 /// What the headers of a packet tell, of which the capture has these octets.
@@ -95,45 +121,72 @@ fn look_into<'a>(captured: &Record, octets: &[u8], frame: &Frame<'a>) -> Sight<'
     }
 }
 
-// The kind of a datagram of this protocol, over IPv4 or not; None for other protocols.
-fn kind_of(is_v4: bool, protocol: IpProtocol, ports: Option<(u16, u16)>) -> Option<Kind>
-    ensures { result ≡ kind_of is_v4 protocol ports }
+// A packet of which too little can be read to tell its kind.
+const UNKNOWN: Content<'static> = Content::Refused(
+    Kind::Frame,
+    Reason::Short,
+    Refusal::Udp(udp::Refusal::Short),
+);
+
+// What a datagram between these addresses holds; None for other protocols.
+fn content_by<'a>(
+    addresses: &Addresses,
+    protocol: IpProtocol,
+    ports: Option<(u16, u16)>,
+    payload: &'a [u8],
+) -> Option<Content<'a>>
+    ensures { option_map content_of result ≡ content_by addresses.now protocol ports payload.now }
 {
-    match protocol {
-        IpProtocol::Icmp if is_v4 => Some(Kind::Icmp4),
-        IpProtocol::Igmp if is_v4 => Some(Kind::Igmp),
-        IpProtocol::Icmpv6 if !is_v4 => Some(Kind::Icmp6),
-        IpProtocol::Udp => match ports {
-            Some((source, destination)) => kind_by_ports(is_v4, source, destination),
-            None => Some(Kind::Frame),
+    match addresses {
+        Addresses::V4(_, _) => match protocol {
+            IpProtocol::Icmp => Some(Content::Icmp4(payload)),
+            IpProtocol::Igmp => Some(Content::Igmp(payload)),
+            IpProtocol::Udp => content_of_udp(addresses, ports, payload),
+            _ => None,
         },
-        IpProtocol::HopByHop | IpProtocol::Ipv6Route | IpProtocol::Ipv6Frag | IpProtocol::Ipv6Opts
-            if !is_v4 => { Some(Kind::Frame) }
-        _ => None,
+        Addresses::V6(src_addr, dst_addr) => match protocol {
+            IpProtocol::Icmpv6 => Some(Content::Icmp6(*src_addr, *dst_addr, payload)),
+            IpProtocol::Udp => content_of_udp(addresses, ports, payload),
+            IpProtocol::HopByHop
+            | IpProtocol::Ipv6Route
+            | IpProtocol::Ipv6Frag
+            | IpProtocol::Ipv6Opts => Some(UNKNOWN),
+            _ => None,
+        },
     }
 }
 
-// The kind of a UDP datagram between these ports.
-fn kind_by_ports(is_v4: bool, source: u16, destination: u16) -> Option<Kind>
-    ensures { result ≡ kind_of_ports is_v4 (source, destination) }
+// What a UDP datagram between these ports holds.
+fn content_of_udp<'a>(
+    addresses: &Addresses,
+    ports: Option<(u16, u16)>,
+    payload: &'a [u8],
+) -> Option<Content<'a>>
+    ensures { option_map content_of result ≡ content_of_udp addresses.now ports payload.now }
 {
+    let Some((source, destination)) = ports else {
+        return Some(UNKNOWN);
+    };
     if source == 53 || destination == 53 {
-        Some(Kind::Dns)
+        Some(Content::Dns(*addresses, payload))
     } else if source == 5353 || destination == 5353 {
-        Some(Kind::Mdns)
-    } else if is_v4 && (source == 67 || destination == 67 || source == 68 || destination == 68) {
-        Some(Kind::Dhcp)
+        Some(Content::Mdns(*addresses, payload))
+    } else if addresses.is_v4()
+        && (source == 67 || destination == 67 || source == 68 || destination == 68)
+    {
+        Some(Content::Dhcp(*addresses, payload))
     } else {
         None
     }
 }
 
-// What a whole datagram holds.
+// What a whole datagram tells.
 fn whole<'a>(tags: &'a [u8], datagram: &Datagram<'a>) -> Sight<'a>
     ensures { sight_of result ≡ datagram_sight tags.now (datagram_of datagram.now) }
 {
-    let ports = ports_of(datagram.protocol, datagram.payload);
-    let Some(kind) = kind_of(datagram.addresses.is_v4(), datagram.protocol, ports) else {
+    let (protocol, payload) = (datagram.protocol, datagram.payload);
+    let ports = ports_of(protocol, payload);
+    let Some(content) = content_by(&datagram.addresses, protocol, ports, payload) else {
         return Sight::Other;
     };
     Sight::Control(Headers {
@@ -141,19 +194,8 @@ fn whole<'a>(tags: &'a [u8], datagram: &Datagram<'a>) -> Sight<'a>
         addresses: Some(datagram.addresses),
         ports,
         hop_by_hop: datagram.hop_by_hop,
-        kind,
-        content: content_by(kind, datagram),
+        content,
     })
-}
-
-// The payload to read in a whole datagram of a kind.
-fn content_by<'a>(kind: Kind, datagram: &Datagram<'a>) -> Content<'a>
-    ensures { content_of result ≡ content_by kind datagram.now.addresses datagram.now.payload.now }
-{
-    match kind {
-        Kind::Frame => Content::Refused(Reason::Short, Refusal::Udp(udp::Refusal::Short)),
-        _ => Content::Whole(datagram.addresses, datagram.payload),
-    }
 }
 
 // Whether the capture kept only a part of a packet.
@@ -172,8 +214,7 @@ fn untold(tags: &[u8], reason: Reason, refusal: Refusal) -> Sight<'_>
         addresses: None,
         ports: None,
         hop_by_hop: None,
-        kind: Kind::Frame,
-        content: Content::Refused(reason, refusal),
+        content: Content::Refused(Kind::Frame, reason, refusal),
     })
 }
 
@@ -188,7 +229,7 @@ fn told<'a>(
 ) -> Sight<'a>
     ensures { sight_of result ≡ told tags.now addresses protocol ports reason refusal }
 {
-    let Some(kind) = kind_of(addresses.is_v4(), protocol, ports) else {
+    let Some(content) = content_by(&addresses, protocol, ports, &[]) else {
         return Sight::Other;
     };
     Sight::Control(Headers {
@@ -196,8 +237,7 @@ fn told<'a>(
         addresses: Some(addresses),
         ports,
         hop_by_hop: None,
-        kind,
-        content: Content::Refused(reason, refusal),
+        content: Content::Refused(content.kind(), reason, refusal),
     })
 }
 

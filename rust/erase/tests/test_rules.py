@@ -142,6 +142,10 @@ RUNTIME_ROWS = {
                "fn f() -> u8 { run(io::reader(), io::writer()) }"),
     "files": ("fn open<R: Files>(rt: &R, file: &str) -> io::Result<R::File> { fs::open(rt, file) }",
               "fn open(file: &str) -> io::Result<fs::File> { fs::open(file) }"),
+    "holder": ("struct S<'a, R> { rt: &'a R, } impl<R: Files + Input> T for S<'_, R> { type A = R::Reader; type B = R::File; "
+               "fn a(&self) -> Self::A { let rt = self.rt; rt.reader() } } fn f(rt: &impl Files) -> u8 { g(&S { rt }) }",
+               "struct S {} impl T for S { type A = io::Stdin; type B = fs::File; "
+               "fn a(&self) -> Self::A { io::reader() } } fn f() -> u8 { g(&S {}) }"),
     "generator": ("use rand_core::{Rng, SeedableRng}; fn f() -> u8 { 1 }",
                   "use rand_core::{RngCore, SeedableRng}; fn f() -> u8 { 1 }"),
     "handed": ("fn t(rt: HostRuntime) { let alloc = rt.alloc(); f(&rt, alloc, 1); g(1, rt.alloc()); h(rt); }",

@@ -32,7 +32,7 @@ pub fn show_heading<W: Write>(
     show_tags(output, headers.tags)?;
     show_hop_by_hop(output, headers.hop_by_hop)?;
     output.write_all(b" ")?;
-    line(output, headers.kind.name())
+    line(output, headers.content.kind().name())
 }
 
 // Prints the time at which a packet was captured, where it is known.

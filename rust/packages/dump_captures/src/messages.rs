@@ -5,12 +5,11 @@ mod icmp;
 mod udp;
 
 use crate::Fault;
-use crate::kind::{Kind, Reason};
+use crate::kind::Reason;
 use crate::messages::icmp::{show_icmp4, show_icmp6, show_igmp};
 use crate::messages::udp::{show_dhcp, show_dns};
 use crate::refusal::Refusal;
 use crate::sight::{Content, Headers};
-use control_wire::frames::{Addresses, udp as udp_wire};
 use listing::hbh::show_hbh;
 use listing::page::{Page, write_indented};
 use rattle_std::io;
@@ -24,7 +23,7 @@ pub fn show_listing<W: Write>(
     headers: &Headers<'_>,
 ) -> Result<Option<Reason>, Fault> {
     show_options(output, page, headers.hop_by_hop)?;
-    show_content(output, page, headers.kind, headers.content)
+    show_content(output, page, &headers.content)
 }
 
 // Prints hop-by-hop options, where there are any.
@@ -42,42 +41,22 @@ fn show_options<W: Write>(
     Ok(())
 }
 
+// Prints a message, or why there is none to read.
 fn show_content<W: Write>(
     output: &mut W,
     page: &mut Page,
-    kind: Kind,
-    content: Content<'_>,
+    content: &Content<'_>,
 ) -> Result<Option<Reason>, Fault> {
     match content {
-        Content::Whole(addresses, octets) => show_payload(output, page, kind, addresses, octets),
-        Content::Refused(reason, refusal) => refuse(output, reason, &refusal),
-    }
-}
-
-// Prints a payload by its kind.
-fn show_payload<W: Write>(
-    output: &mut W,
-    page: &mut Page,
-    kind: Kind,
-    addresses: Addresses,
-    octets: &[u8],
-) -> Result<Option<Reason>, Fault> {
-    match kind {
-        Kind::Icmp4 => show_icmp4(output, page, octets),
-        Kind::Igmp => show_igmp(output, page, octets),
-        Kind::Icmp6 => match addresses {
-            Addresses::V6(src_addr, dst_addr) => {
-                show_icmp6(output, page, &src_addr, &dst_addr, octets)
-            }
-            Addresses::V4(_, _) => refuse_message(
-                output,
-                &Refusal::Datagram(control_wire::frames::Refusal::Version(4)),
-            ),
-        },
-        Kind::Dns => show_dns(output, &addresses, octets, false),
-        Kind::Mdns => show_dns(output, &addresses, octets, true),
-        Kind::Dhcp => show_dhcp(output, page, &addresses, octets),
-        Kind::Frame => refuse_message(output, &Refusal::Udp(udp_wire::Refusal::Short)),
+        Content::Icmp4(octets) => show_icmp4(output, page, octets),
+        Content::Igmp(octets) => show_igmp(output, page, octets),
+        Content::Icmp6(src_addr, dst_addr, octets) => {
+            show_icmp6(output, page, src_addr, dst_addr, octets)
+        }
+        Content::Dns(addresses, octets) => show_dns(output, addresses, octets, false),
+        Content::Mdns(addresses, octets) => show_dns(output, addresses, octets, true),
+        Content::Dhcp(addresses, octets) => show_dhcp(output, page, addresses, octets),
+        Content::Refused(_, reason, refusal) => refuse(output, *reason, refusal),
     }
 }
 

@@ -29,7 +29,8 @@ impl Only {
     /// Whether a control packet is chosen.
     #[inline]
     pub fn chooses(&self, headers: &Headers<'_>) -> bool {
-        self.kinds[headers.kind.place()] || (self.hop_by_hop && headers.hop_by_hop.is_some())
+        let place = headers.content.kind().place();
+        self.kinds[place] || (self.hop_by_hop && headers.hop_by_hop.is_some())
     }
 }
 

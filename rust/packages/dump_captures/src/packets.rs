@@ -57,38 +57,56 @@ pub fn dump<R: Read, W: Write>(
     output: &mut W,
     tally: &mut Tally,
 ) -> Result<Ending, Fault> {
+    match dump_readable(options, input, output, tally)? {
+        Some(ending) => Ok(ending),
+        None => Err(Fault::Read),
+    }
+}
+
+/// Dumps as far as the input can be read. None is returned where a read failed.
+pub fn dump_readable<R: Read, W: Write>(
+    options: &Options,
+    input: R,
+    output: &mut W,
+    tally: &mut Tally,
+) -> Result<Option<Ending>, Fault> {
     let Ok(mut input) = BufReader::with_capacity(BUFFER_LEN, input) else {
         return Err(Fault::Memory);
     };
     let answer = show_packets(options, &mut input, output, tally);
     let flushed = output.flush();
     let ending = answer?;
-    flushed?;
+    if ending.is_some() {
+        flushed?;
+    }
     Ok(ending)
 }
 
-// Prints the packets, and returns what ends them. What is printed is written out before the input is waited for.
+// Prints the packets, and returns what ends them, or None where a read failed. What is printed is written out before
+// the input is waited for.
 fn show_packets<R: Read, W: Write>(
     options: &Options,
     input: &mut BufReader<R>,
     output: &mut W,
     tally: &mut Tally,
-) -> Result<Ending, Fault> {
+) -> Result<Option<Ending>, Fault> {
     let mut capture = Capture::new();
     let mut page = Page::new();
     let mut clock = Clock::new();
     for _ in 0..u64::MAX {
         write_out_before_wait(&capture, input, output)?;
-        match capture.next(input)? {
-            Next::Record(record) => {
+        match capture.next(input) {
+            Ok(Next::Record(record)) => {
                 let octets = capture.octets();
                 let outcome = show_packet(options, output, &mut page, &mut clock, &record, octets)?;
                 tally.count(outcome, record.link_type, octets.len() as u64);
             }
-            Next::Ended(ending) => return Ok(ending),
+            Ok(Next::Ended(ending)) => return Ok(Some(ending)),
+            Err(capture::Fault::Read) => return Ok(None),
+            Err(fault) => return Err(Fault::from(fault)),
         }
     }
-    Err(Fault::Read)
+    Ok(None)
 }
 
 // Writes out what was printed, where the reading of the next packet has to wait for more of the input.
@@ -112,11 +130,11 @@ pub fn show_packet<W: Write>(
     captured: &Record,
     octets: &[u8],
 ) -> Result<Outcome, Fault> {
-    match look(captured, octets) {
+    match &look(captured, octets) {
         Sight::Unread => Ok(Outcome::Unread),
         Sight::Other => Ok(Outcome::Other),
         Sight::Control(headers) => {
-            show_control(options, output, page, clock, captured, octets, &headers)
+            show_control(options, output, page, clock, captured, octets, headers)
         }
     }
 }
@@ -141,13 +159,13 @@ fn show_control<W: Write>(
     }
     show_heading(output, clock, captured, octets, headers)?;
     let why = show_listing(output, page, headers)?;
-    Ok(outcome(headers.kind, why))
+    Ok(outcome(headers.content.kind(), why))
 }
 
 // Reads a control packet that is only counted.
 fn count_alone(page: &mut Page, headers: &Headers<'_>) -> Result<Outcome, Fault> {
     let why = show_listing(&mut io::sink(), page, headers)?;
-    Ok(outcome(headers.kind, why))
+    Ok(outcome(headers.content.kind(), why))
 }
 
 // The outcome for a control packet.

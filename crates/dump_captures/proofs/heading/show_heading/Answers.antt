@@ -9,4 +9,4 @@ returns g c =
     gains_last _ _ _
     (c.in_ok-write_to.ensures then gained _ _ _ c.in_ok-write_all.ensures.bytes then c.in_ok-show_time.ensures
     then c.in_ok-show_addresses.ensures then c.in_ok-show_tags.ensures then c.in_ok-show_hop_by_hop.ensures
-    then gained _ _ _ c.in_ok-write_all-2.ensures.bytes) (rw c.name.ensures at c.line.ensures)
+    then gained _ _ _ c.in_ok-write_all-2.ensures.bytes) (rw (c.name.ensures, c.kind.ensures) at c.line.ensures)

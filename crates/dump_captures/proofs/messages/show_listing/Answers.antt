@@ -8,7 +8,7 @@ use Rattle.dump_captures.proofs.messages.show_listing.Goals as goal
 pub returns : goal.returns
 returns g c =
     let h = headers_of c.args.headers.now in
-    gained_behind _ _ _ _ (OptionsPrint h.hop_by_hop) (ContentPrints h.kind h.content) (ListingPrints h)
+    gained_behind _ _ _ _ (OptionsPrint h.hop_by_hop) (ContentPrints h.content) (ListingPrints h)
     (λ first text why options content. record {
       options_text = first;
       content_text = text;

@@ -6,7 +6,7 @@ use Rattle.listing.proofs.Printing.{gains_none, gains_both}
 use Rattle.dump_captures.specs.Dump.{PacketPrints, printed, counted_alone, passed, outcome_of}
 use Rattle.dump_captures.specs.Heading.{heading}
 use Rattle.dump_captures.specs.Messages.{ListingPrints}
-use Rattle.dump_captures.specs.Sight.{headers_of}
+use Rattle.dump_captures.specs.Sight.{headers_of, kind_in}
 use Rattle.dump_captures.specs.declared.kind.Reason.{Reason}
 use Rattle.dump_captures.proofs.Printing.{if_ok}
 use Rattle.dump_captures.proofs.packets.show_control.Goals as goal
@@ -25,7 +25,7 @@ returns-then-not-options g c =
     let p = packet_of c.args.captured.now c.args.octets.now in
     let before = g.W.Write.contents c.args.output.now in
     if_ok (λ outcome. (listing : List ℕ) × (why : Option Reason) × ListingPrints h listing why
-    × (outcome ≡ outcome_of h.kind why))
+    × (outcome ≡ outcome_of (kind_in h.content) why))
     (λ outcome. GainsSome before before (λ text. PacketPrints c.args.options.now number p text outcome))
     c.count_alone.result
     (λ outcome told. (
@@ -44,6 +44,6 @@ returns g c =
       title ++ listing.0,
       printed h listing.0 c.in_ok-why.why c.requires.sight
           (sym c.chooses.ensures ∙ c.if-not-chooses.false) c.if-not-options.false listing.1 refl
-          c.outcome.ensures,
+          (rw c.kind.ensures at c.outcome.ensures),
       gains_both _ _ _ title listing.0 c.in_ok-show_heading.ensures listing.2,
     )

@@ -9,3 +9,6 @@ returns-in-Unread g c = ([], of_unread (rw c.in-Unread.is at c.look.ensures) ref
 
 pub returns-in-Other : goal.returns-in-Other
 returns-in-Other g c = ([], of_other (rw c.in-Other.is at c.look.ensures) refl refl, gains_none _)
+
+pub show_control-requires-clause-sight : goal.show_control-requires-clause-sight
+show_control-requires-clause-sight g c = rw c.in-Control.is at c.look.ensures

@@ -1,5 +1,4 @@
 -- How far the run has come.
-use Rattle.std.proofs.Common.{IfSome}
 use Rattle.std.specs.Io.Buffered.{reader_remaining}
 use Rattle.capture.specs.Capture.{state_of, count_of}
 use Rattle.dump_captures.proofs.Running.{SoFar}
@@ -8,7 +7,7 @@ use Rattle.dump_captures.proofs.packets.show_packets.Given as goal
 
 abbrev pub invariant-packets : goal.invariant-packets
 invariant-packets g l =
-    IfSome (reader_remaining g.R.Read.remaining l.initial.input)
-    (λ all. SoFar l.options all (reader_remaining g.R.Read.remaining l.input) (state_of l.capture) (count_of l.capture)
+    SoFar l.options (reader_remaining g.R.Read.remaining l.initial.input)
+    (reader_remaining g.R.Read.remaining l.input) (state_of l.capture) (count_of l.capture)
     (tally_of l.initial.tally) (tally_of l.tally) (g.W.Write.contents l.initial.output)
-    (g.W.Write.contents l.output))
+    (g.W.Write.contents l.output)

@@ -1,0 +1,78 @@
+//! What the program says on standard error.
+
+use crate::arguments::Wrong;
+use crate::summary::write_summary;
+use crate::tally::Tally;
+use crate::{Fault, help};
+use capture::Ending;
+use std::io;
+use std::str::from_utf8;
+
+/// Prints that a file can't be opened, and why.
+pub fn report_unopened(rt: &impl Eprint, file: &str, error: &io::Error) {
+    let _ = eprintln!(rt; "pcapdump: {file}: {error}");
+}
+
+/// Prints the number of packets of a capture, or of all captures where they have no name.
+pub fn report_counts(
+    rt: &(impl Eprint + AllocGlobal),
+    name: Option<&str>,
+    tally: &Tally,
+) -> Result<(), Fault> {
+    let mut summary = Vec::new(rt.alloc());
+    write_summary(&mut summary, tally)?;
+    if let Ok(summary) = from_utf8(summary.as_slice()) {
+        let _ = match name {
+            Some(name) => eprintln!(rt; "pcapdump: {name}: {summary}"),
+            None => eprintln!(rt; "pcapdump: {summary}"),
+        };
+    }
+    Ok(())
+}
+
+/// Prints what ended a capture if it did not end after a whole record.
+pub fn report_ending(rt: &impl Eprint, file: &str, ending: Ending, packets: u64) {
+    let _ = match (ending, packets) {
+        (Ending::Whole, _) => Ok(()),
+        (_, 0) => eprintln!(rt; "pcapdump: {file}: {ending}"),
+        (_, last) => eprintln!(rt; "pcapdump: {file}: {ending}, after packet {last}"),
+    };
+}
+
+/// Prints that an input could not be read further, and why.
+pub fn report_unread(rt: &impl Eprint, file: &str, error: Option<io::Error>, packets: u64) {
+    let _ = match (error, packets) {
+        (None, _) => eprintln!(rt; "pcapdump: {file}: reading failed"),
+        (Some(error), 0) => eprintln!(rt; "pcapdump: {file}: reading failed: {error}"),
+        (Some(error), last) => {
+            eprintln!(rt; "pcapdump: {file}: reading failed: {error}, after packet {last}")
+        }
+    };
+}
+
+/// Prints what is wrong with the arguments, and the usage.
+pub fn report_wrong(rt: &impl Eprint, wrong: &Wrong) {
+    let _ = match wrong {
+        Wrong::UnknownOption(word) => {
+            eprintln!(rt; "pcapdump: there is no option '{}'", word.as_str())
+        }
+        Wrong::UnknownKind(name) => {
+            let (name, kinds) = (name.as_str(), help::KINDS);
+            eprintln!(rt; "pcapdump: there is no kind '{name}'; the kinds are {kinds}")
+        }
+        Wrong::MissingList => eprintln!(rt; "pcapdump: no list of kinds stands behind --only"),
+        Wrong::NotText => eprintln!(rt; "pcapdump: an argument is not UTF-8"),
+    };
+    let _ = eprintln!(rt; "{}", help::USAGE);
+}
+
+/// Prints what ended the program. A closed output is not a fault.
+pub fn report_fault(rt: &impl Eprint, fault: Fault) {
+    let what = match fault {
+        Fault::Closed => return,
+        Fault::Memory => "there is no memory",
+        Fault::Read => "reading failed",
+        Fault::Write => "writing failed",
+    };
+    let _ = eprintln!(rt; "pcapdump: {what}");
+}

@@ -1,0 +1,199 @@
+// Made from crates/dump_captures/src/files.rt by rust/erase.
+//! The files of a run, one after another, and the status at the end.
+
+use crate::Fault;
+use crate::options::Options;
+use crate::packets::dump_readable;
+use crate::reports::{report_counts, report_ending, report_unopened, report_unread};
+use crate::table::show_table;
+use crate::tally::Tally;
+use capture::Ending;
+use rattle_std::io;
+use rattle_std::io::{Read, Write};
+#[allow(unused_imports)]
+use rattle_std::prelude::*;
+
+/// The status where all was read.
+pub const WHOLE: u8 = 0;
+
+/// The status where a capture ends within a record, or its continuation is not one.
+pub const BROKEN: u8 = 1;
+
+/// The status where an argument, a file's name or a file is wrong.
+pub const WRONG: u8 = 2;
+
+/// The status where reading, writing or memory failed.
+pub const FAILED: u8 = 3;
+
+/// Where captures are read from.
+pub trait Captures {
+    /// What reads the standard input.
+    type Reader: Read;
+
+    /// What reads a file.
+    type File: Read;
+
+    /// The standard input.
+    fn reader(&self) -> Self::Reader;
+
+    /// Opens a file.
+    fn open(&self, name: &str) -> io::Result<Self::File>;
+}
+
+// An input that keeps the last error of a read.
+struct Watched<R> {
+    input: R,
+    error: Option<io::Error>,
+}
+
+impl<R: Read> Read for Watched<R> {
+    fn read(&mut self, buf: &mut [u8]) -> io::Result<usize> {
+        match self.input.read(buf) {
+            Ok(count) => Ok(count),
+            Err(error) => {
+                // The reader knows by the error's kind whether to try again.
+                let kind = error.kind();
+                self.error = Some(error);
+                Err(io::Error::from(kind))
+            }
+        }
+    }
+}
+
+/// Prints the captures of these files, and where packets are only counted the table at the end, with one line for all
+/// files. The status becomes the highest of each file, also where a fault ends the run.
+pub fn dump_all<C: Captures, W: Write>(
+    captures: &C,
+    options: &Options,
+    files: &[String],
+    output: &mut W,
+    status: &mut u8,
+) -> Result<(), Fault> {
+    let mut total = Tally::new();
+    dump_each(captures, options, files, output, &mut total, status)?;
+    show_end(options, files, output, &total)
+}
+
+// Prints the table of all files where packets are only counted, and then the line.
+fn show_end<W: Write>(
+    options: &Options,
+    files: &[String],
+    output: &mut W,
+    total: &Tally,
+) -> Result<(), Fault> {
+    if options.prints {
+        return Ok(());
+    }
+    show_table(output, &options.only, total)?;
+    output.flush()?;
+    report_counts(name_of_all(files), total)
+}
+
+// Prints the captures of these files, and where there are several the name above each.
+fn dump_each<C: Captures, W: Write>(
+    captures: &C,
+    options: &Options,
+    files: &[String],
+    output: &mut W,
+    total: &mut Tally,
+    status: &mut u8,
+) -> Result<(), Fault> {
+    if files.is_empty() {
+        let own = dump_file(captures, options, "-", output, total)?;
+        *status = (*status).max(own);
+        return Ok(());
+    }
+    for file in files {
+        show_title(options, files.len() > 1, file.as_str(), output)?;
+        let own = dump_file(captures, options, file.as_str(), output, total)?;
+        *status = (*status).max(own);
+    }
+    Ok(())
+}
+
+// Prints the name of a file above its packets, where there are several.
+fn show_title<W: Write>(
+    options: &Options,
+    several: bool,
+    file: &str,
+    output: &mut W,
+) -> io::Result<()> {
+    if !options.prints || !several {
+        return Ok(());
+    }
+    output.write_all(file.as_bytes())?;
+    output.write_all(b":\n")
+}
+
+// Prints the capture of a file, and returns the status. A fault of the output or of memory ends the run.
+fn dump_file<C: Captures, W: Write>(
+    captures: &C,
+    options: &Options,
+    file: &str,
+    output: &mut W,
+    tally: &mut Tally,
+) -> Result<u8, Fault> {
+    start_counts(options, tally);
+    if file == "-" {
+        return dump_input(options, file, captures.reader(), output, tally);
+    }
+    match captures.open(file) {
+        Ok(input) => dump_input(options, file, input, output, tally),
+        Err(error) => {
+            report_unopened(file, &error);
+            Ok(WRONG)
+        }
+    }
+}
+
+// Counts a file by itself where packets are printed.
+fn start_counts(options: &Options, tally: &mut Tally) {
+    if options.prints {
+        *tally = Tally::new();
+    }
+}
+
+// Prints the capture of an input, and returns the status.
+fn dump_input<R: Read, W: Write>(
+    options: &Options,
+    name: &str,
+    input: R,
+    output: &mut W,
+    tally: &mut Tally,
+) -> Result<u8, Fault> {
+    let before = tally.packets;
+    let mut input = Watched { input, error: None };
+    let ending = dump_readable(options, &mut input, output, tally)?;
+    if options.prints {
+        report_counts(Some(name), tally)?;
+    }
+    let packets = tally.packets.saturating_sub(before);
+    match ending {
+        Some(ending) => {
+            report_ending(name, ending, packets);
+            Ok(status_of(ending))
+        }
+        None => {
+            report_unread(name, input.error, packets);
+            Ok(FAILED)
+        }
+    }
+}
+
+// The status of a capture that ends so.
+fn status_of(ending: Ending) -> u8 {
+    match ending {
+        Ending::Whole => WHOLE,
+        Ending::Version | Ending::NotACapture => WRONG,
+        _ => BROKEN,
+    }
+}
+
+// The name of all these captures together; only a single capture has one.
+fn name_of_all(files: &[String]) -> Option<&str> {
+    match files {
+        [] => Some("-"),
+        [file] => Some(file.as_str()),
+        _ => None,
+    }
+}
