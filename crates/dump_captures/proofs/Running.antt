@@ -90,8 +90,14 @@ module _ (options : Options) (start left : Option (List ℕ)) (s : State) (n : �
             (gains_both now flushed later [] shows.0 wrote shows.2);
         goes_on = λ packets more last prints.
             rw (append_assoc so_far.seen (p ∷ []) packets, append_assoc so_far.text shows.0 more)
-            (so_far.goes_on (p ∷ packets) (shows.0 ++ more) last
-            (shows.0, more, outcome, rw order.number at shows.1, rw (counts, order.count_is, order.number) at prints, refl));
+            (so_far.goes_on (p ∷ packets) (shows.0 ++ more) last (
+              shows.0,
+              more,
+              outcome,
+              rw order.number at shows.1,
+              rw (counts, order.count_is, order.number) at prints,
+              refl,
+            ));
       }
 
   -- the end of the packets that could be read

@@ -7,7 +7,8 @@ use Rattle.std.specs.List.{refill}
 use Rattle.std.specs.Prelude.{◌==◌, ◌||◌, if◌then◌else◌}
 use Rattle.dump_captures.specs.Kinds.{kind_place, reason_place}
 use Rattle.dump_captures.specs.Tally.{TallyValue, changed_at, counted, more_by, one_more, with_listed, with_refused}
-use Rattle.dump_captures.specs.Tally.{has_link, no_link, one_more_of, with_unread}
+use Rattle.dump_captures.specs.Tally.{has_link, one_more_of, with_unread}
+use Rattle.dump_captures.specs.private.Parts.{no_link}
 use Rattle.dump_captures.specs.declared.kind.Kind.{Kind}
 use Rattle.dump_captures.specs.declared.kind.Reason.{Reason}
 use Rattle.dump_captures.specs.declared.tally.Outcome.{Outcome}

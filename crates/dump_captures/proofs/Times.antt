@@ -7,7 +7,8 @@ use Rattle.std.proofs.lemmas.Slice.{take-put_mid, drop-put_mid}
 use borrow.Rule.Slice.PartMut.{put_mid}
 use Rattle.capture.specs.Calendar.{date_of}
 use Rattle.wirebase.specs.Digits.{last_digits}
-use Rattle.dump_captures.specs.TimeText.{kept_text, time_of_day_text, time_text}
+use Rattle.dump_captures.specs.TimeText.{time_of_day_text, time_text}
+use Rattle.dump_captures.specs.private.Parts.{kept_text}
 use Rattle.capture.proofs.Calendars.{year-least, year-most}
 
 -- ---- octets side by side

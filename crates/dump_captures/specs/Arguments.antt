@@ -5,8 +5,6 @@ use Rattle.std.specs.List.{fold, slice_split}
 use Rattle.std.specs.Option.{ok_or, option_and_then}
 use Rattle.dump_captures.specs.Kinds.{kinds, kind_place, kind_text}
 use Rattle.dump_captures.specs.Tally.{changed_at}
-use Rattle.dump_captures.specs.declared.arguments.Reading.{Reading}
-use Rattle.dump_captures.specs.declared.arguments.Step.{Step}
 use Rattle.dump_captures.specs.declared.arguments.Step.TheVariants as step
 use Rattle.dump_captures.specs.declared.arguments.Task.{Task}
 use Rattle.dump_captures.specs.declared.arguments.Task.TheVariants as task
@@ -94,14 +92,6 @@ pub record ReadingValue : Type 0 where
   pub wants_kinds : Bool
   pub wants_files : Bool
 
-abbrev pub reading_of : Reading → ReadingValue
-reading_of r = record {
-  options = r.options;
-  files = map string_bytes r.files.items;
-  wants_kinds = r.wants_kinds;
-  wants_files = r.wants_files;
-}
-
 -- all packets, and no files
 abbrev pub nothing_read : ReadingValue
 nothing_read = record {
@@ -158,9 +148,3 @@ at_end (ends task) = task
 
 unfoldable pub task_of : List (List ℕ) → TaskValue
 task_of words = at_end (fold then_word (more nothing_read) words)
-
--- what a step of the reading leaves
-abbrev pub reads_of : Step → ReadingValue → Reads
-reads_of step.More r = more r
-reads_of step.Help r = ends help
-reads_of (step.Unknown wrong) r = ends (unknown (wrong_value wrong))

@@ -11,3 +11,4 @@ pub mod Summary
 pub mod Table
 pub mod Tally
 pub mod TimeText
+pub mod private

@@ -1,6 +1,6 @@
 -- The number of packets of each kind in a capture, and their outcomes.
-use Rattle.std.specs.Prelude.{ℕ, zero, suc, ◌+◌, ◌-◌, ◌^◌, ◌==◌, ◌||◌, nat_lt, min, Bool, false, if◌then◌else◌}
-use Rattle.std.specs.Prelude.{List, [], ◌∷◌, length}
+use Rattle.std.specs.Prelude.{ℕ, zero, suc, ◌+◌, ◌-◌, ◌^◌, ◌==◌, ◌||◌, nat_lt, min, Bool, false, if◌then◌else◌, List}
+use Rattle.std.specs.Prelude.{[], ◌∷◌, length}
 use Rattle.dump_captures.specs.Kinds.{kind_place, reason_place}
 use Rattle.dump_captures.specs.declared.kind.Reason.{Reason}
 use Rattle.dump_captures.specs.declared.tally.Outcome.{Outcome}
@@ -69,9 +69,6 @@ with_refused reason octets r =
     record r { refused = changed_at (reason_place reason) one_more r.refused; octets = more_by octets r.octets }
 
 -- ---- the frames of links that are not read
-
-abbrev pub no_link : UnreadLink
-no_link = record { link_type = 0; frames = 0 }
 
 abbrev pub has_link : ℕ → List UnreadLink → Bool
 has_link number [] = false

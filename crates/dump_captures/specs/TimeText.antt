@@ -2,8 +2,7 @@
 use Rattle.std.specs.Prelude.{ℕ, ◌/◌, List, ◌++◌, codes}
 use Rattle.wirebase.specs.Digits.{last_digits}
 use Rattle.capture.specs.Calendar.{date_of}
-use Rattle.capture.specs.TimeText.{date_text, month_and_day_text, clock_text}
-use Rattle.capture.specs.declared.calendar.Date.{Date}
+use Rattle.capture.specs.TimeText.{date_text, clock_text}
 
 -- hour, minute and second of a number of seconds, and the digits of nanoseconds
 unfoldable pub time_of_day_text : ℕ → ℕ → List ℕ
@@ -13,7 +12,3 @@ time_of_day_text seconds nanoseconds =
 -- the time this many seconds and nanoseconds after 1970-01-01T00:00:00Z
 unfoldable pub time_text : ℕ → ℕ → List ℕ
 time_text seconds nanoseconds = date_text (date_of (seconds / 86400)) ++ time_of_day_text seconds nanoseconds
-
--- what is kept of a date: all of it but the digits of its year before the last four
-unfoldable pub kept_text : Date → List ℕ
-kept_text d = last_digits 4 d.year ++ month_and_day_text d

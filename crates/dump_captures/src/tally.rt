@@ -2,7 +2,8 @@
 
 ghost use Rattle.std.specs.Prelude.{◌≡◌, ◌<◌, IfSome, IsNone, length, false, take, get_or};
 ghost use Rattle.dump_captures.specs.Tally.{tally_of, counted, empty, no_row, with_listed, with_refused, with_unread};
-ghost use Rattle.dump_captures.specs.Tally.{changed_at, one_more, has_link, no_link};
+ghost use Rattle.dump_captures.specs.Tally.{changed_at, one_more, has_link};
+ghost use Rattle.dump_captures.specs.private.Parts.{no_link};
 
 use crate::kind::{KINDS, Kind, REASONS, Reason};
 use arrayvec::ArrayVec;

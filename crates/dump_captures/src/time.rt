@@ -5,7 +5,8 @@
 ghost use Rattle.std.specs.Prelude.{◌≡◌, ◌+◌, ◌/◌, ◌%◌, ◌++◌, OnOk, length};
 ghost use Rattle.capture.specs.Calendar.{date_of as date_after};
 ghost use Rattle.listing.specs.Output.{Gains};
-ghost use Rattle.dump_captures.specs.TimeText.{kept_text, time_of_day_text, time_text};
+ghost use Rattle.dump_captures.specs.TimeText.{time_of_day_text, time_text};
+ghost use Rattle.dump_captures.specs.private.Parts.{kept_text};
 
 use capture::calendar::{Date, date_of};
 use listing::output::ToWriter;

@@ -1,7 +1,8 @@
 -- What the arguments so far tell.
 use Rattle.std.proofs.Common.{◌≡◌}
 use Rattle.std.specs.Prelude.{map, string_bytes}
-use Rattle.dump_captures.specs.Arguments.{more, reading_of}
+use Rattle.dump_captures.specs.Arguments.{more}
+use Rattle.dump_captures.specs.private.Parts.{reading_of}
 use Rattle.dump_captures.proofs.Words.{read}
 use Rattle.dump_captures.proofs.arguments.read_task.Given as goal
 

@@ -3,7 +3,7 @@ use Rattle.std.proofs.Common.{arith}
 use Rattle.std.proofs.lemmas.List.{take_all}
 use Rattle.listing.proofs.Printing.{gains_none, gains_both, one_more}
 use Rattle.dump_captures.specs.Summary.{link_text}
-use Rattle.dump_captures.specs.Tally.{no_link}
+use Rattle.dump_captures.specs.private.Parts.{no_link}
 use Rattle.dump_captures.proofs.summary.write_links.Goals as goal
 
 pub loop-link-init : goal.loop-link-init

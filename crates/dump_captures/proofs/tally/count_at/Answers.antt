@@ -1,5 +1,6 @@
 -- The link at the place is changed.
-use Rattle.dump_captures.specs.Tally.{no_link, one_more}
+use Rattle.dump_captures.specs.Tally.{one_more}
+use Rattle.dump_captures.specs.private.Parts.{no_link}
 use Rattle.dump_captures.proofs.Tallies.{changed_at-set}
 use Rattle.dump_captures.proofs.tally.count_at.Goals as goal
 

@@ -1,0 +1,31 @@
+-- What private functions and models need; no public clause rests on it.
+use Rattle.std.specs.Prelude.{ℕ, List, ◌++◌, map, string_bytes, ◌+◌, ◌-◌}
+use Rattle.capture.specs.TimeText.{month_and_day_text}
+use Rattle.capture.specs.declared.calendar.Date.{Date}
+use Rattle.wirebase.specs.Digits.{last_digits}
+use Rattle.dump_captures.specs.Arguments.{wrong_value, ReadingValue, Reads, help, unknown, more, ends}
+use Rattle.dump_captures.specs.declared.arguments.Reading.{Reading}
+use Rattle.dump_captures.specs.declared.arguments.Step.{Step}
+use Rattle.dump_captures.specs.declared.arguments.Step.TheVariants as step
+use Rattle.dump_captures.specs.declared.tally.UnreadLink.{UnreadLink}
+
+abbrev pub reading_of : Reading → ReadingValue
+reading_of r = record {
+  options = r.options;
+  files = map string_bytes r.files.items;
+  wants_kinds = r.wants_kinds;
+  wants_files = r.wants_files;
+}
+
+-- what a step of the reading leaves
+abbrev pub reads_of : Step → ReadingValue → Reads
+reads_of step.More r = more r
+reads_of step.Help r = ends help
+reads_of (step.Unknown wrong) r = ends (unknown (wrong_value wrong))
+
+abbrev pub no_link : UnreadLink
+no_link = record { link_type = 0; frames = 0 }
+
+-- what is kept of a date: all of it but the digits of its year before the last four
+unfoldable pub kept_text : Date → List ℕ
+kept_text d = last_digits 4 d.year ++ month_and_day_text d
