@@ -6,7 +6,6 @@ use Rattle.listing.specs.Output.{Gains, GainsSome}
 use Rattle.dump_lines.specs.BufferedLines.{IsFirst}
 use Rattle.dump_lines.specs.Listing.{Shape, LinePrints, is_known}
 use Rattle.dump_lines.specs.PartialLines.{shape_from}
-use Rattle.dump_lines.specs.declared.buffered_line.BufferedLine.TheVariants.{Line}
 use Rattle.dump_lines.specs.declared.partial_line.Line.{Line}
 
 -- the first line is taken, and what it prints is gained; or there was none, and nothing is
