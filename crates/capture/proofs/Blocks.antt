@@ -1,15 +1,12 @@
--- What options tell, interfaces, and packets by their kind.
-use Rattle.std.proofs.Common.{◌≡◌, ◌≢◌, ℕ, ◌-◌, ◌<◌, ◌≤◌, List, length, take, drop, take_all, Result, Ok, Err}
-use Rattle.std.proofs.Common.{IfOk, ◌↔◌, ℤ, slice_index, refl, ap, sym, subst, ◌∙◌, arith}
+-- What options tell, interfaces, and what a buffer shows.
+use Rattle.std.proofs.Common.{◌≡◌, ◌≢◌, ℕ, ◌-◌, ◌≤◌, List, length, take, drop, take_all, ◌↔◌, ℤ, slice_index, refl, ap}
+use Rattle.std.proofs.Common.{sym, subst, ◌∙◌}
 use Rattle.wirebase.specs.Bytes.{field, part}
 use Rattle.capture.specs.Order.{signed_number, number_in}
-use Rattle.capture.specs.Packet.{PacketValue, packet_in}
 use Rattle.capture.specs.Pcapng.{IsOption, option_end, TellsOption, here, later, HasResolution, told, microseconds}
-use Rattle.capture.specs.Pcapng.{HasOffset, moved_by, not_moved, link_type_field, snap_len_field, IsInterface}
-use Rattle.capture.specs.Pcapng.{IsHead, BeginsPacket, ShowsPacket, first, behind}
-use Rattle.capture.specs.Pcapng.{obsolete_kind, simple_kind, enhanced_kind, interface_field, short_interface_field}
-use Rattle.capture.specs.Pcapng.{IsTimed, IsSimple, IsPacket, obsolete, simple, enhanced}
-use Rattle.capture.specs.Types.{Refusal, Order, Head, Interface, Packet}
+use Rattle.capture.specs.Pcapng.{HasOffset, moved_by, not_moved, link_type_field, snap_len_field, IsInterface, IsHead}
+use Rattle.capture.specs.Pcapng.{BeginsPacket, ShowsPacket, first, behind}
+use Rattle.capture.specs.Types.{Order, Head, Interface}
 
 -- ---- options
 
@@ -38,31 +35,6 @@ module _ (order : Order) (code n : ℕ) where
   pub option_of : (bytes : List ℕ) (other m : ℕ) → 4 ≤ length bytes → other ≡ number_in order (field 0 2) bytes
       → m ≡ number_in order (field 2 4) bytes → option_end m ≤ length bytes → IsOption order bytes other m
   option_of bytes other m there c l whole = record { there = there; code_is = sym c; length_is = sym l; whole = whole }
-
-  -- no option, or another one that ends the list
-  tells_none : (bytes value : List ℕ)
-      → ((other m : ℕ) → IsOption order bytes other m → (other ≡ 0) × ((other ≡ code) × (m ≡ n) → ⊥))
-      → Tells bytes value → ⊥
-  tells_none bytes value none (here found e) = (none code n found).1 (refl, refl)
-  tells_none bytes value none (later other m is some differs rest) = some ((none other m is).0)
-
-  pub short_tells_none : (bytes value : List ℕ) → length bytes < 4 → Tells bytes value → ⊥
-  short_tells_none bytes value short = tells_none bytes value (λ other m is. absurd (omega (arith, short, is.there)))
-
-  pub cut_tells_none : (bytes value : List ℕ) (m : ℕ) → m ≡ number_in order (field 2 4) bytes
-      → length bytes < option_end m → Tells bytes value → ⊥
-  cut_tells_none bytes value m l short =
-      tells_none bytes value (λ other k is. let same : m ≡ k = l ∙ is.length_is in
-      absurd (omega (arith, same, short, is.whole)))
-
-  pub end_tells_none : (bytes value : List ℕ) (other m : ℕ) → other ≡ number_in order (field 0 2) bytes
-      → m ≡ number_in order (field 2 4) bytes → other ≡ 0 → ((other ≡ code) × (m ≡ n) → ⊥)
-      → Tells bytes value → ⊥
-  end_tells_none bytes value other m c l zero differs =
-      tells_none bytes value (λ other' m' is. (
-        sym is.code_is ∙ sym c ∙ zero,
-        λ both. differs (c ∙ is.code_is ∙ both.0, l ∙ is.length_is ∙ both.1),
-      ))
 
   one_told : (bytes v w : List ℕ) → Tells bytes v → Tells bytes w → v ≡ w
   one_told bytes v w (here found e) (here found' e') = e ∙ sym e'
@@ -113,47 +85,6 @@ one_interface order bytes i j is is' =
     let moves : i.offset ≡ j.offset = one_offset order options i.offset j.offset is.offset is'.offset in
     rw (link, snap, same, moves) refl
 
--- ---- packets
-
-module _ (order : Order) (interfaces : List Interface) (bytes : List ℕ) (kind place : ℕ) where
-  abbrev pub Timed : PacketValue → Type 0
-  Timed p = IsTimed order interfaces place bytes p
-
-  abbrev pub OfKind : PacketValue → Type 0
-  OfKind p = IsPacket order interfaces bytes p kind
-
-  pub obsolete_sound : kind ≡ obsolete_kind → place ≡ number_in order short_interface_field bytes
-      → (r : Result Packet Refusal) → IfOk r (λ packet. Timed (packet_in packet bytes))
-      → IfOk r (λ packet. OfKind (packet_in packet bytes))
-  obsolete_sound is e (Ok packet) h =
-      obsolete is (subst (λ i. IsTimed order interfaces i bytes (packet_in packet bytes)) e h)
-  obsolete_sound is e (Err error) h = tt
-
-  pub enhanced_sound : kind ≡ enhanced_kind → place ≡ number_in order interface_field bytes
-      → (r : Result Packet Refusal) → IfOk r (λ packet. Timed (packet_in packet bytes))
-      → IfOk r (λ packet. OfKind (packet_in packet bytes))
-  enhanced_sound is e (Ok packet) h =
-      enhanced is (subst (λ i. IsTimed order interfaces i bytes (packet_in packet bytes)) e h)
-  enhanced_sound is e (Err error) h = tt
-
-  pub simple_sound : kind ≡ simple_kind → (r : Result Packet Refusal)
-      → IfOk r (λ packet. IsSimple order interfaces bytes (packet_in packet bytes))
-      → IfOk r (λ packet. OfKind (packet_in packet bytes))
-  simple_sound is (Ok packet) h = simple is h
-  simple_sound is (Err error) h = tt
-
-  pub obsolete_timed : kind ≡ obsolete_kind → place ≡ number_in order short_interface_field bytes
-      → (p : PacketValue) → OfKind p → Timed p
-  obsolete_timed is e p (obsolete k h) = subst (λ i. IsTimed order interfaces i bytes p) (sym e) h
-  obsolete_timed is e p (simple k h) = absurd (omega (arith, is, k))
-  obsolete_timed is e p (enhanced k h) = absurd (omega (arith, is, k))
-
-  pub enhanced_timed : kind ≡ enhanced_kind → place ≡ number_in order interface_field bytes
-      → (p : PacketValue) → OfKind p → Timed p
-  enhanced_timed is e p (enhanced k h) = subst (λ i. IsTimed order interfaces i bytes p) (sym e) h
-  enhanced_timed is e p (simple k h) = absurd (omega (arith, is, k))
-  enhanced_timed is e p (obsolete k h) = absurd (omega (arith, is, k))
-
 -- ---- what a buffer shows
 
 module _ (section : Order) (bytes : List ℕ) where
@@ -174,9 +105,3 @@ module _ (section : Order) (bytes : List ℕ) where
         λ shows. behind h is whole (subst (ShowsPacket h.order) all shows),
         λ shows. subst (ShowsPacket h.order) (sym all) (shown_behind h one none shows),
       )
-
-  -- no block that is there as a whole
-  pub shows_none : (BeginsPacket section bytes → ⊥)
-      → ((h : Head) → IsHead section bytes h → h.total_len ≤ length bytes → ⊥) → ShowsPacket section bytes → ⊥
-  shows_none none no_block (first begins) = none begins
-  shows_none none no_block (behind h is whole shows) = no_block h is whole

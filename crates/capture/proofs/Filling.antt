@@ -1,7 +1,7 @@
 -- What is read of bytes that are known.
-use Rattle.std.proofs.Common.{◌≡◌, ℕ, true, false, zero, suc, ◌+◌, ◌-◌, ◌<◌, ◌≤◌, ◌⊎◌, inl, inr}
-use Rattle.std.proofs.Common.{List, [], ◌∷◌, ◌++◌, length, take, drop}
-use Rattle.std.proofs.Common.{Option, None, Some, IfSome, refl, ap, sym, subst, ◌∙◌, arith, length-append, length-drop}
+use Rattle.std.proofs.Common.{◌≡◌, ℕ, true, false, zero, suc, ◌+◌, ◌-◌, ◌<◌, ◌≤◌, ◌⊎◌, inl, inr, List, [], ◌∷◌, ◌++◌}
+use Rattle.std.proofs.Common.{length, take, drop, Option, None, Some, refl, ap, sym, subst, ◌∙◌, arith, length-append}
+use Rattle.std.proofs.Common.{length-drop}
 use Rattle.std.proofs.lemmas.List.{append-nil, take_all, drop_all, take_at, drop_at, length-take, take-append-drop}
 use Rattle.std.proofs.lemmas.List.{drop-drop}
 use Rattle.std.proofs.Math.Seq.{take-add}
@@ -89,12 +89,6 @@ first_reads all old new before after count empty reads fills =
 nothing_read : (all : List ℕ) (old : Option (List ℕ)) (done : ℕ) → Reads all old [] done → old ≡ Some all
 nothing_read all old done reads =
     reads.rest ∙ ap Some (ap (λ l. l ++ drop done all) reads.front ∙ take-append-drop done all)
-
--- an empty buffer means the end
-pub shown_none : (all : List ℕ) (old : Option (List ℕ)) (done : ℕ) → Reads all old [] done → (shown : List ℕ)
-    → IfSome old (λ xs. length shown ≡ 0 → xs ≡ []) → length shown ≡ 0 → all ≡ []
-shown_none all old done reads shown end =
-    subst (λ o. IfSome o (λ xs. length shown ≡ 0 → xs ≡ [])) (nothing_read all old done reads) end
 
 -- ---- a front that was read, and what is left after it
 

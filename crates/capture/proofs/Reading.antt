@@ -58,19 +58,6 @@ so_far-ended old mid new before now next count missing ended so is part told =
       },
     )
 
--- nothing is taken where there are as many bytes as are wanted
-pub takes-none : (old : Option (List ℕ)) (octets : List ℕ) (count : ℕ) → length octets ≡ count
-    → (taken : List ℕ) × (octets ≡ octets ++ taken) × Takes old old taken (count - length octets)
-takes-none old octets count same = (
-  [],
-  sym (append-nil octets),
-  record {
-    consumed = Consumes-nil old;
-    few = omega arith;
-    ended = λ short. absurd (omega (arith, same, short));
-  },
-)
-
 -- ---- bytes that are passed over
 
 -- this many of the bytes are still to be passed over
@@ -78,9 +65,6 @@ pub record SkipsSoFar (old new : Option (List ℕ)) (count missing : ℕ) : Type
   pub passed : List ℕ
   pub consumed : Consumes old new passed
   pub counted : length passed + missing ≡ count
-
-pub skips-init : (old : Option (List ℕ)) (count : ℕ) → SkipsSoFar old old count count
-skips-init old count = record { passed = []; consumed = Consumes-nil old; counted = omega arith }
 
 pub skips-more : (old mid new : Option (List ℕ)) (count missing skipped : ℕ) (ended : Bool)
     → SkipsSoFar old mid count missing → SkipsPart mid new missing skipped ended

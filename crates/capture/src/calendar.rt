@@ -2,9 +2,8 @@
 
 ghost use Rattle.std.specs.Prelude.{◌≡◌, ℕ, ◌+◌, ◌<◌, ◌≤◌};
 ghost use Rattle.capture.specs.Calendar.{date, date_of as date_after};
-ghost use Rattle.capture.specs.private.Parts.{days_of_months, days_of_years};
 ghost use Rattle.capture.specs.Calendar.{is_leap as is_leap_year, month_days as days_in_month};
-ghost use Rattle.capture.specs.private.Parts.{year_days};
+ghost use Rattle.capture.specs.private.Parts.{days_of_years, year_days};
 
 // The calendar repeats after this many years, which have this many days.
 const CYCLE_YEARS: u64 = 400;

@@ -6,8 +6,7 @@ ghost use Rattle.capture.specs.Capture.{IsInOrder, ShowsUnit};
 ghost use Rattle.capture.specs.Packet.{packet_in, IsPlace};
 ghost use Rattle.capture.specs.private.Reader.{Reads};
 ghost use Rattle.capture.specs.private.Taken.{BlockTakes, BlockGives, StepGives, SectionTakes, InterfaceTakes};
-ghost use Rattle.capture.specs.private.Taken.{PacketTakes};
-ghost use Rattle.capture.specs.private.Taken.{IfPacket, RecordGives, IsWholeBlock, after};
+ghost use Rattle.capture.specs.private.Taken.{PacketTakes, IfPacket, RecordGives, IsWholeBlock, after};
 
 use crate::ending::{Ending, Fault, Refusal};
 use crate::order::Order;

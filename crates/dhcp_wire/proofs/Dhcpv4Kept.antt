@@ -1,21 +1,14 @@
 -- What the options of a packet give, one after another; and bytes have one value.
-use Rattle.dhcp_wire.proofs.Words.{[], ◌∙◌, ◌∷◌, ◌≡◌, AreOfEthernet, HasHeader, Ipv4Address, IsPacket, List}
-use Rattle.dhcp_wire.proofs.Words.{MessageType, None, Option, OptionValue, Some, Value, ℕ, ap, byte_of, ethernet_at}
-use Rattle.dhcp_wire.proofs.Words.{first_address, fixed_value, given, last_of, list_of, octets_of, op_field, option_or}
-use Rattle.dhcp_wire.proofs.Words.{options_in, or-assoc, or-none, refl, said, subst, sym, type_among, with_options}
-use Rattle.wirebase.specs.Ethernet.{Ethernet, octets_of as ethernet_octets}
+use Rattle.dhcp_wire.proofs.Words.{[], ◌∙◌, ◌∷◌, ◌≡◌, AreOfEthernet, HasHeader, IsPacket, List, MessageType, None}
+use Rattle.dhcp_wire.proofs.Words.{Option, OptionValue, Some, Value, ℕ, ap, byte_of, fixed_value, given, last_of}
+use Rattle.dhcp_wire.proofs.Words.{list_of, op_field, option_or, options_in, or-assoc, or-none, refl, said, subst, sym}
+use Rattle.dhcp_wire.proofs.Words.{type_among, with_options}
 use Rattle.wirebase.proofs.Numbered.{number-case_in}
 use Rattle.dhcp_wire.specs.declared.dhcpv4.tables.OpCode.{OpCode}
 use Rattle.dhcp_wire.specs.Dhcpv4Tables.{opcode_number, opcode_of}
 use Rattle.dhcp_wire.proofs.Dhcpv4Lists.{list-options, options-unique}
 
 -- ---- addresses by their octets
-
-pub address-at : (a : Ipv4Address) (l : List ℕ) → octets_of a ≡ l → a ≡ first_address l
-address-at a l e = ap first_address e
-
-pub ethernet-at : (a : Ethernet) (l : List ℕ) → ethernet_octets a ≡ l → a ≡ ethernet_at l
-ethernet-at a l e = ap ethernet_at e
 
 -- ---- the options of a list, one after another
 

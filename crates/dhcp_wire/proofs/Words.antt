@@ -5,7 +5,7 @@ pub use Rattle.std.proofs.Common.{add-one, ap, arith, codes, cond, decimal, drop
 pub use Rattle.std.proofs.Common.{get_or, if◌then◌else◌, inl, inr, is_ok, length, length-append, length-drop, ltb, map}
 pub use Rattle.std.proofs.Common.{refl, rules, slice_index, subst, suc, sym, take, true, zero}
 pub use Rattle.std.proofs.lemmas.Bool.{cases_eq, cases_lt, eqb-false, eqb-true, le-ltb, lt-ltb, ne_eqb}
-pub use Rattle.std.proofs.lemmas.Grind.{common_steps, put_two}
+pub use Rattle.std.proofs.lemmas.Grind.{common_steps}
 pub use Rattle.std.proofs.lemmas.List.{append-nil, append_assoc, drop-drop, drop_all, drop_at, length-take}
 pub use Rattle.std.proofs.lemmas.List.{length-take-le, take-append-drop, take_all, take_at, take_rest}
 pub use Rattle.std.proofs.lemmas.List.Concat.{flat_map-cons}
@@ -25,15 +25,15 @@ unfoldable pub use Rattle.dhcp_wire.specs.Dhcpv4Format.{texts_before}
 pub use Rattle.dhcp_wire.specs.Dhcpv4OptionDisplay.{character}
 pub use Rattle.dhcp_wire.specs.Dhcpv4OptionValue.{first_address}
 unfoldable pub use Rattle.dhcp_wire.specs.Dhcpv4OptionValue.{addresses_in}
-pub use Rattle.dhcp_wire.specs.Dhcpv4Options.{IsKind, OptionValue, Options, ended, goes_on, lone, none}
+pub use Rattle.dhcp_wire.specs.Dhcpv4Options.{IsKind, OptionValue, Options, ended, goes_on, lone, none, option}
+pub use Rattle.dhcp_wire.specs.Dhcpv4Options.{option_text, padded, torn, value_of_option}
 pub use Rattle.dhcp_wire.specs.private.Parts.{HasNoPadding}
-pub use Rattle.dhcp_wire.specs.Dhcpv4Options.{option, option_text, padded, torn, value_of_option}
 pub use Rattle.dhcp_wire.specs.private.Dhcpv4OptionsAhead.{list_of}
 pub use Rattle.dhcp_wire.specs.Dhcpv4Packet.{HasNoZero, IsTextIn, ethernet_type, inner, op_field, options_in}
 pub use Rattle.dhcp_wire.specs.Dhcpv4Refusal.{Ends, IsFirstOther, last_type}
 pub use Rattle.dhcp_wire.specs.private.Dhcpv4Writing.{WritesOptions}
 unfoldable pub use Rattle.dhcp_wire.specs.private.Dhcpv4Writing.{progress, step_all, step_slot}
-pub use Rattle.wirebase.proofs.Chains.{lent, over-puts, put-append, put-fields, whole-sheet}
+pub use Rattle.wirebase.proofs.Chains.{over-puts, put-append, put-fields, whole-sheet}
 pub use Rattle.wirebase.proofs.Format.{IsFormat, rewrites, round_trips, same_text}
 pub use Rattle.wirebase.proofs.LastOf.{or-assoc, or-none}
 pub use Rattle.wirebase.proofs.Numbered.{case-read, case_in-unnamed}

@@ -2,10 +2,9 @@
 
 ghost use Rattle.std.specs.Prelude.{◌≡◌, IfOk, IfErr, drop, map, string_bytes};
 ghost use Rattle.std.specs.Vec.Iter.{into_iter_items};
-ghost use Rattle.dump_captures.specs.Arguments.{kind_named, only_of, with_name};
-ghost use Rattle.dump_captures.specs.Arguments.{is_option, with_only, with_option, with_word};
+ghost use Rattle.dump_captures.specs.Arguments.{kind_named, only_of, with_name, is_option, with_only, with_option};
+ghost use Rattle.dump_captures.specs.Arguments.{with_word, more, at_end, nothing_read, task_of, task_value};
 ghost use Rattle.dump_captures.specs.private.Parts.{reading_of, reads_of};
-ghost use Rattle.dump_captures.specs.Arguments.{more, at_end, nothing_read, task_of, task_value};
 
 use crate::Fault;
 use crate::kind::Kind;

@@ -2,7 +2,7 @@
 
 #![tactic(auto, using(listing::proofs::Printing::gained, listing::proofs::Printing::gains_both, listing::proofs::Printing::put))]
 
-ghost use Rattle.std.specs.Prelude.{◌≡◌, ◌+◌, ◌/◌, ◌%◌, ◌++◌, OnOk, length};
+ghost use Rattle.std.specs.Prelude.{◌≡◌, ◌+◌, ◌/◌, ◌%◌, ◌++◌, OnOk};
 ghost use Rattle.capture.specs.Calendar.{date_of as date_after};
 ghost use Rattle.listing.specs.Output.{Gains};
 ghost use Rattle.dump_captures.specs.TimeText.{time_of_day_text, time_text};

@@ -314,9 +314,6 @@ module _ (shown : List ℕ) (s n : ℕ) (in_shown : s ≤ length shown)
   both_is : take (s + n) shown ≡ take s shown ++ take n (drop s shown)
   both_is = take-add s n shown
 
-  pub front_in_shown : s + n ≤ length shown
-  front_in_shown = omega (arith, in_shown, in_rest, ap length rest_is, length-drop s shown)
-
   pub front_takes : (line mid new : Line) → Takes line mid (take s shown)
       → Takes mid new (take (s + n - s) (drop s shown)) → Takes line new (take (s + n) shown)
   front_takes line mid new first second =

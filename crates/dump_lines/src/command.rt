@@ -40,8 +40,7 @@ pub enum Command {
 }
 
 impl Command {
-    ghost use Rattle.dump_lines.specs.Listing.{command_alone, command_of};
-    ghost use Rattle.dump_lines.specs.Listing.{reads, PacketPrints};
+    ghost use Rattle.dump_lines.specs.Listing.{command_alone, command_of, reads, PacketPrints};
 
     /// The command of a word and of the words between it and the packet; None where there is no such command.
     #[inline]

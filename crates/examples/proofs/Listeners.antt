@@ -1,17 +1,17 @@
 -- What listeners read: codes of times, lists of groups, and what is due.
-use Rattle.std.proofs.Common.{◌≡◌, inl, inr, ℕ, ◌+◌, ◌*◌, ◌/◌, ◌%◌, ◌^◌, ◌<◌, ◌≤◌, false, true, nat_lt, refl, lit<}
-use Rattle.std.proofs.Common.{List, [], ◌∷◌, length, drop, get_or, arith, ap, sym, subst, ◌∙◌, length-append}
+use Rattle.std.proofs.Common.{◌≡◌, ℕ, ◌+◌, ◌*◌, ◌/◌, ◌%◌, ◌^◌, ◌<◌, ◌≤◌, false, true, nat_lt, refl, lit<, List, [], ◌∷◌}
+use Rattle.std.proofs.Common.{length, drop, get_or, arith, ap, sym, ◌∙◌, length-append}
 use Rattle.std.proofs.lemmas.Nat.{mul-le}
 use Rattle.std.proofs.Math.Nat.{pow-le-pow_right, mod-eq_of_lt}
 use Rattle.std.proofs.lemmas.List.{drop_more}
 use Rattle.control_wire.specs.ByteWriter.{fields, be8, be16}
 use Rattle.control_wire.specs.Ipv6Address.{octets_of}
 use Rattle.control_wire.specs.Ipv6AddressType.{Ipv6Address}
-use Rattle.control_wire.specs.Mld.{MldValue, report, values_of}
+use Rattle.control_wire.specs.Mld.{MldValue, report}
 use Rattle.control_wire.specs.MldAddressRecordReprType.{AddressRecordRepr}
-use Rattle.control_wire.specs.MldRecord.{RecordValue, address_record, value_of, group_of, text}
+use Rattle.control_wire.specs.MldRecord.{RecordValue, address_record, text}
 use Rattle.control_wire.specs.MldRecordTypeType.TheVariants.{ModeIsInclude}
-use Rattle.examples.specs.Listener.{delay_millis, IsListedIn, IsDue, all_groups, one_group, some_sources, record_of}
+use Rattle.examples.specs.Listener.{delay_millis, IsDue, all_groups, one_group, some_sources, record_of}
 use Rattle.examples.specs.Neighbor.{IsUnspecified}
 
 -- ---- codes
@@ -42,31 +42,6 @@ pub ruleset reading = (linear, floating)
 front_at : (rs : List AddressRecordRepr) (i : ℕ) (r : AddressRecordRepr) → i < length rs → r ≡ get_or rs i r
     → drop i rs ≡ r ∷ drop (i + 1) rs
 front_at rs i r h is = drop_more rs i r h ∙ ap (λ (x : AddressRecordRepr). x ∷ drop (i + 1) rs) (sym is)
-
--- the group of the next record, and those after it
-pub listed_here : (rs : List AddressRecordRepr) (i : ℕ) (r : AddressRecordRepr) (group : Ipv6Address) → i < length rs
-    → r ≡ get_or rs i r → octets_of (group_of (value_of r)) ≡ octets_of group
-    → IsListedIn (values_of (drop i rs)) group
-listed_here rs i r group h is e =
-    subst (λ (l : List AddressRecordRepr). IsListedIn (values_of l) group) (sym (front_at rs i r h is)) (inl e)
-
-pub listed_earlier : (rs : List AddressRecordRepr) (i : ℕ) (r : AddressRecordRepr) (group : Ipv6Address) → i < length rs
-    → r ≡ get_or rs i r → IsListedIn (values_of (drop (i + 1) rs)) group → IsListedIn (values_of (drop i rs)) group
-listed_earlier rs i r group h is listed =
-    subst (λ (l : List AddressRecordRepr). IsListedIn (values_of l) group) (sym (front_at rs i r h is)) (inr listed)
-
-not_first : (r : AddressRecordRepr) (rest : List AddressRecordRepr) (group : Ipv6Address)
-    → (octets_of (group_of (value_of r)) ≡ octets_of group → ⊥) → IsListedIn (values_of (r ∷ rest)) group
-    → IsListedIn (values_of rest) group
-not_first r rest group other (inl e) = absurd (other e)
-not_first r rest group other (inr listed) = listed
-
-pub listed_later : (rs : List AddressRecordRepr) (i : ℕ) (r : AddressRecordRepr) (group : Ipv6Address) → i < length rs
-    → r ≡ get_or rs i r → (octets_of (group_of (value_of r)) ≡ octets_of group → ⊥)
-    → IsListedIn (values_of (drop i rs)) group → IsListedIn (values_of (drop (i + 1) rs)) group
-listed_later rs i r group h is other listed =
-    not_first r (drop (i + 1) rs) group other
-    (subst (λ (l : List AddressRecordRepr). IsListedIn (values_of l) group) (front_at rs i r h is) listed)
 
 -- ---- what is due
 

@@ -2,8 +2,8 @@
 use Rattle.std.proofs.Common.{◌≡◌, List, ℕ, [], ◌∷◌, Option, Result, Bor, refl, sym, ap, ◌∙◌}
 use Rattle.std.specs.Str.{str_to_ascii_lowercase}
 use Rattle.control_wire.specs.ErrorType.{Error}
-use Rattle.control_wire.specs.DnsNameWalk.{Coming, Walk, label, fault, ending, answer_of, GivesFirst, Gives}
-use Rattle.control_wire.proofs.DnsNameLabels.{none_at_end, end_at_none, label_before, label_first, same_no_fault}
+use Rattle.control_wire.specs.DnsNameWalk.{Coming, Walk, label, ending, answer_of, GivesFirst, Gives}
+use Rattle.control_wire.proofs.DnsNameLabels.{none_at_end, end_at_none, label_before, label_first}
 use Rattle.examples.specs.Resolver.{lowered}
 use Rattle.examples.specs.private.Parts.{GivesLabel}
 
@@ -82,8 +82,3 @@ none_at_both old new other after result answer gives also e f = record {
   right_is = none_at_end other after answer also f;
   same = refl;
 }
-
-pub no_fault_in : (old new other : Walk) (result : Option (Result (Bor (List ℕ)) Error)) → GivesFirst old result new
-    → answer_of result ≡ fault → GiveSameName old.ahead other.ahead → ⊥
-no_fault_in old new other result gives e same =
-    same_no_fault old new old.ahead result gives e (same.labels, same.left_is, same.left_is)

@@ -9,9 +9,8 @@ ghost use Rattle.control_wire.specs.Dhcpv4Options.{value_of_option};
 ghost use Rattle.control_wire.specs.HardwareAddress.{ethernet_of};
 ghost use Rattle.control_wire.specs.Ipv4.{octets_of};
 ghost use Rattle.control_wire.specs.LastOf.{last_of};
-ghost use Rattle.examples.specs.Lease.{client_of, message_of, sent, asked, padded, padded_len};
-ghost use Rattle.examples.specs.Lease.{lease_of, first_in, AnswerValue, answer_of, Tells, Answers};
-ghost use Rattle.examples.specs.Lease.{value_of as lease_value};
+ghost use Rattle.examples.specs.Lease.{client_of, message_of, sent, asked, padded, padded_len, lease_of, first_in};
+ghost use Rattle.examples.specs.Lease.{AnswerValue, answer_of, Tells, Answers, value_of as lease_value};
 
 use arrayvec::ArrayVec;
 use control_wire::dhcpv4::{

@@ -1,13 +1,11 @@
 //! Frames of the links that captures have.
 
 ghost use Rattle.std.specs.Prelude.{◌≡◌, ◌<◌, ◌≤◌, ◌↔◌, ◌+◌, ◌*◌, ◌/◌, ◌%◌, [], IfOk, IfErr, IsOkAnd, IsTrue, length};
-ghost use Rattle.std.specs.Prelude.{drop, take, slice_index};
-ghost use Rattle.frame_wire.specs.Link.{FrameValue, value_of, network_of_type, IsTagType, TypedValue};
+ghost use Rattle.std.specs.Prelude.{drop};
+ghost use Rattle.frame_wire.specs.Link.{FrameValue, value_of, network_of_type, IsTagType, TypedValue, IsTagged};
+ghost use Rattle.frame_wire.specs.Link.{network_of_protocol, IsProtocol, IsPpp, IsSession, IsPayload, IsTypedFrame};
+ghost use Rattle.frame_wire.specs.Link.{link_of, IsFrame, IsRaw, IsFamily, family_in, network_of_family, vlan_in};
 ghost use Rattle.frame_wire.specs.private.Parts.{typed_of};
-ghost use Rattle.frame_wire.specs.Link.{IsTagged};
-ghost use Rattle.frame_wire.specs.Link.{network_of_protocol, IsProtocol, HasAddress, IsPpp, IsSession, IsPayload};
-ghost use Rattle.frame_wire.specs.Link.{IsTypedFrame, link_of, IsFrame, IsRaw, IsFamily, family_in, network_of_family};
-ghost use Rattle.frame_wire.specs.Link.{vlan_in};
 ghost use Rattle.frame_wire.specs.LinkRefusal.{IsTagCut, IsProtocolCut, RefusesPpp, IsSessionCut};
 ghost use Rattle.frame_wire.specs.declared.link.refusal.Refusal.TheVariants as refusals;
 ghost use Rattle.wirebase.specs.Bytes.{field as field_at, number_of};

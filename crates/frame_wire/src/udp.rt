@@ -1,15 +1,14 @@
 //! UDP datagrams (RFC 768).
 
-ghost use Rattle.std.specs.Prelude.{◌≡◌, ◌≤◌, ◌↔◌, ◌⊎◌, ℕ, List, length, IsTrue, IsOk, IfOk, IfErr, IsOkAnd};
-ghost use Rattle.std.specs.Prelude.{IfSome, IsNone};
+ghost use Rattle.std.specs.Prelude.{◌≡◌, ◌≤◌, ◌↔◌, length, IsTrue, IsOk, IfOk, IfErr, IsOkAnd, IfSome, IsNone};
 ghost use Rattle.std.specs.Borrow.{sem, Lends, Array, u8 as byte};
 ghost use Rattle.byteorder.specs.Endian.{big_bytes};
 ghost use Rattle.wirebase.specs.Bytes.{Reaches, bytes_of, number_of, over, splice};
 ghost use Rattle.wirebase.specs.Format.{Rewrites, SameText};
 ghost use Rattle.wirebase.specs.View.{Sets, KeepsLen};
-ghost use Rattle.frame_wire.specs.Udp.{inner, with_inner, view_octets, src_port_field, dst_port_field};
-ghost use Rattle.frame_wire.specs.Udp.{len_field, checksum_field, len_in, payload_field, BeginsWhole, IsVerified};
-ghost use Rattle.frame_wire.specs.Udp.{whole_field, HasChecksum, IsDatagram};
+ghost use Rattle.frame_wire.specs.Udp.{inner, with_inner, view_octets, src_port_field, dst_port_field, len_field};
+ghost use Rattle.frame_wire.specs.Udp.{checksum_field, len_in, payload_field, BeginsWhole, IsVerified, HasChecksum};
+ghost use Rattle.frame_wire.specs.Udp.{IsDatagram};
 ghost use Rattle.frame_wire.specs.UdpText.{value_of, text_len, text, sealed_datagram, format, Emits};
 ghost use Rattle.frame_wire.specs.UdpRefusal.{Refuses, RefusesLen, IsRead};
 ghost use Rattle.frame_wire.specs.contracts.udp.UdpPacket.{the_row};

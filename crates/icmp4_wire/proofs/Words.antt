@@ -3,7 +3,6 @@ pub use Rattle.std.proofs.Common.{[], ◌%◌, ◌*◌, ◌++◌, ◌+◌, ◌-�
 pub use Rattle.std.proofs.Common.{None, Some, ℕ, add-one, ap, arith, bit_and, bit_or, drop, eqb, false, inl, inr}
 pub use Rattle.std.proofs.Common.{length, length-append, lit<, min, nat_lt, refl, rules, subst, suc, sym, true, zero}
 pub use Rattle.std.proofs.lemmas.List.{append-nil, length-drop}
-pub use Rattle.wirebase.proofs.Chains.{lent}
 pub use Rattle.wirebase.proofs.Format.{IsFormat, all_rewrites, rewrites, round_trips, same_text, same_text-by}
 pub use Rattle.wirebase.proofs.IpProtocols.{protocol-read, protocol_of-number}
 pub use Rattle.wirebase.proofs.Numbered.{case-read, case_in-unnamed, number-case_in}

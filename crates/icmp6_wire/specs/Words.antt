@@ -1,13 +1,12 @@
 -- The words of the crates below, and the types: what the definitions of this crate are said in.
-pub use Rattle.wirebase.specs.Hexadecimal.{octets_text}
+pub use Rattle.wirebase.specs.Hexadecimal.{octets_text, hex_colons}
 pub use Rattle.opt_wire.specs.NdiscOption.{BeginsWithBlock, units_in}
 pub use Rattle.opt_wire.specs.NdiscOptionRepr.{BeginsWith, OptionValue, filled, mtu, padding, prefix_information}
-pub use Rattle.opt_wire.specs.NdiscOptionRepr.{redirected}
-pub use Rattle.opt_wire.specs.NdiscOptionRepr.{source, target, units, unknown}
+pub use Rattle.opt_wire.specs.NdiscOptionRepr.{redirected, source, target, units, unknown}
 pub use Rattle.opt_wire.specs.NdiscOptionTables.{flag_bits, flags_text}
 pub use Rattle.wirebase.specs.ByteWriter.{Sheet, free, put_all, sheet, the_slice}
 unfoldable pub use Rattle.wirebase.specs.ByteWriter.{be16, be32, be8, fields, put}
-pub use Rattle.wirebase.specs.Bytes.{Field, IsBytes, Reaches, Writes, byte_of, bytes_of, field, number_of, with_field}
+pub use Rattle.wirebase.specs.Bytes.{Field, IsBytes, Reaches, byte_of, bytes_of, field, number_of, with_field}
 unfoldable pub use Rattle.wirebase.specs.Bytes.{over, part, splice}
 pub use Rattle.wirebase.specs.Checks.{Check, Fails, Passes, check}
 pub use Rattle.wirebase.specs.Capabilities.{is_computed, is_verified, sealed_where}
@@ -15,13 +14,11 @@ pub use Rattle.wirebase.specs.Checksum.{IsGood}
 unfoldable pub use Rattle.wirebase.specs.Checksum.{sealed}
 pub use Rattle.wirebase.specs.Display.{pieces, truth_text}
 pub use Rattle.wirebase.specs.Duration.{micros_of, millis_of, seconds_of, whole_seconds}
-pub use Rattle.wirebase.specs.private.Parts.{whole_millis}
+pub use Rattle.wirebase.specs.private.Parts.{whole_millis, IsEcho}
 unfoldable pub use Rattle.wirebase.specs.Duration.{duration_text}
-pub use Rattle.wirebase.specs.Hexadecimal.{hex_colons}
 pub use Rattle.wirebase.specs.Format.{Format, Rewrites, RoundTrips, SameText}
 pub use Rattle.wirebase.specs.HardwareAddress.{raw_bytes}
 pub use Rattle.wirebase.specs.Icmp.{checksum_field, code_field, data_in, echo_fields, header, type_field}
-pub use Rattle.wirebase.specs.private.Parts.{IsEcho}
 pub use Rattle.wirebase.specs.Ip.{protocol_number, protocol_rows}
 pub use Rattle.wirebase.specs.Ipv6.{IsHeader, header_display, next_header_field}
 unfoldable pub use Rattle.wirebase.specs.Ipv6.{header_text, pseudo_sum}

@@ -9,7 +9,7 @@ use Rattle.record_wire.specs.Entries.{EntryValue, Left, IsNext, IsBroken, Refuse
 use Rattle.listing.specs.ListingMessage.{header_listing, EntryPrints, EntriesPrint, is_listed, is_unread, MessagePrints}
 use Rattle.listing.specs.ListingMessage.{has_header, none_begins}
 use Rattle.listing.specs.private.ListingParts.{RefusesNext}
-use Rattle.listing.proofs.Printing.{gains_none, gains_both}
+use Rattle.listing.proofs.Printing.{gains_both}
 
 module _ (margin : List ℕ) (is_multicast : Bool) (message : List ℕ) where
   -- after what is done, what the entries that are left print is what all print
@@ -17,9 +17,6 @@ module _ (margin : List ℕ) (is_multicast : Bool) (message : List ℕ) where
   AreLeft left all done = (more : List ℕ) (unread : Option Unread)
       → EntriesPrint margin is_multicast message left more unread
       → EntriesPrint margin is_multicast message all (done ++ more) unread
-
-  pub all_are_left : (all : Left) (a : Option (List ℕ)) → GainsSome a a (AreLeft all all)
-  all_are_left all a = ([], (λ more unread is. is), gains_none a)
 
   -- where they print nothing more
   pub nothing_more : (left all : Left) (a b : Option (List ℕ)) (unread : Option Unread)

@@ -1,22 +1,10 @@
 -- The names of flags, with commas between them and after them.
-use Rattle.listing.proofs.Words.{◌≡◌, ◌+◌, ◌-◌, ◌≤◌, [], ◌∷◌, ◌++◌, ◌∙◌, Bool, List, ℕ, ap, append_assoc, arith, codes}
-use Rattle.listing.proofs.Words.{cond, false, flat_map, if◌then◌else◌, length, length-append, length-take-le, refl, sym}
-use Rattle.listing.proofs.Words.{take, true}
+use Rattle.listing.proofs.Words.{◌≡◌, ◌+◌, ◌-◌, ◌≤◌, [], ◌∷◌, ◌++◌, ◌∙◌, List, ℕ, ap, append_assoc, arith, codes}
+use Rattle.listing.proofs.Words.{flat_map, length, length-append, length-take-le, refl, sym, take}
 use Rattle.std.proofs.lemmas.List.{take-take}
 use Rattle.std.proofs.Math.Seq.{take-append_seam}
-use Rattle.listing.specs.ListingMessage.{flag_names, has_bit, names_set, with_commas, flags_text}
+use Rattle.listing.specs.ListingMessage.{flag_names, names_set, with_commas, flags_text}
 use Rattle.listing.specs.private.ListingParts.{each_behind}
-
--- the first row's name where its bit is set, and then the others
-at_bit : (b : Bool) (name : List ℕ) (names : List (List ℕ))
-    → each_behind (cond b (name ∷ names) names) ≡ cond b (name ++ codes ",") [] ++ each_behind names
-at_bit true name names = refl
-at_bit false name names = refl
-
-pub names_first : (name : List ℕ) (place word : ℕ) (rows : List (List ℕ × ℕ))
-    → each_behind (names_set ((name, place) ∷ rows) word)
-    ≡ (if has_bit word place then name ++ codes "," else []) ++ each_behind (names_set rows word)
-names_first name place word rows = at_bit (has_bit word place) name (names_set rows word)
 
 -- the comma after each name precedes the next name
 commas : (names : List (List ℕ))

@@ -1,9 +1,8 @@
 -- The words that the proofs of this crate are said in: those of std, of the crates below and of the definitions.
-pub use Rattle.std.proofs.Common.{◌≡◌, ◌-◌, ◌≤◌, [], ◌∷◌, ◌++◌, ◌∙◌, ◌+◌, ◌/◌, ◌%◌, ◌<◌, ◌&&◌, ◌⊎◌, ◌^◌, Bool, Err}
-pub use Rattle.std.proofs.Common.{IfOk, IfSome, IsSome, List, None, Ok, OnOk, Option, Result, Some, ℕ, add-one, ap}
-pub use Rattle.std.proofs.Common.{append_assoc, arith, codes, cond, decimal, drop, drop-cons, false, flat_map, get_or}
-pub use Rattle.std.proofs.Common.{inl, inr, leb, length, length-append, length-drop, ne_eqb, refl, subst, suc, sym}
-pub use Rattle.std.proofs.Common.{take, true, zero}
+pub use Rattle.std.proofs.Common.{◌≡◌, ◌-◌, ◌≤◌, [], ◌∷◌, ◌++◌, ◌∙◌, ◌+◌, ◌/◌, ◌%◌, ◌<◌, ◌&&◌, ◌^◌, Bool, Err, IfOk}
+pub use Rattle.std.proofs.Common.{IfSome, IsSome, List, None, Ok, OnOk, Option, Result, Some, ℕ, add-one, ap}
+pub use Rattle.std.proofs.Common.{append_assoc, arith, codes, decimal, drop, false, flat_map, get_or, inl, inr, length}
+pub use Rattle.std.proofs.Common.{length-append, ne_eqb, refl, subst, suc, sym, take, true, zero}
 pub use Rattle.std.proofs.lemmas.Bool.{eq-eqb, eqb-true}
 pub use Rattle.std.proofs.lemmas.Grind.{flat_map-append}
 pub use Rattle.std.proofs.lemmas.List.{append-nil, length-take-le, take_all, take_more}

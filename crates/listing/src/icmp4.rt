@@ -5,8 +5,7 @@
 ghost use Rattle.std.specs.Prelude.{◌≡◌, OnOk, true};
 ghost use Rattle.icmp4_wire.specs.Icmpv4.{value_of};
 ghost use Rattle.listing.specs.Indented.{indented, is_of_one_line};
-ghost use Rattle.listing.specs.ListingIcmp4.{Icmp4Prints, icmp4_listing, echo_listing, error_listing};
-ghost use Rattle.listing.specs.ListingIcmp4.{header_listing};
+ghost use Rattle.listing.specs.ListingIcmp4.{Icmp4Prints, icmp4_listing, echo_listing, error_listing, header_listing};
 ghost use Rattle.listing.specs.Output.{Gains, GainsSome};
 
 use crate::page::{MARGIN, Page, write_indented};

@@ -8,8 +8,7 @@ ghost use Rattle.wirebase.specs.declared.capabilities.Checksum.TheVariants.{Both
 ghost use Rattle.icmp6_wire.specs.Icmpv6.{IsMessage, too_big, param_problem, value_of};
 ghost use Rattle.listing.specs.Indented.{indented};
 ghost use Rattle.listing.specs.Layout.{IsListingOrRefused};
-ghost use Rattle.listing.specs.ListingIcmp6.{Icmp6Prints, icmp6_listing, error_listing};
-ghost use Rattle.listing.specs.ListingIcmp6.{quote_listing};
+ghost use Rattle.listing.specs.ListingIcmp6.{Icmp6Prints, icmp6_listing, error_listing, quote_listing};
 ghost use Rattle.listing.specs.Output.{Gains, GainsSome};
 
 use crate::icmp4::{show_echo, show_indented_echo};

@@ -2,7 +2,7 @@
 
 #![tactic(auto, using(crate::proofs::Printing::gains_both))]
 
-ghost use Rattle.std.specs.Prelude.{◌≡◌, IfOk, IsErr, OnOk};
+ghost use Rattle.std.specs.Prelude.{IfOk, IsErr, OnOk};
 ghost use Rattle.opt_wire.specs.NdiscOptionRepr.{OptionValue, prefix_information, redirected, unknown, value_of};
 ghost use Rattle.opt_wire.specs.NdiscOptionRepr.{BeginsWith};
 ghost use Rattle.listing.specs.ListingNdopt.{NdoptPrints, ndopt_listing, prefix_listing, redirected_listing};

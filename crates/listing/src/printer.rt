@@ -1,6 +1,6 @@
 //! Printing of values: names and fields, one a line.
 
-#![tactic(auto, using(crate::proofs::Printing::gained, crate::proofs::Printing::gains_both, crate::proofs::Printing::put))]
+#![tactic(auto, using(crate::proofs::Printing::gained, crate::proofs::Printing::gains_both, crate::proofs::Printing::put_on_ok))]
 
 ghost use Rattle.std.specs.Prelude.{ℕ, List, OnOk, decimal};
 ghost use Rattle.wirebase.specs.Ipv4.{address_text};

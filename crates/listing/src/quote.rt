@@ -2,7 +2,7 @@
 
 #![tactic(auto, using(crate::proofs::Printing::gains_both))]
 
-ghost use Rattle.std.specs.Prelude.{◌≡◌, ℕ, Option, OnOk};
+ghost use Rattle.std.specs.Prelude.{◌≡◌, Option, OnOk};
 ghost use Rattle.listing.specs.ListingQuote.{head_listing, quoted_field as quoted_field_text, ports_listing};
 ghost use Rattle.listing.specs.ListingQuote.{ipv4_ports, fragment_listing, ipv4_path_listing, ipv4_quote_listing};
 ghost use Rattle.listing.specs.ListingQuote.{flow_listing, ipv6_path_listing, ipv6_quote_listing};

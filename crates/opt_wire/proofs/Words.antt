@@ -1,15 +1,15 @@
 -- The words that the proofs of this crate are said in: those of std, of the crates below and of the definitions.
 pub use Rattle.std.proofs.Common.{[], ◌%◌, ◌*◌, ◌++◌, ◌+◌, ◌-◌, ◌/◌, ◌<◌, ◌^◌, ◌∙◌, ◌∷◌, ◌≡◌, ◌≢◌, ◌≤◌, ◌⊎◌, Bool, Err}
-pub use Rattle.std.proofs.Common.{List, None, Ok, Option, Some, ℕ, add-one, ap, arith, cond, drop, eqb, false, get_or}
-pub use Rattle.std.proofs.Common.{inl, inr, length, length-append, ltb, map, min, refl, replicate, slice_index, subst}
-pub use Rattle.std.proofs.Common.{suc, sum_by, sym, take, true, zero}
-pub use Rattle.std.proofs.lemmas.Bool.{cases_lt, eqb-false, eqb-true, le-leb, le-ltb, leb-false, leb-true}
-pub use Rattle.std.proofs.lemmas.Bool.{ltb-false, ne_eqb}
+pub use Rattle.std.proofs.Common.{List, None, Ok, Option, Some, ℕ, add-one, ap, arith, cond, drop, eqb, false, inl, inr}
+pub use Rattle.std.proofs.Common.{length, length-append, ltb, map, min, refl, replicate, slice_index, subst, suc}
+pub use Rattle.std.proofs.Common.{sum_by, sym, take, true, zero}
+pub use Rattle.std.proofs.lemmas.Bool.{cases_lt, eqb-false, eqb-true, le-leb, le-ltb, leb-false, leb-true, ltb-false}
+pub use Rattle.std.proofs.lemmas.Bool.{ne_eqb}
 pub use Rattle.std.proofs.lemmas.Bool.Decides.{nat_tests}
 pub use Rattle.std.proofs.lemmas.List.{append-nil, append_assoc, drop_all, drop_at, drop_more, get_or-take, get_or_past}
 pub use Rattle.std.proofs.lemmas.List.{length-drop, length-map, length-replicate, length-take, length-take-le}
-pub use Rattle.std.proofs.lemmas.List.{map-append, map_more, take-append-drop, take-take, take_all, take_at}
-pub use Rattle.std.proofs.lemmas.List.Sums.{sum_by-cons, sum_by_push}
+pub use Rattle.std.proofs.lemmas.List.{map-append, take-append-drop, take-take, take_all, take_at}
+pub use Rattle.std.proofs.lemmas.List.Sums.{sum_by-cons}
 pub use Rattle.std.specs.Prelude.{◌&&◌, Result, nat_le}
 pub use Rattle.std.specs.Result.{IfOk, IsErr, IsOkAnd}
 pub use Rattle.byteorder.specs.Endian.{big_bytes, big_number}

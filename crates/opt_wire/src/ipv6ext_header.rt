@@ -12,8 +12,7 @@
 //! # Ok::<(), control_wire::Error>(())
 //! ```
 
-ghost use Rattle.std.specs.Prelude.{◌≡◌, ◌≤◌, ◌<◌, ◌-◌, ◌+◌, ◌*◌, ◌↔◌, [], ◌∷◌, length, IsTrue, IsOk, IfOk};
-ghost use Rattle.std.specs.Prelude.{IsOkAnd};
+ghost use Rattle.std.specs.Prelude.{◌≡◌, ◌≤◌, ◌<◌, ◌-◌, ◌+◌, ◌*◌, ◌↔◌, [], ◌∷◌, length, IsTrue, IsOk, IfOk, IsOkAnd};
 ghost use Rattle.std.specs.Borrow.{sem, Lends, Array, u8 as byte};
 ghost use Rattle.wirebase.specs.Bytes.{splice, over, Reaches, byte_of, bytes_of};
 ghost use Rattle.wirebase.specs.Ip.{protocol_number, protocol_of};

@@ -11,18 +11,16 @@
 //! # Ok::<(), control_wire::Error>(())
 //! ```
 
-ghost use Rattle.std.specs.Prelude.{◌≡◌, ◌≤◌, ◌-◌, ◌*◌, ◌/◌, ◌+◌, ◌↔◌, [], ◌∷◌, length, IsTrue, IsOk, IfOk, IsErr};
-ghost use Rattle.std.specs.Prelude.{IsOkAnd};
+ghost use Rattle.std.specs.Prelude.{◌≡◌, ◌≤◌, ◌-◌, ◌*◌, ◌+◌, ◌↔◌, [], ◌∷◌, length, IsTrue, IsOk, IfOk, IsErr, IsOkAnd};
 ghost use Rattle.std.specs.Borrow.{sem, Lends, Array, u8 as byte};
 ghost use Rattle.std.specs.Fmt.{WritesOnOk};
 ghost use Rattle.wirebase.specs.Bytes.{Reaches, bytes_of, byte_of, with_field};
 ghost use Rattle.wirebase.specs.ByteWriter.{be8, free, Puts};
 ghost use Rattle.wirebase.specs.Format.{Rewrites, SameText};
 ghost use Rattle.wirebase.specs.View.{Sets, KeepsLen};
-ghost use Rattle.opt_wire.specs.Ipv6Option.{inner, with_inner, view_octets, option_type_field};
-ghost use Rattle.opt_wire.specs.Ipv6Option.{opt_data_len_field, option_data_field, BeginsWhole, OptionValue, value_of};
-ghost use Rattle.opt_wire.specs.Ipv6Option.{pad_n, router_alert, unknown, text, text_len, HasData};
-ghost use Rattle.opt_wire.specs.Ipv6Option.{BeginsWith, format, Emits};
+ghost use Rattle.opt_wire.specs.Ipv6Option.{inner, with_inner, view_octets, option_type_field, opt_data_len_field};
+ghost use Rattle.opt_wire.specs.Ipv6Option.{option_data_field, BeginsWhole, OptionValue, value_of, pad_n, router_alert};
+ghost use Rattle.opt_wire.specs.Ipv6Option.{unknown, text, text_len, HasData, BeginsWith, format, Emits};
 ghost use Rattle.opt_wire.specs.Ipv6OptionDisplay.{option_display};
 ghost use Rattle.opt_wire.specs.contracts.ipv6option.Ipv6Option.{the_row};
 ghost use Rattle.opt_wire.specs.Ipv6OptionTables.{type_number, type_of};

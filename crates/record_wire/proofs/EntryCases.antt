@@ -1,10 +1,7 @@
 -- The entries of a section are questions, or else records.
-use Rattle.record_wire.proofs.Words.{◌≡◌, ◌≢◌, HasQuestion, HasRecord, IfSome, IsQuestion, IsRecord, List, None, Option}
-use Rattle.record_wire.proofs.Words.{QuestionValue, RecordValue, Section, Some, ℕ, question, record_in, refl, subst}
-use Rattle.record_wire.proofs.Words.{sym}
-use Rattle.record_wire.specs.declared.refusal.Refusal.{Refusal}
-use Rattle.record_wire.specs.RecordRefusal.{RefusesQuestion, RefusesRecord}
-use Rattle.record_wire.specs.Entries.{EntryValue, IsEntry, RefusesEntry}
+use Rattle.record_wire.proofs.Words.{◌≡◌, ◌≢◌, HasQuestion, HasRecord, IsQuestion, IsRecord, List, QuestionValue}
+use Rattle.record_wire.proofs.Words.{RecordValue, Section, ℕ, question, record_in, refl}
+use Rattle.record_wire.specs.Entries.{EntryValue, IsEntry}
 use Rattle.record_wire.specs.private.Entries.{HasEntry}
 
 pub as_question : {A : Type 0} (section : Section) (bytes rest : List ℕ) (value : EntryValue)
@@ -38,16 +35,3 @@ has_record section bytes other (value, rest, is) =
 pub record_has : (section : Section) (bytes : List ℕ) → section ≢ Section.Question → HasRecord bytes
     → HasEntry section bytes
 record_has section bytes other (r, rest, reads) = (record_in section r, rest, (other, refl, reads))
-
-pub refuses_question : (section : Section) (bytes : List ℕ) (r : Option Refusal) → section ≡ Section.Question
-    → IfSome r (λ why. RefusesQuestion bytes why) → IfSome r (λ why. RefusesEntry section bytes why)
-refuses_question section bytes None e is = tt
-refuses_question section bytes (Some why) e is = subst (λ (s : Section). RefusesEntry s bytes why) (sym e) is
-
-pub refuses_record : (section : Section) (bytes : List ℕ) (r : Option Refusal) → section ≢ Section.Question
-    → IfSome r (λ why. RefusesRecord bytes why) → IfSome r (λ why. RefusesEntry section bytes why)
-refuses_record section bytes None other is = tt
-refuses_record Section.Question bytes (Some why) other is = absurd (other refl)
-refuses_record Section.Answer bytes (Some why) other is = is
-refuses_record Section.Authority bytes (Some why) other is = is
-refuses_record Section.Additional bytes (Some why) other is = is

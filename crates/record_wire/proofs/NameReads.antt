@@ -47,11 +47,6 @@ pub reads : (message bytes : List ℕ) (labels : List (List ℕ)) → Names mess
     → NameReads message bytes (whole_name labels)
 reads message bytes labels names = record { labels = labels; names = names; is = refl }
 
--- a name that was not read
-pub reads_none : (message bytes : List ℕ) → ((labels : List (List ℕ)) → Names message bytes labels → ⊥)
-    → (text : List ℕ) → NameReads message bytes text → ⊥
-reads_none message bytes none text is = none is.labels is.names
-
 -- a name whose text was put
 pub reads_usual : (message bytes text : List ℕ) (labels : List (List ℕ)) → AreUsual bytes message labels
     → text ≡ dotted_text labels → NameReads message bytes text

@@ -1,7 +1,6 @@
 -- A name is followed by one question and one record, and as many bytes are left.
-use Rattle.record_wire.proofs.Words.{◌≡◌, ◌≤◌, ◌∙◌, HasQuestion, HasRecord, IsBehindName, IsQuestion, IsRecord, IsSplit}
-use Rattle.record_wire.proofs.Words.{List, QuestionValue, RecordValue, ℕ, ap, drop, length, number_of, refl, sym, take}
-use Rattle.record_wire.proofs.Words.{type_of}
+use Rattle.record_wire.proofs.Words.{◌≡◌, ◌≤◌, ◌∙◌, HasQuestion, HasRecord, IsQuestion, IsSplit, List, QuestionValue}
+use Rattle.record_wire.proofs.Words.{RecordValue, ℕ, ap, drop, length, number_of, refl, sym, take, type_of}
 use Rattle.dns_wire.specs.declared.dns.tables.Type.{«Type» as RecordType}
 use Rattle.dns_wire.specs.DnsQuestion.{type_field, class_field}
 use Rattle.dns_wire.specs.DnsRecord.{ttl_field}
@@ -16,10 +15,6 @@ same_question : (q r : QuestionValue) → q.name ≡ r.name → q.kind ≡ r.kin
 same_question q r e f g =
     ap (λ (n : List ℕ). question_at n q.kind q.class) e
     ∙ (ap (λ (k : RecordType). question_at r.name k q.class) f ∙ ap (λ (c : ℕ). question_at r.name r.kind c) g)
-
-pub question_split : (bytes : List ℕ) (q : QuestionValue) (rest : List ℕ) (h : IsQuestion bytes q rest)
-    → IsSplit bytes q.name h.after
-question_split bytes q rest h = record { name_is = h.name_is; whole = h.whole }
 
 -- two questions after one name
 pub question_one : (bytes : List ℕ) (q r : QuestionValue) (rest more : List ℕ) (a : IsQuestion bytes q rest)
@@ -36,28 +31,6 @@ question_one bytes q r rest more a b name after = (
 abbrev record_at : List ℕ → RecordType → ℕ → ℕ → List ℕ → RecordValue
 record_at name kind class ttl bytes =
     record { name = name; kind = kind; class = class; ttl = ttl; «data» = bytes }
-
-same_record : (r s : RecordValue) → r.name ≡ s.name → r.kind ≡ s.kind → r.class ≡ s.class → r.ttl ≡ s.ttl
-    → r.«data» ≡ s.«data» → r ≡ s
-same_record r s e f g h k =
-    ap (λ (n : List ℕ). record_at n r.kind r.class r.ttl r.«data») e
-    ∙ (ap (λ (t : RecordType). record_at s.name t r.class r.ttl r.«data») f
-    ∙ (ap (λ (c : ℕ). record_at s.name s.kind c r.ttl r.«data») g
-    ∙ (ap (λ (t : ℕ). record_at s.name s.kind s.class t r.«data») h
-    ∙ ap (λ (d : List ℕ). record_at s.name s.kind s.class s.ttl d) k)))
-
-pub record_split : (bytes : List ℕ) (r : RecordValue) (rest : List ℕ) (h : IsRecord bytes r rest)
-    → IsSplit bytes r.name h.after
-record_split bytes r rest h = record { name_is = h.name_is; whole = h.whole }
-
--- two records after one name
-pub behind_one : (after : List ℕ) (r s : RecordValue) (rest more : List ℕ) → IsBehindName after r rest
-    → IsBehindName after s more → r.name ≡ s.name → (r ≡ s) × (rest ≡ more)
-behind_one after r s rest more a b name = (
-  same_record r s name (a.kind_is ∙ sym b.kind_is) (a.class_is ∙ sym b.class_is) (a.ttl_is ∙ sym b.ttl_is)
-      (a.data_is ∙ sym b.data_is),
-  a.rest_is ∙ sym b.rest_is,
-)
 
 -- ---- octets that begin with a name and have the fields after it
 

@@ -4,7 +4,7 @@ use Rattle.record_wire.proofs.Words.{None, Option, Some, Spells, ℕ, ap, arith,
 use Rattle.record_wire.proofs.Words.{first_byte, inl, inr, length, length-append, refl, suc, sym, wire, written}
 use Rattle.record_wire.proofs.Words.{written_all, zero}
 use Rattle.record_wire.specs.private.NameReading.{IsSpelling}
-use Rattle.record_wire.specs.TextRefusal.{IsReadTo, BeginsWithNone, IsLabelEnd, RefusesRest, RefusesText}
+use Rattle.record_wire.specs.TextRefusal.{IsReadTo, BeginsWithNone, IsLabelEnd, RefusesText}
 use Rattle.record_wire.specs.private.Parts.{RefusesLabel}
 use Rattle.record_wire.specs.declared.name.text_refusal.NameTextRefusal.{NameTextRefusal}
 use Rattle.record_wire.proofs.Characters.{first_character, character_first, first_shorter}
@@ -60,13 +60,6 @@ pub long_label : (text : List ℕ) (byte : ℕ) (behind : List ℕ) → first_by
 long_label text byte behind e none =
     long_by text byte behind e none (spelling_within (length text) text (omega arith))
 
-pub rest_of_label : (text : List ℕ) (why : NameTextRefusal) → RefusesRest text why → RefusesLabel text why
-rest_of_label text NameTextRefusal.EmptyLabel is = is
-rest_of_label text NameTextRefusal.LongLabel is = absurd is
-rest_of_label text NameTextRefusal.TooLong is = absurd is
-rest_of_label text NameTextRefusal.Escape is = is
-rest_of_label text (NameTextRefusal.Byte byte) is = is
-
 -- ---- after the labels that were read
 
 abbrev read_to : (text octets left label rest : List ℕ) → SoFar text octets left → Spells left label rest
@@ -99,16 +92,6 @@ no_end : (rest : List ℕ) → IsLabelEnd rest → behind_in rest ≡ at_other �
 no_end [] is e = cc e
 no_end (byte ∷ []) is e = let f = ap (λ (b : ℕ). behind_in (b ∷ [])) (sym is) ∙ e in cc f
 no_end (byte ∷ next ∷ rest) is e = let f = ap (λ (b : ℕ). behind_in (b ∷ next ∷ rest)) (sym is) ∙ e in cc f
-
-pub rest_refused : (text octets left label rest : List ℕ) (why : NameTextRefusal) → SoFar text octets left
-    → Spells left label rest → behind_in rest ≡ at_other → RefusesRest rest why → RefusesText text why
-rest_refused text octets left label rest NameTextRefusal.EmptyLabel so spells other is = absurd (no_end rest is other)
-rest_refused text octets left label rest NameTextRefusal.LongLabel so spells other is = absurd is
-rest_refused text octets left label rest NameTextRefusal.TooLong so spells other is = absurd is
-rest_refused text octets left label rest NameTextRefusal.Escape so spells other is =
-    (rest, read_to text octets left label rest so spells, is)
-rest_refused text octets left label rest (NameTextRefusal.Byte byte) so spells other is =
-    (rest, read_to text octets left label rest so spells, is)
 
 -- ---- names that are too long
 

@@ -1,11 +1,9 @@
 -- The words that the proofs of this crate are said in: those of std, of the crates below and of the definitions.
 pub use Rattle.std.proofs.Common.{◌≡◌, ◌<◌, ◌≤◌, [], ◌∷◌, ◌∙◌, ◌+◌, ◌-◌, ◌*◌, ◌⊎◌, ◌&&◌, ◌++◌, ◌≢◌, ◌/◌, ◌%◌, ◌↔◌, ◌||◌}
-pub use Rattle.std.proofs.Common.{◌==◌, ◌^◌, Bool, Err, IfErr, IfOk, IfSome, IsOk, IsSome, List, None, Ok, OnOk, Option}
-pub use Rattle.std.proofs.Common.{Result}
-pub use Rattle.std.proofs.Common.{Some, ℕ, ap, append_assoc, arith, bit_and, codes, cond, decimal, drop, eq-eqb, eqb}
-pub use Rattle.std.proofs.Common.{false, flat_map, get_or, inl, inr, leb, length, length-append, length-drop, ltb, map}
-pub use Rattle.std.proofs.Common.{nat_eq, not, refl, rules, slice_index_or, slice_set, subst, suc, sym, take, true}
-pub use Rattle.std.proofs.Common.{zero}
+pub use Rattle.std.proofs.Common.{Bool, Err, IfErr, IfOk, IfSome, IsOk, IsSome, List, None, Ok, Option, Result, Some, ℕ}
+pub use Rattle.std.proofs.Common.{ap, append_assoc, arith, codes, cond, decimal, drop, eq-eqb, eqb, false, flat_map}
+pub use Rattle.std.proofs.Common.{get_or, inl, inr, leb, length, length-append, length-drop, ltb, map, not, refl, rules}
+pub use Rattle.std.proofs.Common.{slice_index_or, slice_set, subst, suc, sym, take, true, zero}
 pub use Rattle.std.proofs.Math.Seq.{take-append_seam}
 pub use Rattle.std.proofs.lemmas.Bool.{cases_lt, eqb-false, eqb-true, le-leb, leb-true, ltb-true}
 pub use Rattle.std.proofs.lemmas.Bool.Decides.{Decides-below_and, eqb_tells}

@@ -99,7 +99,7 @@ pub struct Entries<'a> {
 }
 
 impl<'a> Model for Entries<'a> {
-    ghost use Rattle.record_wire.specs.Entries.{Ends, Left};
+    ghost use Rattle.record_wire.specs.Entries.{Left};
     ghost use Rattle.record_wire.specs.private.Entries.{IsSettled};
 
     ghost Value = { Left };

@@ -32,10 +32,9 @@ ghost use Rattle.record_wire.specs.private.Lines.{front_of};
 ghost use Rattle.record_wire.specs.Multicast.{record_class_of};
 ghost use Rattle.record_wire.specs.RData.{rdata_of, authority_of};
 ghost use Rattle.record_wire.specs.Record.{record_of};
-ghost use Rattle.record_wire.specs.RecordText.{AuthorityTextValue, DataTextValue, RecordTextValue};
-ghost use Rattle.record_wire.specs.RecordText.{authority_text_of, data_text_of, record_text_of};
-ghost use Rattle.record_wire.specs.RecordText.{IsAuthorityText, IsDataText, IsRecordText, edns_in};
-ghost use Rattle.record_wire.specs.RecordText.{RefusesNamesOf, RefusesNameIn, RefusesText, data_text};
+ghost use Rattle.record_wire.specs.RecordText.{AuthorityTextValue, DataTextValue, RecordTextValue, authority_text_of};
+ghost use Rattle.record_wire.specs.RecordText.{data_text_of, record_text_of, IsAuthorityText, IsDataText, IsRecordText};
+ghost use Rattle.record_wire.specs.RecordText.{edns_in, RefusesNamesOf, RefusesNameIn, RefusesText, data_text};
 
 use crate::edns::Edns;
 use crate::line::{Line, put_authority, put_data};

@@ -1,8 +1,6 @@
 -- The digits of numbers.
-use Rattle.wirebase.proofs.Words.{◌≡◌, ◌+◌, ◌-◌, ◌/◌, ◌%◌, ◌^◌, ◌<◌, ◌≤◌, ◌++◌, ◌∙◌, List, ℕ, ap, append_assoc, arith}
-use Rattle.wirebase.proofs.Words.{decimal, decimal_digit, decimal_step, drop, drop-drop, drop_at, last_digits, length}
-use Rattle.wirebase.proofs.Words.{length-append, put_mid, refl, take}
-use Rattle.std.proofs.Common.{length-take-le}
+use Rattle.wirebase.proofs.Words.{◌≡◌, ◌+◌, ◌-◌, ◌/◌, ◌%◌, ◌^◌, ◌<◌, ◌≤◌, ◌++◌, ◌∙◌, ℕ, ap, append_assoc, arith}
+use Rattle.wirebase.proofs.Words.{decimal, decimal_digit, decimal_step, last_digits, length, length-append, refl}
 use Rattle.std.proofs.lemmas.Fmt.{length-decimal-le}
 
 -- how many digits a number has: few
@@ -30,13 +28,3 @@ digits_two n more few = ap length (two_alone n more few)
 
 pub digits_more_two : (n : ℕ) → 100 ≤ n → n < 2 ^ 64 → length (decimal n) ≡ length (decimal (n / 100)) + 2
 digits_more_two n more fits = ap length (two_behind n more fits) ∙ length-append _ _
-
--- two digits before others
-pub two_put : (room two : List ℕ) (start : ℕ) → 2 ≤ start → start ≤ length room
-    → drop (start - 2) (put_mid (start - 2) 2 room two) ≡ two ++ drop start room
-two_put room two start some within =
-    let same : start - 2 + 2 ≡ start = omega arith in
-    let behind : drop 2 (drop (start - 2) room) ≡ drop start room
-    = drop-drop 2 (start - 2) room ∙ ap (λ n. drop n room) same in
-    drop_at (take (start - 2) room) _ (start - 2) (length-take-le (start - 2) room (omega arith))
-    ∙ ap (λ rest. two ++ rest) behind

@@ -1,9 +1,8 @@
 -- Texts that are put together piece by piece.
-use Rattle.wirebase.proofs.Words.{◌≡◌, ◌+◌, ◌-◌, ◌*◌, ◌/◌, ◌%◌, ◌<◌, ◌≤◌, [], ◌∷◌, ◌++◌, ◌∙◌, ◌==◌, List, ℕ, ⊎_elim}
-use Rattle.wirebase.proofs.Words.{add-one, ap, append_assoc, arith, cases_lt, digit_char, drop}
-use Rattle.wirebase.proofs.Words.{drop-cons, drop_all, false, get_or, groups_text, hex, hex_groups_text}
-use Rattle.wirebase.proofs.Words.{le-leb, length, length-append, length-drop, longest_zero_run, lt-leb, lt-ltb, put_mid}
-use Rattle.wirebase.proofs.Words.{refl, segments_of, set, suc, sym, take, take-append-add, take-put_mid, take-set_at}
+use Rattle.wirebase.proofs.Words.{◌≡◌, ◌+◌, ◌-◌, ◌/◌, ◌%◌, ◌<◌, ◌≤◌, [], ◌∷◌, ◌++◌, ◌∙◌, ◌==◌, List, ℕ, ⊎_elim, ap}
+use Rattle.wirebase.proofs.Words.{append_assoc, arith, cases_lt, digit_char, drop, false, groups_text, hex}
+use Rattle.wirebase.proofs.Words.{hex_groups_text, le-leb, length, length-append, length-drop, longest_zero_run, lt-leb}
+use Rattle.wirebase.proofs.Words.{lt-ltb, put_mid, refl, set, sym, take, take-append-add, take-put_mid, take-set_at}
 use Rattle.wirebase.proofs.Words.{take-take, take_all, take_more_set}
 use Rattle.std.proofs.Common.{length-take-le}
 use Rattle.std.proofs.lemmas.Bool.{le-ltb}
@@ -179,34 +178,3 @@ four_numbers a b c d first second third last e f g h = rw (h, g, f, e) (simp app
 pub in_brackets : (address port first second third last : List ℕ) → first ≡ codes "[" → second ≡ first ++ address
     → third ≡ second ++ codes "]:" → last ≡ third ++ port → last ≡ codes "[" ++ address ++ codes "]:" ++ port
 in_brackets address port first second third last e f g h = rw (h, g, f, e) refl
-
--- the groups of octets, from one of them on
-groups_from : (octets : List ℕ) (i : ℕ) → i + 1 < length octets
-    → segments_of (drop i octets)
-    ≡ (get_or octets i 0 * 256 + get_or octets (i + 1) 0) ∷ segments_of (drop (i + 2) octets)
-groups_from octets i within =
-    let next : suc (i + 1) ≡ i + 2 = omega arith in
-    ap segments_of
-    (drop-cons octets i 0 (omega arith)
-    ∙ ap (λ rest. get_or octets i 0 ∷ rest)
-    (ap (λ n. drop n octets) (sym (add-one i)) ∙ drop-cons octets (i + 1) 0 within
-    ∙ ap (λ n. get_or octets (i + 1) 0 ∷ drop n octets) next))
-
-pub eight_groups : (octets : List ℕ) → length octets ≡ 16
-    → segments_of octets ≡ (get_or octets 0 0 * 256 + get_or octets 1 0) ∷ (get_or octets 2 0 * 256 + get_or octets 3 0)
-    ∷ (get_or octets 4 0 * 256 + get_or octets 5 0) ∷ (get_or octets 6 0 * 256 + get_or octets 7 0)
-    ∷ (get_or octets 8 0 * 256 + get_or octets 9 0) ∷ (get_or octets 10 0 * 256 + get_or octets 11 0)
-    ∷ (get_or octets 12 0 * 256 + get_or octets 13 0) ∷ (get_or octets 14 0 * 256 + get_or octets 15 0) ∷ []
-eight_groups octets whole =
-    let none : drop 16 octets ≡ [] = drop_all 16 octets (omega arith) in
-    groups_from octets 0 (omega arith)
-    ∙ rw (
-      groups_from octets 2 (omega arith),
-      groups_from octets 4 (omega arith),
-      groups_from octets 6 (omega arith),
-      groups_from octets 8 (omega arith),
-      groups_from octets 10 (omega arith),
-      groups_from octets 12 (omega arith),
-      groups_from octets 14 (omega arith),
-      none,
-    ) refl

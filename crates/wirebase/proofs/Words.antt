@@ -1,10 +1,9 @@
 -- The words that the proofs of this crate are said in: those of std, of the crates below and of the definitions.
 pub use Rattle.std.proofs.Common.{◌≡◌, ◌<◌, ◌∷◌, ◌+◌, ◌-◌, ◌^◌, [], ◌++◌, ◌≢◌, ◌%◌, ◌≤◌, ◌∙◌, ◌*◌, ◌/◌, ◌&&◌, ◌||◌}
-pub use Rattle.std.proofs.Common.{Bool, Err, IsOk, IsOkAnd, IsTrue, List, Ok, OnOk, Result, ℕ, ⊎_elim, add-one, ap}
-pub use Rattle.std.proofs.Common.{append_assoc, arith, codes, cond, decimal, drop, drop-cons, eqb, false, flat_map}
-pub use Rattle.std.proofs.Common.{get_or, inl, inr, length, length-append, length-drop, lt-ltb, min, nat_lt, refl}
-pub use Rattle.std.proofs.Common.{replicate, rules, set, slice_index, slice_set, subst, suc, sum, sym, take, true, w64}
-pub use Rattle.std.proofs.Common.{w8, zero, zero-add}
+pub use Rattle.std.proofs.Common.{Bool, Err, IsOk, IsOkAnd, IsTrue, List, Ok, Result, ℕ, ⊎_elim, ap, append_assoc}
+pub use Rattle.std.proofs.Common.{arith, codes, cond, decimal, drop, eqb, false, flat_map, get_or, inl, inr, length}
+pub use Rattle.std.proofs.Common.{length-append, length-drop, lt-ltb, min, nat_lt, refl, replicate, rules, set}
+pub use Rattle.std.proofs.Common.{slice_index, slice_set, subst, suc, sum, sym, take, true, w64, w8, zero, zero-add}
 pub use Rattle.std.proofs.Math.Nat.{ℕ_set, div-add-mod', mod-eq_of_lt}
 pub use Rattle.std.proofs.Math.Seq.{take-append-add}
 pub use Rattle.std.proofs.lemmas.Bool.{agree_below_at, cases_lt, eqb-true, le-leb, lt-leb}

@@ -1,8 +1,7 @@
 //! IPv6: addresses (RFC 4291) and the header (RFC 8200).
 #![tactic(auto, using(crate::proofs::Pieces::pieces))]
 
-ghost use Rattle.std.specs.Prelude.{◌≡◌, ◌↔◌, ◌≤◌, ◌<◌, IsTrue, IsNone, IsOk, IfOk, IfSome, Ok, Some};
-ghost use Rattle.std.specs.Prelude.{length};
+ghost use Rattle.std.specs.Prelude.{◌≡◌, ◌↔◌, ◌≤◌, ◌<◌, IsTrue, IsNone, IsOk, IfOk, IfSome, Ok, Some, length};
 ghost use Rattle.std.specs.Borrow.{sem, Lends, Array, u8 as byte};
 ghost use Rattle.wirebase.specs.Bytes.{Reaches, bytes_of, byte_of, with_field, over};
 ghost use Rattle.wirebase.specs.ByteWriter.{free, Puts};

@@ -1,7 +1,7 @@
 //! A host answers echo requests of both families, sends errors that quote the datagram that they are about, and reads
 //! such errors; and the checksums of other protocols.
 
-ghost use Rattle.std.specs.Prelude.{◌≤◌, ◌≡◌, length};
+ghost use Rattle.std.specs.Prelude.{◌≤◌, length};
 
 use crate::digest::Digest;
 use crate::digest::icmp::{

@@ -1,7 +1,5 @@
 //! A server of DHCP at the time when a network starts: it reads requests, and answers them; clients read the answers.
 
-ghost use Rattle.std.specs.Prelude.{◌≤◌, length};
-
 use crate::digest::Digest;
 use crate::digest::lease::{add_lease, add_option};
 use crate::random::{Pool, Random};

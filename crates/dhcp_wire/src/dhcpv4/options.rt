@@ -1,12 +1,11 @@
 //! Options, read in turn and written in turn (RFC 2132 section 2).
 
-ghost use Rattle.std.specs.Prelude.{◌≡◌, ◌≤◌, ◌<◌, ◌+◌, ◌++◌, ◌∷◌, [], ◌↔◌, List, ℕ, length, drop, IsOk, IsTrue, OnOk};
+ghost use Rattle.std.specs.Prelude.{◌≡◌, ◌≤◌, ◌<◌, ◌+◌, ◌++◌, ◌∷◌, [], ◌↔◌, List, length, drop, IsOk, IsTrue, OnOk};
 ghost use Rattle.std.specs.Prelude.{OnErr};
-ghost use Rattle.dhcp_wire.specs.Dhcpv4Options.{OptionValue, value_of_option, option, option_text, Options};
+ghost use Rattle.dhcp_wire.specs.Dhcpv4Options.{OptionValue, value_of_option, option, option_text, Options, GivesFirst};
 ghost use Rattle.dhcp_wire.specs.private.Dhcpv4OptionsAhead.{list_of};
 ghost use Rattle.std.specs.Option.{option_map};
 ghost use Rattle.dhcp_wire.specs.Dhcpv4.{slot};
-ghost use Rattle.dhcp_wire.specs.Dhcpv4Options.{GivesFirst};
 ghost use Rattle.dhcp_wire.specs.private.Parts.{HasNoPadding};
 
 use super::option_data::Data;

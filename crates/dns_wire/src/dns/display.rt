@@ -1,6 +1,6 @@
 //! Prints messages and their parts, by the names of IANA's registry of DNS parameters.
 
-ghost use Rattle.std.specs.Prelude.{◌≡◌, [], ◌∷◌, Some, None, codes, map};
+ghost use Rattle.std.specs.Prelude.{◌≡◌, [], Some, None, codes, map};
 ghost use Rattle.std.specs.Fmt.{WritesOnOk};
 ghost use Rattle.std.specs.Option.{option_map};
 ghost use Rattle.wirebase.specs.Bytes.{Reaches};
@@ -10,11 +10,9 @@ ghost use Rattle.dns_wire.specs.DnsQuestion.{value_of as question_value};
 ghost use Rattle.dns_wire.specs.DnsRecord.{data_value, value_of as record_value};
 ghost use Rattle.dns_wire.specs.DnsRepr.{value_of as query_value};
 ghost use Rattle.dns_wire.specs.DnsDisplay.{type_names, name_in, type_display, opcode_display, rcode_display};
-ghost use Rattle.dns_wire.specs.DnsDisplay.{flags_display, names_set};
-ghost use Rattle.dns_wire.specs.DnsDisplay.{question_display, data_display, record_display, query_display};
-ghost use Rattle.dns_wire.specs.DnsDisplay.{header_in};
+ghost use Rattle.dns_wire.specs.DnsDisplay.{flags_display, names_set, question_display, data_display, record_display};
+ghost use Rattle.dns_wire.specs.DnsDisplay.{query_display, header_in, counts_display, header_display, view_display};
 ghost use Rattle.dns_wire.specs.private.Parts.{counts_value, header_value};
-ghost use Rattle.dns_wire.specs.DnsDisplay.{counts_display, header_display, view_display};
 
 use super::{Flags, Opcode, Packet, Question, Rcode, Record, RecordData, Repr, Type};
 use bitflags::Flags as _;

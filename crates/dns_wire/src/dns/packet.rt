@@ -6,10 +6,9 @@ ghost use Rattle.byteorder.specs.Endian.{big_bytes};
 ghost use Rattle.wirebase.specs.Bytes.{splice, Reaches, number_of};
 ghost use Rattle.wirebase.specs.View.{Sets, KeepsLen};
 ghost use Rattle.dns_wire.specs.DnsTables.{opcode_number, opcode_of, rcode_of, flag_bits, IsKnown};
-ghost use Rattle.dns_wire.specs.DnsPacket.{inner, with_inner, id_field, flags_field};
-ghost use Rattle.dns_wire.specs.DnsPacket.{question_count_field, answer_count_field, authority_count_field};
-ghost use Rattle.dns_wire.specs.DnsPacket.{additional_count_field, header, payload_in, flags_in, opcode_in, rcode_in};
-ghost use Rattle.dns_wire.specs.DnsPacket.{with_flags, with_opcode};
+ghost use Rattle.dns_wire.specs.DnsPacket.{inner, with_inner, id_field, flags_field, question_count_field};
+ghost use Rattle.dns_wire.specs.DnsPacket.{answer_count_field, authority_count_field, additional_count_field, header};
+ghost use Rattle.dns_wire.specs.DnsPacket.{payload_in, flags_in, opcode_in, rcode_in, with_flags, with_opcode};
 ghost use Rattle.dns_wire.specs.DnsNameWalk.{IsWalkOver};
 ghost use Rattle.dns_wire.specs.contracts.dns.packet.Packet.{the_row};
 

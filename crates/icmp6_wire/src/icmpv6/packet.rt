@@ -8,9 +8,8 @@ ghost use Rattle.wirebase.specs.Checksum.{fold, IsGood, sealed};
 ghost use Rattle.wirebase.specs.Icmp.{type_field, code_field, checksum_field, ident_field, seq_no_field};
 ghost use Rattle.wirebase.specs.View.{Sets, KeepsLen};
 ghost use Rattle.icmp6_wire.specs.Icmpv6Tables.{message_number};
-ghost use Rattle.icmp6_wire.specs.Icmpv6Packet.{inner, with_inner, view_octets, word_field, message_in};
-ghost use Rattle.icmp6_wire.specs.Icmpv6Packet.{header_len_of, header_len_in, payload_in, BeginsWhole, cleared};
-ghost use Rattle.icmp6_wire.specs.Icmpv6Packet.{CanClear, message_sum};
+ghost use Rattle.icmp6_wire.specs.Icmpv6Packet.{inner, with_inner, view_octets, word_field, message_in, header_len_of};
+ghost use Rattle.icmp6_wire.specs.Icmpv6Packet.{header_len_in, payload_in, BeginsWhole, cleared, CanClear, message_sum};
 ghost use Rattle.icmp6_wire.specs.contracts.icmpv6.packet.Packet.{the_row};
 
 use super::field;

@@ -2,7 +2,7 @@
 
 ghost use Rattle.std.specs.Prelude.{◌≡◌, ◌≢◌, ◌⊎◌, ◌≤◌, ◌<◌, ◌+◌, ◌^◌, length, IsOk, IfOk, IsOkAnd};
 ghost use Rattle.wirebase.specs.Bytes.{Reaches, byte_of, over};
-ghost use Rattle.wirebase.specs.ByteWriter.{free, Puts, fields};
+ghost use Rattle.wirebase.specs.ByteWriter.{fields};
 ghost use Rattle.wirebase.specs.Format.{Rewrites, SameText};
 ghost use Rattle.wirebase.specs.Icmp.{type_field, header, checksum_field, echo_fields};
 ghost use Rattle.wirebase.specs.declared.capabilities.ChecksumCapabilities.{ChecksumCapabilities};
@@ -10,10 +10,8 @@ ghost use Rattle.wirebase.specs.declared.ipv6.address.Ipv6Address.{Ipv6Address};
 ghost use Rattle.wirebase.specs.declared.ipv6.Ipv6Repr.{Ipv6Repr};
 ghost use Rattle.icmp6_wire.specs.Icmpv6Tables.{message_number};
 ghost use Rattle.icmp6_wire.specs.Icmpv6Packet.{inner, view_octets};
-ghost use Rattle.icmp6_wire.specs.Icmpv6.{MessageValue, value_of, text};
-ghost use Rattle.icmp6_wire.specs.Icmpv6.{text_len, told_len};
-ghost use Rattle.icmp6_wire.specs.Icmpv6.{IsErrorValue, seal, packet_text, CanEmit, IsMessage, format};
-ghost use Rattle.icmp6_wire.specs.Icmpv6.{Emits};
+ghost use Rattle.icmp6_wire.specs.Icmpv6.{MessageValue, value_of, text, text_len, told_len, IsErrorValue, seal};
+ghost use Rattle.icmp6_wire.specs.Icmpv6.{packet_text, CanEmit, IsMessage, format, Emits};
 
 use super::packet::{Packet, fill};
 use super::quote::{error_len, write_error};

@@ -1,7 +1,6 @@
 //! Records of reports (RFC 3810 section 5.2).
 
-ghost use Rattle.std.specs.Prelude.{◌≡◌, ◌↔◌, ◌-◌, ◌<◌, [], ◌∷◌, length, IsTrue, IsOk, IsErr, IfOk};
-ghost use Rattle.std.specs.Prelude.{IsOkAnd};
+ghost use Rattle.std.specs.Prelude.{◌≡◌, ◌↔◌, ◌-◌, ◌<◌, [], ◌∷◌, length, IsTrue, IsOk, IsErr, IfOk, IsOkAnd};
 ghost use Rattle.std.specs.Borrow.{sem, Lends, Array, u8 as byte};
 ghost use Rattle.byteorder.specs.Endian.{big_bytes};
 ghost use Rattle.wirebase.specs.Bytes.{splice, Reaches, byte_of, bytes_of, number_of, over};
@@ -9,10 +8,9 @@ ghost use Rattle.wirebase.specs.Format.{Rewrites, SameText};
 ghost use Rattle.wirebase.specs.Ipv6Address.{octets_of, IsMulticast};
 ghost use Rattle.wirebase.specs.View.{Sets, KeepsLen};
 ghost use Rattle.icmp6_wire.specs.MldTables.{record_type_number, record_type_of};
-ghost use Rattle.icmp6_wire.specs.MldRecord.{inner, with_inner, view_octets, record_type_field};
-ghost use Rattle.icmp6_wire.specs.MldRecord.{aux_data_len_field, num_srcs_field, mcast_addr_field, payload_in};
-ghost use Rattle.icmp6_wire.specs.MldRecord.{RecordValue, address_record, value_of, text, group_of, IsRecord, format};
-ghost use Rattle.icmp6_wire.specs.MldRecord.{Emits};
+ghost use Rattle.icmp6_wire.specs.MldRecord.{inner, with_inner, view_octets, record_type_field, aux_data_len_field};
+ghost use Rattle.icmp6_wire.specs.MldRecord.{num_srcs_field, mcast_addr_field, payload_in, RecordValue, address_record};
+ghost use Rattle.icmp6_wire.specs.MldRecord.{value_of, text, group_of, IsRecord, format, Emits};
 ghost use Rattle.icmp6_wire.specs.contracts.mld.record.AddressRecord.{the_row};
 
 use super::field;

@@ -1,7 +1,6 @@
 //! Messages as values (RFC 3810 section 5).
 
-ghost use Rattle.std.specs.Prelude.{◌≡◌, ◌≤◌, ◌<◌, ◌+◌, ◌*◌, ◌^◌, length, [], ◌∷◌};
-ghost use Rattle.std.specs.Prelude.{IfOk, IfErr, IsOkAnd};
+ghost use Rattle.std.specs.Prelude.{◌≡◌, ◌≤◌, ◌<◌, ◌+◌, ◌*◌, ◌^◌, length, [], ◌∷◌, IfOk, IfErr, IsOkAnd};
 ghost use Rattle.wirebase.specs.Bytes.{byte_of, over};
 ghost use Rattle.wirebase.specs.ByteWriter.{free, Puts};
 ghost use Rattle.wirebase.specs.Checks.{Passes};

@@ -5,8 +5,7 @@ ghost use Rattle.std.specs.Prelude.{◌≡◌, ◌+◌, ◌*◌, ◌<◌, ◌≤
 ghost use Rattle.std.specs.Option.{option_map};
 ghost use Rattle.wirebase.specs.ByteWriter.{free, Puts};
 ghost use Rattle.opt_wire.specs.NdiscOptionRepr.{CanEmit as CanEmitOption};
-ghost use Rattle.icmp6_wire.specs.Ndisc.{sources, targets, mtus, prefixes, packets};
-ghost use Rattle.icmp6_wire.specs.Ndisc.{option_text, option_len, IfThere};
+ghost use Rattle.icmp6_wire.specs.Ndisc.{sources, targets, mtus, prefixes, packets, option_text, option_len, IfThere};
 ghost use Rattle.icmp6_wire.specs.NdiscOptionsSeen.{link_of, packet_of};
 
 use opt_wire::ndiscoption::{PrefixInformation, RedirectedHeader, Type};

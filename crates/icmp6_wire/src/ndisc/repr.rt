@@ -1,17 +1,15 @@
 //! Messages as values (RFC 4861 sections 4.1 to 4.5).
 
-ghost use Rattle.std.specs.Prelude.{◌≡◌, ◌+◌, ◌<◌, ◌≤◌, ◌^◌, [], ◌∷◌, length, IsOk, IfOk};
-ghost use Rattle.std.specs.Prelude.{IfErr, IsOkAnd};
+ghost use Rattle.std.specs.Prelude.{◌≡◌, ◌+◌, ◌<◌, ◌≤◌, ◌^◌, [], ◌∷◌, length, IsOk, IfOk, IfErr, IsOkAnd};
 ghost use Rattle.std.specs.Option.{option_map};
 ghost use Rattle.wirebase.specs.ByteWriter.{free, Puts, be8, be16, be32};
 ghost use Rattle.wirebase.specs.Duration.{millis_of, seconds_of};
 ghost use Rattle.wirebase.specs.Format.{Rewrites, SameText};
 ghost use Rattle.opt_wire.specs.NdiscOptionRepr.{CanEmit as CanEmitOption};
 ghost use Rattle.icmp6_wire.specs.Icmpv6Packet.{inner, view_octets};
-ghost use Rattle.icmp6_wire.specs.Ndisc.{NdiscValue, value_of, sources, targets, mtus, prefixes, packets};
-ghost use Rattle.icmp6_wire.specs.Ndisc.{options_of, option_lens, option_texts, header_len, header_fields, Each};
-ghost use Rattle.icmp6_wire.specs.Ndisc.{HaveTimes, message_fields, text};
-ghost use Rattle.icmp6_wire.specs.Ndisc.{text_len, CanEmit, IsMessage, format, Emits};
+ghost use Rattle.icmp6_wire.specs.Ndisc.{NdiscValue, value_of, sources, targets, mtus, prefixes, packets, options_of};
+ghost use Rattle.icmp6_wire.specs.Ndisc.{option_lens, option_texts, header_len, header_fields, Each, HaveTimes};
+ghost use Rattle.icmp6_wire.specs.Ndisc.{message_fields, text, text_len, CanEmit, IsMessage, format, Emits};
 ghost use Rattle.icmp6_wire.specs.NdiscOptionsSeen.{link_of, packet_of};
 ghost use Rattle.icmp6_wire.specs.NdiscRefusal.{Refuses};
 ghost use Rattle.icmp6_wire.specs.Icmpv6Tables.{message_number};

@@ -1,6 +1,6 @@
 //! Why octets are refused as an option of neighbor discovery (RFC 4861 section 4.6).
 
-ghost use Rattle.std.specs.Prelude.{◌≡◌, ◌↔◌, IfSome, IsNone, Some};
+ghost use Rattle.std.specs.Prelude.{◌↔◌, IfSome, IsNone, Some};
 ghost use Rattle.wirebase.specs.Checks.{Passes, Fails};
 ghost use Rattle.opt_wire.specs.NdiscOption.{view_octets};
 ghost use Rattle.opt_wire.specs.NdiscOptionRefusal.{IsRead, unit_checks, type_checks, Refuses, refusal_text};

@@ -1,7 +1,6 @@
 //! The values of options of neighbor discovery (RFC 4861 section 4.6).
 
-ghost use Rattle.std.specs.Prelude.{◌≡◌, ◌*◌, ◌≤◌, ◌<◌, ◌^◌, ◌↔◌, [], ◌∷◌, length, IsTrue, IfOk, IsErr};
-ghost use Rattle.std.specs.Prelude.{IsOkAnd, Some};
+ghost use Rattle.std.specs.Prelude.{◌≡◌, ◌*◌, ◌≤◌, ◌<◌, ◌^◌, ◌↔◌, [], ◌∷◌, length, IsTrue, IfOk, IsErr, IsOkAnd, Some};
 ghost use Rattle.std.specs.Fmt.{WritesOnOk};
 ghost use Rattle.wirebase.specs.Bytes.{bytes_of};
 ghost use Rattle.wirebase.specs.ByteWriter.{free, Puts};
@@ -9,10 +8,8 @@ ghost use Rattle.wirebase.specs.Format.{Rewrites, SameText};
 ghost use Rattle.wirebase.specs.Ipv6.{IsPacket, payload_field};
 ghost use Rattle.wirebase.specs.declared.ipv6.Ipv6Repr.{Ipv6Repr};
 ghost use Rattle.opt_wire.specs.NdiscOption.{inner, view_octets, redirected_field};
-ghost use Rattle.opt_wire.specs.NdiscOptionRepr.{OptionValue, prefix_information, unknown};
-ghost use Rattle.opt_wire.specs.NdiscOptionRepr.{value_of};
-ghost use Rattle.opt_wire.specs.NdiscOptionRepr.{text, text_len, CanEmit};
-ghost use Rattle.opt_wire.specs.NdiscOptionRepr.{BeginsWith, IsValidPrefix, format, Emits, display};
+ghost use Rattle.opt_wire.specs.NdiscOptionRepr.{OptionValue, prefix_information, unknown, value_of, text, text_len};
+ghost use Rattle.opt_wire.specs.NdiscOptionRepr.{CanEmit, BeginsWith, IsValidPrefix, format, Emits, display};
 ghost use Rattle.opt_wire.specs.NdiscOptionRepr.{prefix_display, redirected_display};
 ghost use Rattle.opt_wire.specs.declared.ndiscoption.repr.PrefixInformation.{PrefixInformation};
 

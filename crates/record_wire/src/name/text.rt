@@ -1,9 +1,7 @@
 //! The characters and the labels of a name's text (RFC 1035 section 5.1).
 
-ghost use Rattle.std.specs.Prelude.{◌≡◌, ◌↔◌, ◌≤◌, ◌<◌, ◌-◌, ◌∷◌, [], ℕ, List, length, codes};
-ghost use Rattle.std.specs.Prelude.{IfOk, IsOk, OnOk, IsTrue};
+ghost use Rattle.std.specs.Prelude.{◌≡◌, ◌↔◌, ◌≤◌, ◌<◌, ◌-◌, ◌∷◌, [], ℕ, List, length, codes, IfOk, IsOk, OnOk, IsTrue};
 ghost use Rattle.std.specs.Char.{is_ascii_digit};
-ghost use Rattle.arrayvec.specs.ArrayVec.{array_vec_len};
 ghost use Rattle.record_wire.specs.private.NameReading.{first_byte, quoted_in, numbered_at, seen_byte, IsSpelling};
 ghost use Rattle.record_wire.specs.private.NameReading.{HasLabelsOfText, seen_behind, behind_in};
 ghost use Rattle.record_wire.specs.Labels.{written_all};

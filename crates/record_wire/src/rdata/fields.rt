@@ -3,10 +3,8 @@
 //! 3403, RFC 4034 section 4).
 
 ghost use Rattle.std.specs.Prelude.{◌≡◌, ◌↔◌, List, ℕ, Option, IfOk, IsOkAnd, IsTrue};
-ghost use Rattle.record_wire.specs.Fields.{FrontValue, RestValue, FieldsValue, front_of, rest_of, name_of};
-ghost use Rattle.record_wire.specs.Fields.{fields_of};
-ghost use Rattle.record_wire.specs.Fields.{IsFront, AreThree, IsSecond, IsRest, IsFields, IsMap, AreMaps};
-ghost use Rattle.record_wire.specs.Fields.{first_map};
+ghost use Rattle.record_wire.specs.Fields.{FrontValue, RestValue, FieldsValue, front_of, rest_of, name_of, fields_of};
+ghost use Rattle.record_wire.specs.Fields.{IsFront, AreThree, IsSecond, IsRest, IsFields, IsMap, AreMaps, first_map};
 ghost use Rattle.record_wire.specs.private.Parts.{seen_map};
 ghost use Rattle.record_wire.specs.declared.rdata.fields.FrontForm.TheVariants as front;
 

@@ -4,8 +4,7 @@ ghost use Rattle.std.specs.Prelude.{◌≡◌, IfOk, IsOkAnd, IfErr};
 ghost use Rattle.dns_wire.specs.DnsPacket.{view_octets};
 ghost use Rattle.record_wire.specs.Entries as entries;
 ghost use Rattle.record_wire.specs.Entries.{entry_of};
-ghost use Rattle.record_wire.specs.EntryText.{EntryTextValue, entry_text_of};
-ghost use Rattle.record_wire.specs.EntryText.{IsEntryText, RefusesEntryText};
+ghost use Rattle.record_wire.specs.EntryText.{EntryTextValue, entry_text_of, IsEntryText, RefusesEntryText};
 ghost use Rattle.record_wire.specs.Record.{question_of, record_of};
 
 use crate::entries::{Entry, Section};

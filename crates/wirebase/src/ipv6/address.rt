@@ -13,7 +13,7 @@ pub struct Ipv6Address {
 }
 
 impl Ipv6Address {
-    ghost use Rattle.std.specs.Prelude.{◌↔◌, [], ◌∷◌, ◌++◌, IsTrue, replicate};
+    ghost use Rattle.std.specs.Prelude.{◌↔◌, ◌++◌, IsTrue, replicate};
     ghost use Rattle.byteorder.specs.Endian.{big_bytes};
     ghost use Rattle.wirebase.specs.declared.ipv6.address.Ipv6Address.{Ipv6Address};
     ghost use Rattle.wirebase.specs.Ipv6Address.{octets_of, IsMulticast, IsLinkLocal};

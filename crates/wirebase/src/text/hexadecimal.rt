@@ -2,8 +2,7 @@
 
 #![tactic(auto, using(crate::proofs::Sinks::puts))]
 
-ghost use Rattle.std.specs.Prelude.{◌≡◌, ◌*◌, ◌<◌, ◌≤◌, ◌++◌, [], ◌∷◌, Some, codes, flat_map, length};
-ghost use Rattle.std.specs.Prelude.{slice_index};
+ghost use Rattle.std.specs.Prelude.{◌≡◌, ◌*◌, ◌<◌, ◌≤◌, ◌++◌, [], ◌∷◌, Some, codes, flat_map, length, slice_index};
 ghost use Rattle.std.specs.Fmt.{WritesOnOk};
 ghost use Rattle.wirebase.specs.Sink.{PutsText};
 ghost use Rattle.hex.specs.Hex.{encode_lower, lower_digits};

@@ -2,20 +2,12 @@
 use Rattle.std.proofs.Common.{◌≡◌, ◌⊎◌, inl, inr, ℕ, arith, refl, length-drop}
 use Rattle.wirebase.specs.Bytes.{part}
 use Rattle.capture.specs.Pcapng.{here, option_end}
-use Rattle.capture.proofs.Blocks.{option_of, tells_behind, short_tells_none, cut_tells_none, end_tells_none}
+use Rattle.capture.proofs.Blocks.{option_of, tells_behind}
 use Rattle.capture.proofs.pcapng.first_option.Goals as goal
 
 differs : (a b m n : ℕ) → ((a ≡ b) × (m ≡ n → ⊥)) ⊎ (a ≡ b → ⊥) → (a ≡ b) × (m ≡ n) → ⊥
 differs a b m n (inl h) both = h.1 both.1
 differs a b m n (inr h) both = h both.0
-
-pub options-init : goal.options-init
-options-init c value = (λ tells. tells, λ tells. tells)
-
-pub returns-then-rest-end-clause-none : goal.returns-then-rest-end-clause-none
-returns-then-rest-end-clause-none c none value tells =
-    cut_tells_none _ _ _ c.options.rest.now value _ c.u16_at-rest_len.ensures c.if-rest-end.true
-    ((c.options.invariant value).1 tells)
 
 pub returns-then-rest_len-len-clause-tells : goal.returns-then-rest_len-len-clause-tells
 unfolding part
@@ -24,11 +16,6 @@ returns-then-rest_len-len-clause-tells c =
     option_of c.args.order c.args.code c.args.len c.options.rest.now _ _ c.options-test.true c.u16_at-rest_code.ensures
     c.u16_at-rest_len.ensures c.if-rest-end.false in
     (c.options.invariant _).0 (here (rw (c.if-rest_code-code.true, c.if-rest_len-len.true) at is) refl)
-
-pub returns-then-rest_code-eq0-clause-none : goal.returns-then-rest_code-eq0-clause-none
-returns-then-rest_code-eq0-clause-none c none value tells =
-    end_tells_none _ _ _ c.options.rest.now value _ _ c.u16_at-rest_code.ensures c.u16_at-rest_len.ensures
-    c.if-rest_code-eq0.true (differs _ _ _ _ c.else-rest_code-code.either) ((c.options.invariant value).1 tells)
 
 pub options-preserved : goal.options-preserved
 options-preserved c value =
@@ -42,7 +29,3 @@ options-preserved c value =
       λ tells. (c.options.invariant value).0 (behind.0 tells),
       λ tells. behind.1 ((c.options.invariant value).1 tells),
     )
-
-pub returns-clause-none : goal.returns-clause-none
-returns-clause-none c none value tells =
-    short_tells_none _ _ _ c.options.rest.now value c.options-test.false ((c.options.invariant value).1 tells)

@@ -1,30 +1,11 @@
 -- The octets begin with a packet, or those after a block show one.
-use Rattle.std.proofs.Common.{arith, length-drop, ap, refl, IsTrue, false}
+use Rattle.std.proofs.Common.{arith, length-drop, refl, IsTrue, false}
 use Rattle.capture.specs.Pcapng.{first}
-use Rattle.capture.proofs.Blocks.{shows_behind, shows_none}
+use Rattle.capture.proofs.Blocks.{shows_behind}
 use Rattle.capture.proofs.pcapng.shows_packet.Goals as goal
 
 not_true : IsTrue false → ⊥
 not_true told = cc
-
-pub blocks-2-init : goal.blocks-2-init
-blocks-2-init c = (λ shows. shows, λ shows. shows)
-
-pub returns-in_default : goal.returns-in_default
-returns-in_default c = (
-  λ told. absurd (not_true told),
-  λ shows. absurd (shows_none _ _ (λ begins. not_true (c.blocks-2-test.ensures.1 begins))
-      (λ h is whole. c.in_default.ensures.complete h is) (c.blocks-2.invariant.1 shows)),
-)
-
-pub returns-then-rest-len : goal.returns-then-rest-len
-returns-then-rest-len c = (
-  λ told. absurd (not_true told),
-  λ shows. absurd (shows_none _ _ (λ begins. not_true (c.blocks-2-test.ensures.1 begins))
-      (λ h is whole. let same = c.in-Ok.ensures.complete h is in
-      absurd (omega (arith, ap (λ k. k.total_len) same, whole, c.if-rest-len.true)))
-      (c.blocks-2.invariant.1 shows)),
-)
 
 pub blocks-2-preserved : goal.blocks-2-preserved
 blocks-2-preserved c =

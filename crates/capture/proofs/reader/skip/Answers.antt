@@ -1,10 +1,7 @@
 -- The parts are passed over in turn.
 use Rattle.std.proofs.Common.{refl}
-use Rattle.capture.proofs.Reading.{skips-init, skips-more, skips-ended}
+use Rattle.capture.proofs.Reading.{skips-more, skips-ended}
 use Rattle.capture.proofs.reader.skip.Goals as goal
-
-pub parts-init : goal.parts-init
-parts-init g c = skips-init _ _
 
 pub parts-preserved : goal.parts-preserved
 parts-preserved g c = skips-more _ _ _ _ _ _ _ c.parts.invariant c.in_ok-skipped.ensures.part

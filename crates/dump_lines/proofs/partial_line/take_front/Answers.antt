@@ -1,14 +1,10 @@
 -- Spaces are taken, and then a word.
-use Rattle.dump_lines.proofs.Taking.{front_in_shown, front_takes, front_free, word_free}
+use Rattle.dump_lines.proofs.Taking.{front_takes, front_free, word_free}
 use Rattle.dump_lines.proofs.partial_line.take_front.Goals as goal
 
 pub take_word-requires-clause-word : goal.take_word-requires-clause-word
 take_word-requires-clause-word c =
     word_free _ _ _ c.spaces_len-spaces.ensures.bound c.word_len.ensures.bound c.word_len.ensures.no_space
-
-pub returns-clause-bound : goal.returns-clause-bound
-returns-clause-bound c =
-    front_in_shown _ _ _ c.spaces_len-spaces.ensures.bound c.word_len.ensures.bound
 
 pub returns-clause-takes : goal.returns-clause-takes
 returns-clause-takes c =

@@ -1,15 +1,8 @@
 use Rattle.std.proofs.Common.{◌≡◌, ◌+◌, ◌-◌, arith, refl, subst}
 use Rattle.control_wire.specs.DnsRecord.{value_of}
 use Rattle.examples.specs.Resolver.{Search, found, sought, Says, here, later}
-use Rattle.examples.proofs.ResolverSearch.{later_found, none_left, none_read}
+use Rattle.examples.proofs.ResolverSearch.{later_found, none_read}
 use Rattle.examples.proofs.resolver.next_address.Goals as goal
-
-pub records-init : goal.records-init
-records-init c = record {
-  found = λ address after f. f;
-  none = λ address after f. f;
-  fewer = omega arith;
-}
 
 pub records-preserved : goal.records-preserved
 records-preserved c =
@@ -31,11 +24,6 @@ records-preserved c =
           (c.records.invariant.none address after f);
       fewer = omega (arith, c.records.invariant.fewer);
     }
-
-pub returns-clause-none : goal.returns-clause-none
-returns-clause-none c = λ _ address after f.
-    none_left c.args.answers.message.now c.args.answers.type_ address after _ (omega (arith, c.records-test.false))
-    (c.records.invariant.none address after f)
 
 pub returns-in-Err-clause-none : goal.returns-in-Err-clause-none
 returns-in-Err-clause-none c = λ _ address after f.

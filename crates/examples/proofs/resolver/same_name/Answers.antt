@@ -1,29 +1,7 @@
 use Rattle.std.proofs.Common.{◌≡◌, Some, ap}
-use Rattle.control_wire.specs.DnsNameWalk.{answer_of, label, fault, ending}
-use Rattle.examples.proofs.NameCases.{same_before, same_after, same_at_end, none_at_both, no_fault_in}
+use Rattle.control_wire.specs.DnsNameWalk.{answer_of, label, ending}
+use Rattle.examples.proofs.NameCases.{same_before, same_after, same_at_end, none_at_both}
 use Rattle.examples.proofs.resolver.same_name.Goals as goal
-
-pub loop-item-init : goal.loop-item-init
-loop-item-init c =
-    let left = c.parse_name-left.ensures.names in
-    let right = c.parse_name-right.ensures.names in
-    record {
-      iterates = (tt, tt);
-      back = λ same. record {
-        left = same.labels;
-        right = same.others;
-        left_is = (left same.labels).0 same.left_is;
-        right_is = (right same.others).0 same.right_is;
-        same = same.same;
-      };
-      forth = λ same. record {
-        labels = same.left;
-        others = same.right;
-        left_is = (left same.left).1 same.left_is;
-        right_is = (right same.right).1 same.right_is;
-        same = same.same;
-      };
-    }
 
 pub loop-item-preserved : goal.loop-item-preserved
 loop-item-preserved c =
@@ -49,24 +27,4 @@ returns c =
       λ same. c.is_end.ensures.1
           (same_at_end c.loop-item.left c.next.new.self c.loop-item.right c.next-2.new.self c.next.result
           c.next-2.result c.next.ensures.steps c.next-2.ensures.steps first (c.loop-item.invariant.forth same)),
-    )
-
-pub returns-in-Err : goal.returns-in-Err
-returns-in-Err c =
-    let first : answer_of (Some c.in-Some.item) ≡ fault = ap (λ i. answer_of (Some i)) c.in-Err.is in (
-      λ t. cc,
-      λ same. absurd (no_fault_in c.loop-item.left c.next.new.self c.loop-item.right (Some c.in-Some.item)
-          c.in-Some.ensures.steps first (c.loop-item.invariant.forth same)),
-    )
-
-pub returns-then-not-is_label : goal.returns-then-not-is_label
-returns-then-not-is_label c =
-    let first : answer_of (Some c.in-Some.item) ≡ label c.in-Ok.label.now = ap (λ i. answer_of (Some i)) c.in-Ok.is in (
-      λ t. cc,
-      λ same.
-          let second = (same_after c.loop-item.left c.next.new.self c.loop-item.right c.next-in-Some.new.self
-          (Some c.in-Some.item) c.next-in-Some.result c.in-Ok.label.now c.in-Some.ensures.steps
-          c.next-in-Some.ensures.steps first (c.loop-item.invariant.forth same)).0 in
-          let is = c.is_label.ensures.1 second in
-          cc,
     )

@@ -1,4 +1,4 @@
-use Rattle.std.proofs.Common.{ap, ◌∙◌, arith}
+use Rattle.std.proofs.Common.{ap, ◌∙◌}
 use Rattle.std.proofs.lemmas.Option.{IfSome_then}
 use Rattle.control_wire.specs.Capabilities.{all_of}
 use Rattle.control_wire.specs.ChecksumType.TheVariants.{Both}
@@ -16,6 +16,3 @@ returns-clause-tells c =
           (record { kind = c.args.kind; code = c.args.code; rest = c.args.rest; quoted = quoted }))
           c.in-Some.ensures.sound.1,
     ))
-
-pub returns-clause-told : goal.returns-clause-told
-returns-clause-told c = λ source may room. c.write_v6.ensures.room (omega (arith, c.in-Some.ensures.len, room))

@@ -1,11 +1,7 @@
 -- Tags are passed, one after another.
 use Rattle.frame_wire.proofs.Words.{◌∙◌, IsTagged, ap, big_number, subst, sym, take}
-use Rattle.frame_wire.proofs.Tags.{so_far-init, so_far-more, so_far-last, cut_none, cut_here, part-behind, told}
-use Rattle.frame_wire.proofs.Tags.{told_not}
+use Rattle.frame_wire.proofs.Tags.{so_far-more, so_far-last, cut_none, cut_here, part-behind, told, told_not}
 use Rattle.frame_wire.proofs.link.untagged.Goals as goal
-
-pub tags-init : goal.tags-init
-tags-init c = so_far-init _ _
 
 pub returns-then-octets-end-lt4-clause-complete : goal.returns-then-octets-end-lt4-clause-complete
 returns-then-octets-end-lt4-clause-complete c v is =

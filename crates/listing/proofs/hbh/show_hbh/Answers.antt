@@ -1,22 +1,12 @@
 -- Each turn prints one option, and at the end all options of the header are printed.
 use Rattle.listing.proofs.Words.{◌∙◌, arith, take_all}
-use Rattle.opt_wire.specs.Ipv6Option.{value_of as option_value}
 use Rattle.opt_wire.specs.Ipv6Hbh.{value_of}
-use Rattle.listing.specs.ListingHbh.{option_listing}
-use Rattle.listing.proofs.Printing.{gains_both, listed, one_more_listed, refused_on_ok}
+use Rattle.listing.proofs.Printing.{listed, refused_on_ok}
 use Rattle.listing.proofs.hbh.show_hbh.Goals as goal
-use Rattle.opt_wire.specs.declared.ipv6option.Repr.{Repr}
 
 pub returns-in_default : goal.returns-in_default
 returns-in_default g c =
     refused_on_ok _ _ _ _ (rw c.new_unchecked.ensures at c.in_default.ensures.complete) c.line.ensures
-
-pub loop-option-preserved : goal.loop-option-preserved
-loop-option-preserved g c =
-    rw (one_more_listed option_value option_listing c.as_slice-option-items.result.now c.loop-option.option-index
-    Repr.Pad1
-    (omega arith))
-    (gains_both _ _ _ _ _ c.loop-option.invariant c.in_ok-show_option.ensures)
 
 pub returns : goal.returns
 returns g c =

@@ -1,8 +1,8 @@
-use Rattle.opt_wire.proofs.Words.{◌++◌, ◌∙◌, ◌∷◌, Answer, Error, List, Ok, Result, ap, append-nil, arith, eqb-true}
-use Rattle.opt_wire.proofs.Words.{length, length-map, map, sym, value_of}
+use Rattle.opt_wire.proofs.Words.{◌++◌, ◌∙◌, ◌∷◌, Answer, Error, List, Ok, Result, ap, arith, eqb-true, length}
+use Rattle.opt_wire.proofs.Words.{length-map, map, sym, value_of}
 use Rattle.wirebase.specs.Answers.{seen}
 use Rattle.opt_wire.specs.declared.ipv6option.Repr.{Repr}
-use Rattle.opt_wire.proofs.Ipv6HbhGrammar.{header-end, header-full, header-refused}
+use Rattle.opt_wire.proofs.Ipv6HbhGrammar.{header-full, header-refused}
 use Rattle.opt_wire.proofs.ipv6hbh.read_options.Goals as goal
 
 pub returns-in_err-option-clause-reads : goal.returns-in_err-option-clause-reads
@@ -13,13 +13,6 @@ returns-in_err-option-clause-reads c = λ other header.
     absurd (header-refused 8 c.args.octets.now read other c.in_err-option.field-0.0 _ c.next.new.self
     c.loop-option.invariant.tile (ap (λ (l : List Answer). map Ok read ++ l) next)
     (omega (arith, c.loop-option.invariant.few, length-map c.loop-option.options.items value_of)) header)
-
-pub returns-in-None-clause-sound : goal.returns-in-None-clause-sound
-returns-in-None-clause-sound c = λ ok.
-    let read = map value_of c.loop-option.options.items in
-    header-end 8 c.args.octets.now read _ c.requires.some c.loop-option.invariant.tile
-    (ap (λ (l : List Answer). map Ok read ++ l) c.in-None.ensures.steps.0 ∙ append-nil (map Ok read))
-    (omega (arith, c.loop-option.invariant.few, length-map c.loop-option.options.items value_of))
 
 pub returns-then-is_full-clause-sound : goal.returns-then-is_full-clause-sound
 returns-then-is_full-clause-sound c = λ ok.

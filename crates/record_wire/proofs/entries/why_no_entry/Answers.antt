@@ -1,12 +1,6 @@
 use Rattle.record_wire.proofs.Words.{◌≡◌, ◌≢◌, Section, rules}
-use Rattle.record_wire.proofs.EntryCases.{has_question, question_has, has_record, record_has, refuses_question}
-use Rattle.record_wire.proofs.EntryCases.{refuses_record}
+use Rattle.record_wire.proofs.EntryCases.{has_question, question_has, has_record, record_has}
 use Rattle.record_wire.proofs.entries.why_no_entry.Goals as goal
-
-pub returns-then-eq-clause-told : goal.returns-then-eq-clause-told
-returns-then-eq-clause-told c =
-    let first : c.args.section ≡ Section.Question = search rules in
-    refuses_question c.args.section c.args.bytes.now _ first c.refusal.ensures.told
 
 pub returns-then-eq-clause-exact : goal.returns-then-eq-clause-exact
 returns-then-eq-clause-exact c =
@@ -14,11 +8,6 @@ returns-then-eq-clause-exact c =
       λ none. question_has c.args.section c.args.bytes.now first (c.refusal.ensures.exact.0 none),
       λ has. c.refusal.ensures.exact.1 (has_question c.args.section c.args.bytes.now first has),
     )
-
-pub returns-clause-told : goal.returns-clause-told
-returns-clause-told c =
-    let other : c.args.section ≢ Section.Question = search rules in
-    refuses_record c.args.section c.args.bytes.now _ other c.refusal-2.ensures.told
 
 pub returns-clause-exact : goal.returns-clause-exact
 returns-clause-exact c =

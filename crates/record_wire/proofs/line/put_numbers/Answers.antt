@@ -1,11 +1,7 @@
 use Rattle.record_wire.proofs.Words.{◌++◌, List, WritesInCalls, ℕ, codes, decimal, subst}
-use Rattle.wirebase.proofs.Sinks.{put_none}
 use Rattle.record_wire.proofs.Puts.{◌then◌}
 use Rattle.record_wire.proofs.RecordTexts.{one_more}
 use Rattle.record_wire.proofs.line.put_numbers.Goals as goal
-
-pub loop-number-init : goal.loop-number-init
-loop-number-init g c = put_none g.S.Sink.took _
 
 pub loop-number-preserved : goal.loop-number-preserved
 loop-number-preserved g c =

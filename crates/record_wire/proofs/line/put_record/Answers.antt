@@ -1,7 +1,7 @@
 use Rattle.record_wire.proofs.Words.{[], record_of, refl}
 use Rattle.record_wire.specs.RData.{rdata_of}
 use Rattle.wirebase.proofs.Sinks.{put_none}
-use Rattle.record_wire.proofs.Lines.{no_names, data_refused, name_refused, record_put}
+use Rattle.record_wire.proofs.Lines.{no_names, data_refused, record_put}
 use Rattle.record_wire.proofs.line.put_record.Goals as goal
 
 pub returns-in-Err : goal.returns-in-Err
@@ -23,13 +23,6 @@ returns-in_default-parse_update g c = (
       c.why_no_data.ensures.told (c.why_no_data.ensures.exact c.in_default-parse_update.ensures.complete),
   put_none g.S.Sink.took _,
 )
-
-pub returns-in-Some : goal.returns-in-Some
-returns-in-Some g c =
-    name_refused c.args.before c.args.message.now c.args.class (record_of c.args.«record».now) _
-    c.in_default.ensures.reads (rdata_of c.in-Ok.«data») c.in-Ok.ensures.sound c.in-Ok.ensures.complete g.S.Sink.took _
-    _
-    [] c.in-Some.refusal (rw c.in-Some.is at c.in_ok-refusal.ensures)
 
 pub returns : goal.returns
 returns g c =

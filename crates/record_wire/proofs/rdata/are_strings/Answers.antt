@@ -10,9 +10,6 @@ loop-left-preserved c =
       forth = λ are. step.1 (c.loop-left.invariant.forth are);
     }
 
-pub loop-left-smaller : goal.loop-left-smaller
-loop-left-smaller c = (strings_behind c.loop-left.left.now c.in-Some.rest.now (sym c.in-Some.ensures)).2
-
 pub returns-in-None : goal.returns-in-None
 returns-in-None c =
     let some : 1 ≤ length c.loop-left.left.now =

@@ -1,11 +1,7 @@
 -- Each turn prints an option, or tells how they end.
-use Rattle.listing.proofs.Words.{[], ◌++◌, ◌∙◌, ap, append_assoc, arith, length, options_listing, refl, sym}
-use Rattle.listing.proofs.Words.{unread_option}
-use Rattle.listing.proofs.Printing.{gains_none, gains_both}
+use Rattle.listing.proofs.Words.{◌++◌, ◌∙◌, ap, append_assoc, options_listing, sym, unread_option}
+use Rattle.listing.proofs.Printing.{gains_both}
 use Rattle.listing.proofs.message.edns.show_options.Goals as goal
-
-pub loop-option-init : goal.loop-option-init
-loop-option-init g c = record { same = refl; so_far = ([], refl, gains_none _) }
 
 pub loop-option-preserved : goal.loop-option-preserved
 loop-option-preserved g c =
@@ -20,7 +16,3 @@ loop-option-preserved g c =
         gains_both _ _ _ _ _ gains c.in_ok-opt_field-in-Some-Ok.ensures,
       );
     }
-
-pub loop-option-smaller : goal.loop-option-smaller
-loop-option-smaller g c =
-    omega (arith, ap length (rw c.in-Some-Ok.field-0-is at c.in-Some-Ok.ensures.steps))

@@ -1,16 +1,5 @@
-use Rattle.opt_wire.proofs.Ipv6OptionGrammar.{begins_with-unique, front_of-begins, front_of-refused}
+use Rattle.opt_wire.proofs.Ipv6OptionGrammar.{front_of-refused}
 use Rattle.opt_wire.proofs.ipv6option.Ipv6OptionDisplay.fmt.Goals as goal
-
-pub returns-in-Ok : goal.returns-in-Ok
-returns-in-Ok g c =
-    let read = rw (c.new_unchecked-option.ensures, c.octets.ensures) at c.in-Ok.ensures.sound in
-    record {
-      shows = record {
-        reads = λ v h. rw (begins_with-unique _ v _ h read) c.write.ensures.writes;
-        refuses = λ none. absurd (none _ read);
-      };
-      writes = rw (front_of-begins _ _ read) c.write.ensures.writes;
-    }
 
 pub returns-in-Err : goal.returns-in-Err
 returns-in-Err g c =

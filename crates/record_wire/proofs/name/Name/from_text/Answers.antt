@@ -1,5 +1,5 @@
-use Rattle.record_wire.proofs.Words.{◌≡◌, ◌<◌, [], ◌∷◌, ◌++◌, ◌∙◌, IsNameText, ap, arith, labels_in, length, refl}
-use Rattle.record_wire.proofs.Words.{subst, sym, wire}
+use Rattle.record_wire.proofs.Words.{◌≡◌, ◌<◌, [], ◌∷◌, ◌++◌, ◌∙◌, IsNameText, ap, labels_in, length, refl, subst, sym}
+use Rattle.record_wire.proofs.Words.{wire}
 use Rattle.record_wire.proofs.LabelLists.{written_in, whole_wire, ended, in_written, name_of, room_for_end}
 use Rattle.record_wire.proofs.NameLabels.{root_alone}
 use Rattle.record_wire.proofs.NameTexts.{text_reads}
@@ -7,11 +7,6 @@ use Rattle.record_wire.proofs.Outcomes.{no_labels, some_labels}
 use Rattle.record_wire.proofs.name.Name.from_text.Goals as goal
 
 -- ---- the root
-
-pub returns-then-is_root-clause-sound : goal.returns-then-is_root-clause-sound
-returns-then-is_root-clause-sound c =
-    subst (λ labels. IsNameText c.args.text.now labels) (sym c.root.ensures)
-    (record { name = name_of [] [] tt refl (omega arith); is = c.is_root.ensures.0 c.if-is_root.true })
 
 pub returns-then-is_root-clause-complete : goal.returns-then-is_root-clause-complete
 returns-then-is_root-clause-complete c = λ labels is.

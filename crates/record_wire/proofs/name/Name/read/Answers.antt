@@ -20,9 +20,3 @@ returns-in-Ok-clause-complete c = λ labels names.
     let written = (c.in-Ok.ensures.complete labels
     (subst (λ m. Names m c.args.bytes.now labels) (sym c.octets_of.ensures) names)).1 in
     in_wire c.put_name.new.octets.items labels names.fits.each written
-
-pub returns-in-Err-clause-complete : goal.returns-in-Err-clause-complete
-returns-in-Err-clause-complete c = λ labels names.
-    let ok = (c.in-Err.ensures.complete labels
-    (subst (λ m. Names m c.args.bytes.now labels) (sym c.octets_of.ensures) names)).0 in
-    absurd (cc ok)

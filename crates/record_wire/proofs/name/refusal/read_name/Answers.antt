@@ -17,8 +17,3 @@ returns-in-Ok-clause-sound c =
 pub returns-in-Ok-clause-complete : goal.returns-in-Ok-clause-complete
 returns-in-Ok-clause-complete c = λ labels names.
     in_wire c.put_name.new.octets.items labels names.fits.each (c.in-Ok.ensures.complete labels names).1
-
-pub returns-in-Err-clause-complete : goal.returns-in-Err-clause-complete
-returns-in-Err-clause-complete c = λ labels names.
-    let ok = (c.in-Err.ensures.complete labels names).0 in
-    absurd (cc ok)

@@ -1,7 +1,6 @@
 use Rattle.record_wire.proofs.Words.{◌≡◌, ◌<◌, [], ◌∷◌, ◌++◌, Spells, ap, arith, length, length-append, rules, subst}
 use Rattle.record_wire.proofs.Words.{sym}
 use Rattle.record_wire.proofs.Spelling.{spells_more, spelling_one, spelling_longer}
-use Rattle.record_wire.proofs.Characters.{first_shorter}
 use Rattle.record_wire.proofs.name.text.read_label.Goals as goal
 
 pub loop-byte-preserved : goal.loop-byte-preserved
@@ -14,10 +13,6 @@ loop-byte-preserved c =
       spells = subst (λ label. Spells c.args.text.now label c.in-Some.rest.now) (sym pushed) more;
       few = omega (arith, ap length pushed, room, length-append c.loop-byte.label.items (c.in-Some.byte ∷ []));
     }
-
-pub loop-byte-smaller : goal.loop-byte-smaller
-loop-byte-smaller c =
-    first_shorter c.in-Some.byte c.loop-byte.left.now c.in-Some.rest.now (sym c.in-Some.ensures)
 
 pub returns-then-is_err-clause-complete : goal.returns-then-is_err-clause-complete
 returns-then-is_err-clause-complete c = λ label rest spelling some few.

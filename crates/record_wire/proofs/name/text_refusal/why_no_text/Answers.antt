@@ -1,6 +1,6 @@
 use Rattle.record_wire.proofs.Words.{◌≤◌, ◌+◌, ◌++◌, ◌∙◌, ap, arith, length, subst, sym, written}
 use Rattle.record_wire.proofs.NameLabels.{one_more, end_behind, label_behind, spelled_shorter}
-use Rattle.record_wire.proofs.TextRefusals.{label_refused, rest_refused, no_room, no_name}
+use Rattle.record_wire.proofs.TextRefusals.{label_refused, no_room, no_name}
 use Rattle.record_wire.proofs.name.text_refusal.why_no_text.Goals as goal
 
 pub returns-in_default : goal.returns-in_default
@@ -40,9 +40,3 @@ loop-label-preserved c =
     (c.in-Ok.ensures.some, c.in-Ok.ensures.few) c.in-Ok.ensures.sound.spells dot.0 dot.1
     (c.in-Ok-push_label.ensures.pushes
     ∙ ap (λ l. c.loop-label.octets.items ++ written l) c.as_slice.ensures.value)
-
-pub returns-in-Other : goal.returns-in-Other
-returns-in-Other c =
-    rest_refused c.args.text.now c.loop-label.octets.items c.loop-label.left.now c.in-Ok.label.items
-    c.in-Ok.rest.now _ c.loop-label.invariant c.in-Ok.ensures.sound.spells (sym c.in-Other.ensures)
-    c.why_no_character.ensures

@@ -17,9 +17,3 @@ pub returns-in-Srv : goal.returns-in-Srv
 returns-in-Srv c =
     rw c.in-Srv.is
     (labels_of c.in-Srv.target, own_octets _ _ _ c.octets-in-Srv.ensures.value c.octets-in-Srv.ensures.name, refl)
-
-pub returns-in-Soa : goal.returns-in-Soa
-returns-in-Soa c = rw c.in-Soa.is (_, c.octets-in-Soa.ensures, refl)
-
-pub returns-in-Fields : goal.returns-in-Fields
-returns-in-Fields c = rw c.in-Fields.is (_, c.octets-in-Fields.ensures, refl)

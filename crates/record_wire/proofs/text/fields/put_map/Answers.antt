@@ -1,14 +1,9 @@
 -- Each turn puts the types of a byte.
-use Rattle.record_wire.proofs.Words.{[], ◌++◌, ◌∙◌, List, ℕ, ap, append-nil, byte_text, map_text}
-use Rattle.record_wire.proofs.Words.{number_at, refl, sym}
-use Rattle.wirebase.proofs.Sinks.{put_none}
+use Rattle.record_wire.proofs.Words.{◌++◌, ◌∙◌, List, ℕ, ap, append-nil, byte_text, map_text, number_at, sym}
 use Rattle.record_wire.proofs.FieldTexts.{map_more, map_none}
 use Rattle.record_wire.proofs.Puts.{◌then◌, puts_as}
 use Rattle.record_wire.proofs.RecordTexts.{one_text}
 use Rattle.record_wire.proofs.text.fields.put_map.Goals as goal
-
-pub loop-byte-init : goal.loop-byte-init
-loop-byte-init g c = ([], refl, put_none g.S.Sink.took _)
 
 pub loop-byte-preserved : goal.loop-byte-preserved
 loop-byte-preserved g c =

@@ -1,14 +1,10 @@
 -- Each turn puts the types of a map.
-use Rattle.record_wire.proofs.Words.{[], ◌++◌, ◌∙◌, List, MapValue, WritesInCalls, ℕ, ap, append-nil}
-use Rattle.record_wire.proofs.Words.{maps_text, refl, sym, types_text}
-use Rattle.wirebase.proofs.Sinks.{put_none}
+use Rattle.record_wire.proofs.Words.{◌++◌, ◌∙◌, List, MapValue, WritesInCalls, ℕ, ap, append-nil, maps_text, sym}
+use Rattle.record_wire.proofs.Words.{types_text}
 use Rattle.record_wire.proofs.FieldTexts.{maps_more, maps_none}
 use Rattle.record_wire.proofs.Puts.{◌then◌, puts_as}
 use Rattle.record_wire.proofs.RecordTexts.{one_text}
 use Rattle.record_wire.proofs.text.fields.put_maps.Goals as goal
-
-pub loop-upper-init : goal.loop-upper-init
-loop-upper-init g c = ([], refl, put_none g.S.Sink.took _)
 
 pub loop-upper-preserved : goal.loop-upper-preserved
 loop-upper-preserved g c =

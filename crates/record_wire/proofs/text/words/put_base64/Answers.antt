@@ -1,13 +1,9 @@
 -- Each turn puts three bytes.
-use Rattle.record_wire.proofs.Words.{◌/◌, ◌%◌, ◌*◌, ◌+◌, [], ◌++◌, base64, refl}
-use Rattle.wirebase.proofs.Sinks.{put_none}
+use Rattle.record_wire.proofs.Words.{◌/◌, ◌%◌, ◌*◌, ◌+◌, ◌++◌, base64}
 use Rattle.record_wire.proofs.FieldTexts.{four, base64_more}
-use Rattle.record_wire.proofs.Puts.{◌then◌, puts_as, puts_last}
+use Rattle.record_wire.proofs.Puts.{◌then◌}
 use Rattle.record_wire.proofs.RecordTexts.{one_text}
 use Rattle.record_wire.proofs.text.words.put_base64.Goals as goal
-
-pub loop-a-init : goal.loop-a-init
-loop-a-init g c = ([], refl, put_none g.S.Sink.took _)
 
 pub loop-a-preserved : goal.loop-a-preserved
 loop-a-preserved g c =
@@ -23,8 +19,3 @@ loop-a-preserved g c =
           (base64_more x y z left rest c.in-Some.ensures),
       before then c.in_ok-put_digits.ensures.calls,
     )
-
-pub returns : goal.returns
-returns g c =
-    let (done, is, before) = c.loop-a.invariant in
-    puts_as _ _ _ _ _ _ is (puts_last _ _ _ before c.put_last.ensures)

@@ -31,19 +31,6 @@ part-place bytes text p n start room is =
           )
     ]
 
-pub range_mut-requires-clause-room : goal.range_mut-requires-clause-room
-unfolding sheet_of
-range_mut-requires-clause-room g c =
-    let w = c.args.self.now in
-    let bytes = g.T.Octets.bytes w.buffer in
-    omega (
-      arith,
-      c.requires,
-      c.min-start.ensures,
-      ap length c.octets-len.ensures,
-      length-drop w.position bytes,
-    )
-
 pub returns : goal.returns
 unfolding sheet_of
 returns g c =

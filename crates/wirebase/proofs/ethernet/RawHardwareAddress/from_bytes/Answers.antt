@@ -1,4 +1,4 @@
-use Rattle.wirebase.proofs.Words.{◌∙◌, ap, length, raw_bytes, refl, take_at}
+use Rattle.wirebase.proofs.Words.{ap, raw_bytes, refl}
 use Rattle.wirebase.proofs.HardwareAddresses.{same_raw, same_front}
 use Rattle.wirebase.proofs.ethernet.RawHardwareAddress.from_bytes.Goals as goal
 
@@ -7,7 +7,3 @@ returns-clause-same c x y = (λ e. ap raw_bytes e, same_raw x y)
 
 pub returns-clause-equality : goal.returns-clause-equality
 returns-clause-equality c x y = same_front _ x y refl
-
-pub returns-clause-value : goal.returns-clause-value
-returns-clause-value c =
-    take_at c.copy_from_slice.new.self _ _ (ap length c.copy_from_slice.ensures.after) ∙ c.copy_from_slice.ensures.after

@@ -15,11 +15,6 @@ returns-clause-text c =
     rw c.in-Some.is
     (text ∙ ap (λ g. codes "[" ++ hex_groups_text g ++ codes "]:" ++ decimal c.in-Some.port) groups)
 
-pub returns-in_default-clause-ascii : goal.returns-in_default-clause-ascii
-returns-in_default-clause-ascii c =
-    let groups = c.groups_of-groups.ensures ∙ ap segments_of c.octets.ensures in
-    rw c.in_default.is (subst (λ g. IsAscii (hex_groups_text g)) groups c.put_address.ensures.ascii)
-
 pub returns-clause-ascii : goal.returns-clause-ascii
 returns-clause-ascii c =
     let groups = c.groups_of-groups.ensures ∙ ap segments_of c.octets.ensures in

@@ -1,6 +1,5 @@
 -- Each turn puts the digits of a chunk.
-use Rattle.wirebase.proofs.Words.{[], ◌++◌, ◌∙◌, ap, append-nil, append_assoc, chunks_rest, chunks_size, lower_digits}
-use Rattle.wirebase.proofs.Words.{nil_from_length, sym}
+use Rattle.wirebase.proofs.Words.{[], ◌++◌, ◌∙◌, ap, append_assoc, chunks_rest, chunks_size, lower_digits, sym}
 use Rattle.wirebase.proofs.HexDigits.{encode_with-nil, encode_with-append}
 use Rattle.wirebase.proofs.Sinks.{put_none, put_both}
 use Rattle.wirebase.proofs.text.hexadecimal.put_hex.Goals as goal
@@ -31,10 +30,3 @@ loop-octets-preserved g c =
             (put_both _ _ _ _ _ _ so_far.2 c.in_ok-put_chunk.ensures.calls),
       );
     }
-
-pub returns : goal.returns
-returns g c =
-    let so_far = c.loop-octets.invariant.so_far in
-    let rest = nil_from_length _ c.in-None.ensures.steps.1.0 in
-    let all = sym (append-nil so_far.0) ∙ ap (λ rest. so_far.0 ++ rest) (sym rest) ∙ so_far.1 in
-    record { calls = rw all at so_far.2 }

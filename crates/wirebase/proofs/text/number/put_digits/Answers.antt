@@ -1,17 +1,8 @@
 -- Each turn puts the last two digits of what is left before the others.
-use Rattle.wirebase.proofs.Words.{◌≡◌, ◌+◌, ◌-◌, append_assoc, arith, decimal_digit, drop_all, refl}
-use Rattle.std.proofs.Common.{append-nil}
+use Rattle.wirebase.proofs.Words.{◌≡◌, ◌+◌, ◌-◌, append_assoc, arith, decimal_digit}
 use Rattle.std.proofs.lemmas.List.{drop-set}
 use Rattle.wirebase.proofs.Numbers.{digits_few, digits_one, digits_two, digits_more_two, two_alone, two_behind}
 use Rattle.wirebase.proofs.text.number.put_digits.Goals as goal
-
-pub loop-left-init : goal.loop-left-init
-loop-left-init c = record {
-  bound = omega arith;
-  room = omega arith;
-  lengths = refl;
-  digits = rw (drop_all 20 c.args.room.now (omega arith), append-nil) refl;
-}
 
 pub put_two-start-requires-clause-least : goal.put_two-start-requires-clause-least
 put_two-start-requires-clause-least c =

@@ -1,20 +1,9 @@
 -- Digits are ASCII, and what was put was written.
-use Rattle.std.proofs.Common.{◌≡◌, ◌∙◌, ◌++◌, IsOk, sym, ap, subst, take, codes, rules, ne_eqb}
+use Rattle.std.proofs.Common.{◌≡◌, ◌∙◌, ◌++◌, IsOk, ap, take, codes, rules, ne_eqb}
 use Rattle.std.proofs.lemmas.Grind.{put_two}
-use Rattle.std.proofs.lemmas.Str.{IsAscii-take}
-use Rattle.std.specs.Str.{IsAscii}
 use Rattle.wirebase.specs.Digits.{last_digits}
 use Rattle.wirebase.proofs.Sinks.{displayed}
-use Rattle.wirebase.proofs.TextAscii.{last_digits-ascii}
 use Rattle.capture.proofs.time.text.FractionDisplay.fmt.Goals as goal
-
-pub put-requires : goal.put-requires
-put-requires g c =
-    let time = c.args.self.now in
-    let text : c.first_digits.result.now ≡ take time.digits (last_digits 9 time.nanoseconds)
-    = c.first_digits.ensures ∙ ap (take time.digits) (c.nine_digits-all.ensures ∙ ap (last_digits 9) c.from.ensures) in
-    subst IsAscii (sym text) (IsAscii-take (last_digits 9 time.nanoseconds) time.digits (last_digits-ascii 9
-    time.nanoseconds))
 
 pub returns-clause-writes : goal.returns-clause-writes
 returns-clause-writes g c = λ plain ok.

@@ -1,6 +1,6 @@
 use Rattle.dhcp_wire.proofs.Words.{[], ◌∙◌, ◌∷◌, ◌≡◌, AreOfEthernet, List, MessageType, Option, OptionValue, Value, ℕ}
 use Rattle.dhcp_wire.proofs.Words.{ap, byte_of, false, inner, list_of, op_field, option_or, options_in, or-assoc, subst}
-use Rattle.dhcp_wire.proofs.Words.{sym, true, type_among, value_of, value_of_option, with_options}
+use Rattle.dhcp_wire.proofs.Words.{sym, type_among, value_of, value_of_option, with_options}
 use Rattle.dhcp_wire.specs.Dhcpv4Tables.{opcode_number}
 use Rattle.dhcp_wire.proofs.Dhcpv4Kept.{with-none, with-more, opcode_back}
 use Rattle.dhcp_wire.proofs.Dhcpv4Lists.{list-options}
@@ -20,13 +20,6 @@ loop-option-init c =
       good = λ h. subst (λ (os : List OptionValue). AreOfEthernet os) same h;
       all_good = λ h. subst (λ (os : List OptionValue). AreOfEthernet os) (sym same) h;
     }
-
-pub returns-then-not-is_of_ethernet-clause-refused : goal.returns-then-not-is_of_ethernet-clause-refused
-returns-then-not-is_of_ethernet-clause-refused c = λ all.
-    let left = subst (λ (os : List OptionValue). AreOfEthernet os) c.in-Some.ensures.steps
-    (c.loop-option.invariant.all_good all) in
-    let is = c.is_of_ethernet.ensures.1 left.0 in
-    let never : true ≡ false = sym is ∙ c.if-not-is_of_ethernet.true in cc
 
 pub loop-option-preserved : goal.loop-option-preserved
 loop-option-preserved c =
@@ -53,20 +46,8 @@ loop-option-preserved c =
           (subst (λ (os : List OptionValue). AreOfEthernet os) steps (c.loop-option.invariant.all_good h)).1;
     }
 
-pub returns-clause-typed : goal.returns-clause-typed
-returns-clause-typed c =
-    let op = byte_of op_field (inner c.args.packet.now).now in
-    ap (λ (os : List OptionValue). option_or (type_among op os) c.loop-option.self.message_type)
-    (sym c.in-None.ensures.steps.0)
-    ∙ c.loop-option.invariant.typed
-
 pub returns-clause-value : goal.returns-clause-value
 returns-clause-value c =
     sym (with-none (value_of c.loop-option.self.repr))
     ∙ ap (λ (os : List OptionValue). with_options os (value_of c.loop-option.self.repr)) (sym c.in-None.ensures.steps.0)
     ∙ c.loop-option.invariant.value
-
-pub returns-clause-accepted : goal.returns-clause-accepted
-returns-clause-accepted c =
-    c.loop-option.invariant.good
-    (subst (λ (os : List OptionValue). AreOfEthernet os) (sym c.in-None.ensures.steps.0) tt)

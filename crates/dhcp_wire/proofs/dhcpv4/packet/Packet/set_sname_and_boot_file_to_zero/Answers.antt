@@ -1,8 +1,5 @@
 use Rattle.dhcp_wire.proofs.Words.{arith, pieces}
 use Rattle.dhcp_wire.proofs.dhcpv4.packet.Packet.set_sname_and_boot_file_to_zero.Goals as goal
 
-pub returns-clause-writes : goal.returns-clause-writes
-returns-clause-writes g c = grind (arith, pieces)
-
 pub returns-clause-len : goal.returns-clause-len
 returns-clause-len g c = grind (arith, pieces)

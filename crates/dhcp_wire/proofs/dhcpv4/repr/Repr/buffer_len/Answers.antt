@@ -3,9 +3,6 @@ use Rattle.dhcp_wire.proofs.Words.{value_of_option}
 use Rattle.dhcp_wire.proofs.Dhcpv4Lengths.{lengths, text_len-fields, text_len-whole}
 use Rattle.dhcp_wire.proofs.dhcpv4.repr.Repr.buffer_len.Goals as goal
 
-pub fields_len-len-requires : goal.fields_len-len-requires
-fields_len-len-requires c = omega (arith, c.requires)
-
 pub loop-option-init : goal.loop-option-init
 loop-option-init c =
     ap (λ (n : ℕ). n + length (options_text (map value_of_option c.args.self.now.additional_options.now)))

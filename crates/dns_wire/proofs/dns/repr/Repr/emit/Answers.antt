@@ -1,11 +1,6 @@
-use Rattle.dns_wire.proofs.Words.{Emits, List, ℕ, ap, sym, value_of}
+use Rattle.dns_wire.proofs.Words.{Emits, sym, value_of}
 use Rattle.wirebase.proofs.Chains.{lent}
 use Rattle.dns_wire.proofs.dns.repr.Repr.emit.Goals as goal
-
-pub returns-clause-place : goal.returns-clause-place
-returns-clause-place g c =
-    ap (λ (bytes : List ℕ). g.T.OctetsMut.put c.args.packet.now.buffer bytes)
-    (sym (g.met.T.OctetsMut.bytes_put c.args.packet.now.buffer _))
 
 pub returns-clause-emits : goal.returns-clause-emits
 returns-clause-emits g c =

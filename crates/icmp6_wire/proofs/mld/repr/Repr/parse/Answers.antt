@@ -1,7 +1,6 @@
-use Rattle.wirebase.proofs.Checks.{passes_fails}
 use Rattle.wirebase.proofs.Format.{rewrites}
 use Rattle.icmp6_wire.specs.Icmpv6Packet.{view_octets}
-use Rattle.icmp6_wire.specs.Mld.{checks, format}
+use Rattle.icmp6_wire.specs.Mld.{format}
 use Rattle.icmp6_wire.proofs.MldFormat.{mld_format}
 use Rattle.icmp6_wire.proofs.MldTexts.{message-one}
 use Rattle.icmp6_wire.proofs.mld.repr.Repr.parse.Goals as goal
@@ -13,7 +12,3 @@ returns-in-Ok-clause-complete c = λ value is.
 pub returns-in-Ok-clause-rewrites : goal.returns-in-Ok-clause-rewrites
 returns-in-Ok-clause-rewrites c = λ short.
     rewrites format mld_format (view_octets c.args.packet.now) _ c.are_bytes.ensures short c.in-Ok.ensures.sound
-
-pub returns-in-Err-clause-complete : goal.returns-in-Err-clause-complete
-returns-in-Err-clause-complete c = λ value is.
-    absurd (passes_fails (checks (view_octets c.args.packet.now)) is.passes _ c.in-Err.ensures.told)

@@ -1,5 +1,0 @@
-use Rattle.opt_wire.proofs.ipv6ext_header.Repr.emit.Goals as goal
-
-pub returns-clause-emits : goal.returns-clause-emits
-returns-clause-emits g c =
-    rw (g.met.T.OctetsMut.bytes_put, ← c.octets_mut.ensures.value) c.emit_into.ensures
