@@ -108,13 +108,6 @@ gains_kept None b kept = record { appends = tt }
 gains_kept (Some xs) None kept = absurd kept
 gains_kept (Some xs) (Some ys) kept = record { appends = kept ∙ sym (append-nil xs) }
 
--- the table, and then it is written out
-pub written_out : {E : Type 0} (before now later : Option (List ℕ)) (text : List ℕ) (r : Result (Unit {0}) E)
-    → Gains before now text → Keeps now later → OnOk r (Gains before later text)
-written_out before now later text (Ok x) gains kept =
-    rw (append-nil text) at (gains_both before now later text [] gains (gains_kept now later kept))
-written_out before now later text (Err e) gains kept = tt
-
 pub run : {E : Type 0} (options : Options) (bytes : List ℕ → Option (List ℕ)) (files : List (List ℕ))
     (lowest highest : ℕ) (total : TallyValue) (before now later : Option (List ℕ)) (r : Result (Unit {0}) E)
     → GainsSome before now (λ text.

@@ -1,30 +1,18 @@
 -- Names that are read in a loop.
-use Rattle.std.proofs.Common.{◌≡◌, ℕ, ◌+◌, ◌<◌, true, false, List, [], ◌∷◌, ◌++◌, length, take, drop, get_or}
-use Rattle.std.proofs.Common.{None, Some, Ok, Err, codes, slice_set, refl, ap, sym, ◌∙◌}
-use Rattle.std.proofs.lemmas.List.{take-append-drop, take_more, drop_more}
+use Rattle.std.proofs.Common.{◌≡◌, ℕ, ◌+◌, ◌<◌, true, false, List, [], ◌∷◌, ◌++◌, length, take, drop, get_or, None}
+use Rattle.std.proofs.Common.{Some, Ok, Err, codes, slice_set, refl, ap, sym, ◌∙◌}
+use Rattle.std.proofs.lemmas.List.{take-append-drop, take_more}
 use Rattle.std.proofs.lemmas.List.Sums.{fold-append, fold_push}
 use Rattle.std.specs.List.{fold}
 use Rattle.std.specs.Option.{ok_or}
 use Rattle.std.specs.Prelude.{bytes_eq}
-use Rattle.dump_captures.specs.Arguments.{chooses_none, first_named, is_named, kind_named, then_name, with_name}
-use Rattle.dump_captures.specs.Arguments.{with_names}
+use Rattle.dump_captures.specs.Arguments.{chooses_none, kind_named, then_name, with_name, with_names}
 use Rattle.dump_captures.specs.Kinds.{kind_place}
 use Rattle.dump_captures.specs.declared.kind.Kind.{Kind}
 use Rattle.dump_captures.specs.declared.options.Only.{Only}
 use Rattle.dump_captures.proofs.Tallies.{changed_at-set}
 
 -- ---- the kind of a name
-
--- the first that is left has it
-pub first-named : (name : List ℕ) (kinds : List Kind) (i : ℕ) (d : Kind) → i < length kinds
-    → is_named name (get_or kinds i d) ≡ true → first_named name (drop i kinds) ≡ Some (get_or kinds i d)
-first-named name kinds i d within is = rw (drop_more kinds i d within, is) refl
-
--- or another one behind it
-pub first-other : (name : List ℕ) (kinds : List Kind) (i : ℕ) (d : Kind) → i < length kinds
-    → is_named name (get_or kinds i d) ≡ false
-    → first_named name (drop i kinds) ≡ first_named name (drop (i + 1) kinds)
-first-other name kinds i d within other = rw (drop_more kinds i d within, other) refl
 
 -- ---- one name
 

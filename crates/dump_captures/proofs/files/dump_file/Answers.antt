@@ -1,7 +1,5 @@
 -- The standard input, a file, or none.
-use Rattle.std.proofs.Common.{◌∙◌, [], refl, sym}
-use Rattle.listing.proofs.Printing.{gains_none}
-use Rattle.dump_captures.specs.Files.{unopened}
+use Rattle.std.proofs.Common.{◌∙◌, sym}
 use Rattle.dump_captures.proofs.EachFile.{known-file}
 use Rattle.dump_captures.proofs.files.dump_file.Goals as goal
 
@@ -14,6 +12,3 @@ pub returns-in-Ok : goal.returns-in-Ok
 returns-in-Ok g c =
     rw (sym c.eq.ensures ∙ c.if-eq.false)
     (known-file _ _ _ _ _ _ _ _ c.in-Ok.ensures (rw c.start_counts.ensures at c.dump_input-in-Ok.ensures))
-
-pub returns-in-Err : goal.returns-in-Err
-returns-in-Err g c = ([], unopened refl c.start_counts.ensures refl, gains_none _)

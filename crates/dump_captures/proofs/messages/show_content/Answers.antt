@@ -1,7 +1,4 @@
 -- Each by its own function.
-use Rattle.std.proofs.Common.{refl, Some}
-use Rattle.dump_captures.specs.Messages.{IsRefusal, refusal_text}
-use Rattle.dump_captures.proofs.Printing.{gained_one}
 use Rattle.dump_captures.proofs.messages.show_content.Goals as goal
 
 pub returns-in-Icmp4 : goal.returns-in-Icmp4
@@ -21,10 +18,3 @@ returns-in-Mdns g c = rw c.in-Mdns.is c.show_dns-in-Mdns.ensures
 
 pub returns-in-Dhcp : goal.returns-in-Dhcp
 returns-in-Dhcp g c = rw c.in-Dhcp.is c.show_dhcp.ensures
-
-pub returns-in-Refused : goal.returns-in-Refused
-returns-in-Refused g c =
-    let reason = c.in-Refused.reason in
-    let refusal = c.in-Refused.refusal in
-    rw c.in-Refused.is
-    (gained_one _ _ _ (IsRefusal reason refusal) (refusal_text refusal) (Some reason) (refl, refl) c.refuse.ensures)

@@ -1,7 +1,7 @@
 -- Each turn prints a tab and one name more.
 use Rattle.std.proofs.Common.{ℕ, List, ◌++◌, codes, arith}
 use Rattle.std.proofs.lemmas.List.{take_all}
-use Rattle.listing.proofs.Printing.{◌then◌, gained, gains_none, gains_both, one_more}
+use Rattle.listing.proofs.Printing.{◌then◌, gained, gains_both, one_more}
 use Rattle.dump_captures.specs.Kinds.{reasons, reason_text}
 use Rattle.dump_captures.specs.declared.kind.Reason.{Reason}
 use Rattle.dump_captures.specs.declared.kind.Reason.TheVariants.{Cut}
@@ -9,9 +9,6 @@ use Rattle.dump_captures.proofs.table.show_reasons.Goals as goal
 
 abbrev with_tab : Reason → List ℕ
 with_tab reason = codes "\t" ++ reason_text reason
-
-pub loop-reason-init : goal.loop-reason-init
-loop-reason-init g c = gains_none _
 
 pub loop-reason-preserved : goal.loop-reason-preserved
 loop-reason-preserved g c =

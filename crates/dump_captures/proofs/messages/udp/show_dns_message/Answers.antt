@@ -1,6 +1,5 @@
 -- What the message prints, and after it why it is not listed to its end, if it is not.
-use Rattle.std.proofs.Common.{None, Some, false, refl, sym}
-use Rattle.std.proofs.lemmas.List.{append-nil}
+use Rattle.std.proofs.Common.{Some, false, refl}
 use Rattle.listing.specs.ListingMessage.{MessagePrints}
 use Rattle.dump_captures.specs.Messages.{IsMessageRefusal, DnsPrints, margin, refusal_text}
 use Rattle.dump_captures.specs.Refusals.{reason_of}
@@ -26,17 +25,3 @@ returns-in-Some g c =
     (rw c.in-Some.is at c.in_ok-unread.ensures)
     (gained_one _ _ c.refuse_message.result (IsMessageRefusal refusal) (refusal_text refusal)
     (Some (reason_of false refusal)) (refl, refl) c.refuse_message.ensures)
-
-pub returns-in-None : goal.returns-in-None
-returns-in-None g c =
-    let printed = rw c.in-None.is at c.in_ok-unread.ensures in (
-      printed.0,
-      record {
-        listed = printed.0;
-        unread = None;
-        prints = printed.1;
-        why_is = refl;
-        text_is = sym (append-nil printed.0);
-      },
-      printed.2,
-    )
