@@ -4,8 +4,7 @@ use Rattle.std.proofs.Common.{arith, add-zero, add-one, add-suc, add_assoc, lt-l
 use Rattle.std.proofs.lemmas.Bool.{le-ltb, eqb-true, eqb-false}
 use Rattle.std.specs.Prelude.{◌==◌, ◌&&◌, ◌||◌, not, nat_lt, if◌then◌else◌}
 use Rattle.capture.specs.Calendar.{is_leap, month_days, date, next_date, date_of}
-use Rattle.capture.specs.private.Parts.{days_of_months, year_days}
-use Rattle.capture.specs.private.Parts.{days_of_years}
+use Rattle.capture.specs.private.Parts.{days_of_months, year_days, days_of_years}
 use Rattle.capture.specs.Types.{Date}
 
 -- ---- days

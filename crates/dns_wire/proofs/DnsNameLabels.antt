@@ -174,11 +174,6 @@ same_labels_after old new other after result answer bytes (l ∷ ls) gives also 
     let same : l ≡ bytes = cc in
     (cc, (ls, x.1, y.1))
 
-no_fault : (old new : Walk) (result : Option (Result (Bor (List ℕ)) Error)) (labels : List (List ℕ))
-    → GivesFirst old result new → answer_of result ≡ fault → Gives old.ahead labels → ⊥
-no_fault old new result [] gives e g = let f = end_at_none old new result gives g in cc
-no_fault old new result (l ∷ ls) gives e g = let f = (label_first old new result l ls gives g).0 in cc
-
 pub same_after : (old new other after : Walk) (result answer : Option (Result (Bor (List ℕ)) Error)) (bytes : List ℕ)
     → GivesFirst old result new → GivesFirst other answer after → answer_of result ≡ label bytes
     → GiveSame old.ahead other.ahead → (answer_of answer ≡ label bytes) × GiveSame new.ahead after.ahead
@@ -191,7 +186,3 @@ pub same_at_end : (old new other after : Walk) (result answer : Option (Result (
 same_at_end old new other after result answer gives also e (labels, g, h) =
     let none = gives_one old.ahead labels [] g (none_at_end old new result gives e) in
     end_at_none other after answer also (subst (λ ls. Gives other.ahead ls) none h)
-
-pub same_no_fault : (old new : Walk) (other : List Coming) (result : Option (Result (Bor (List ℕ)) Error))
-    → GivesFirst old result new → answer_of result ≡ fault → GiveSame old.ahead other → ⊥
-same_no_fault old new other result gives e (labels, g, h) = no_fault old new result labels gives e g

@@ -1,6 +1,5 @@
 -- What a control packet prints below its heading, each line after two spaces, and why it is refused if it is.
-use Rattle.std.specs.Prelude.{◌≡◌, ℕ, Bool, true, false, List, [], ◌++◌}
-use Rattle.std.specs.Prelude.{Option, None, Some, codes}
+use Rattle.std.specs.Prelude.{◌≡◌, ℕ, Bool, true, false, List, [], ◌++◌, Option, None, Some, codes}
 use Rattle.std.specs.Option.{option_map}
 use Rattle.wirebase.specs.Bytes.{bytes_of}
 use Rattle.wirebase.specs.Capabilities.{all_of}

@@ -1,6 +1,5 @@
 -- The table of counts.
-use Rattle.std.specs.Prelude.{ℕ, ◌||◌, false, if◌then◌else◌, List, [], ◌++◌, get_or}
-use Rattle.std.specs.Prelude.{codes, decimal, flat_map}
+use Rattle.std.specs.Prelude.{ℕ, ◌||◌, false, if◌then◌else◌, List, [], ◌++◌, get_or, codes, decimal, flat_map}
 use Rattle.dump_captures.specs.Kinds.{kinds, kind_text, kind_place, reasons, reason_text}
 use Rattle.dump_captures.specs.Tally.{TallyValue, no_row}
 use Rattle.dump_captures.specs.declared.kind.Kind.{Kind}

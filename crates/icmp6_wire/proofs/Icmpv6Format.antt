@@ -1,6 +1,5 @@
 -- The format of messages: what was read is canonical, and a normal form has the text of its value.
-use Rattle.std.proofs.Common.{◌≡◌, ℕ, ◌<◌, ◌≤◌, Bool, true, false, List, length, refl, ap}
-use Rattle.std.proofs.Common.{arith}
+use Rattle.std.proofs.Common.{◌≡◌, ℕ, ◌<◌, ◌≤◌, Bool, true, false, List, length, refl, ap, arith}
 use Rattle.std.proofs.lemmas.List.{length-drop}
 use Rattle.icmp6_wire.specs.Words.{IsBytes, byte_of, fields, SameText, code_field, data_in, next_header_field, IsHeader}
 use Rattle.icmp6_wire.specs.Words.{ChecksumCapabilities, Ipv6Address, Ipv6Repr, DstUnreachable, ParamProblem}

@@ -15,10 +15,8 @@ use Rattle.icmp6_wire.specs.Words.{part, byte_of, number_of, RecordRefusal}
 use Rattle.wirebase.proofs.Checks.{fails_one}
 use Rattle.icmp6_wire.specs.MldRecord.{aux_data_len_field, num_srcs_field, record_len_in, record_checks}
 use Rattle.icmp6_wire.specs.MldRefusal.{RefusesRecord}
-use Rattle.icmp6_wire.specs.MldIterators.{Answer, AreRecords, ends, goes_on, breaks}
-use Rattle.icmp6_wire.specs.private.MldIterators.{first_refusal, after_record}
-use Rattle.icmp6_wire.specs.MldIterators.{AreSources}
-use Rattle.icmp6_wire.specs.private.MldIterators.{records_ahead, sources_ahead, sources_in}
+use Rattle.icmp6_wire.specs.MldIterators.{Answer, AreRecords, ends, goes_on, breaks, AreSources}
+use Rattle.icmp6_wire.specs.private.MldIterators.{first_refusal, after_record, records_ahead, sources_ahead, sources_in}
 
 -- an answer that is taken off leaves fewer
 pub first_off : {X A : Type 0} (old new : List X) (first : X) (given : A) → old ≡ first ∷ new

@@ -1,7 +1,6 @@
 -- The format of messages of neighbor discovery: bytes have one value, and what was read is canonical and its own normal
 -- form.
-use Rattle.std.proofs.Common.{◌≡◌, ℕ, ◌*◌, ◌<◌, ◌≤◌, ◌^◌, List, [], ◌∷◌, ◌++◌, length, refl, sym, ap, subst, ◌∙◌}
-use Rattle.std.proofs.Common.{arith}
+use Rattle.std.proofs.Common.{◌≡◌, ℕ, ◌*◌, ◌<◌, ◌≤◌, ◌^◌, List, [], ◌∷◌, ◌++◌, length, refl, sym, ap, subst, ◌∙◌, arith}
 use Rattle.std.specs.Prelude.{Option, None, Some}
 use Rattle.std.specs.List.{AllByRecursion}
 use Rattle.std.specs.Option.{option_map, option_or}
@@ -11,8 +10,7 @@ use Rattle.icmp6_wire.specs.Words.{whole_seconds, SameText, type_field, last_of,
 use Rattle.icmp6_wire.specs.Words.{prefix_information}
 use Rattle.icmp6_wire.specs.Words.{redirected, mtu, filled, Duration, PrefixInformation, NeighborFlags, RouterFlags}
 use Rattle.wirebase.proofs.ByteParts.{IsBytes-drop, IsBytes-front, IsBytes-rest, number_of-small}
-use Rattle.wirebase.proofs.Durations.{same_duration, millis-times, seconds-times}
-use Rattle.wirebase.proofs.Durations.{whole_millis-read, whole_seconds-read}
+use Rattle.wirebase.proofs.Durations.{same_duration, millis-times, seconds-times, whole_millis-read, whole_seconds-read}
 use Rattle.wirebase.proofs.Format.{IsFormat, round_trips, same_text}
 use Rattle.wirebase.proofs.Ipv6Header.{same_address}
 use Rattle.wirebase.proofs.Pieces.{over-exact}

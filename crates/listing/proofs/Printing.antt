@@ -1,8 +1,7 @@
 -- What an output gains in several writes.
 use Rattle.listing.proofs.Words.{◌≡◌, ◌+◌, ◌<◌, [], ◌∷◌, ◌++◌, Err, Gains, GainsSome, IsListingOrRefused, List, Ok}
 use Rattle.listing.proofs.Words.{OnOk, Option, Result, ℕ, ap, append-nil, codes, flat_map-append, get_or, inl, inr}
-use Rattle.listing.proofs.Words.{length, line, map, refl, subst, take, take_more}
-use Rattle.std.proofs.lemmas.List.{map-append}
+use Rattle.listing.proofs.Words.{length, line, refl, subst, take, take_more}
 use Rattle.std.specs.Prelude.{flat_map}
 use Rattle.std.proofs.KnownBytes.{Appends-nil, Appends-trans}
 use Rattle.std.specs.Io.KnownBytes.{Appends}
@@ -111,12 +110,3 @@ pub one_more : {X : Type 0} (listing : X → List ℕ) (xs : List X) (i : ℕ) (
 one_more listing xs i d h =
     rw (take_more xs i d h, flat_map-append)
     (ap (λ more. flat_map listing (take i xs) ++ more) (append-nil _))
-
--- each element of such a list, printed by its value
-pub one_more_listed : {X Y : Type 0} (value : X → Y) (listing : Y → List ℕ) (xs : List X) (i : ℕ) (d : X)
-    → i < length xs
-    → flat_map listing (map value (take (i + 1) xs)) ≡ flat_map listing (map value (take i xs))
-    ++ listing (value (get_or xs i d))
-one_more_listed value listing xs i d h =
-    rw (take_more xs i d h, map-append, flat_map-append)
-    (ap (λ more. flat_map listing (map value (take i xs)) ++ more) (append-nil _))

@@ -1,8 +1,7 @@
 -- What the walk over a name prints, an answer at a time.
-use Rattle.listing.proofs.Words.{◌≡◌, ◌<◌, [], ◌∷◌, ◌++◌, Err, List, None, Ok, Option, Result, Some, ℕ, answers_listing}
-use Rattle.listing.proofs.Words.{ap, arith, codes, field, length, line, octets_text, refl, slice_get}
+use Rattle.listing.proofs.Words.{◌≡◌, [], ◌∷◌, ◌++◌, List, Ok, Option, Result, Some, ℕ, answers_listing}
+use Rattle.listing.proofs.Words.{ap, line, octets_text, refl, slice_get}
 use Rattle.std.specs.Borrow.{Bor}
-use Rattle.std.specs.Prelude.{decimal}
 use Rattle.wirebase.specs.declared.error.Error.{Error}
 use Rattle.dns_wire.specs.DnsNameWalk.{Coming, Walk, GivesFirst, answer_of}
 
@@ -13,27 +12,8 @@ first_listing : (ahead : List Coming) (result : Option (Result (Bor (List ℕ)) 
 first_listing [] result steps first = absurd (cc first)
 first_listing (c ∷ cs) result steps first = (cs, ap (λ c. c ∷ cs) (cc first))
 
-module _ (old new : Walk) where
-  pub listing-label : (octets : Bor (List ℕ)) → GivesFirst old (Some (Ok octets)) new
-      → answers_listing old.ahead ≡ line (octets_text octets.now) ++ answers_listing new.ahead
-  listing-label octets gives =
-      let cut = first_listing old.ahead (Some (Ok octets)) new.steps gives.first in
-      rw (gives.rest, cut.1) refl
-
-  pub fewer-label : (octets : Bor (List ℕ)) → GivesFirst old (Some (Ok octets)) new
-      → length new.ahead < length old.ahead
-  fewer-label octets gives =
-      let cut = first_listing old.ahead (Some (Ok octets)) new.steps gives.first in
-      rw (gives.rest, cut.1) (omega arith)
-
-  pub listing-fault : (e : Error) → GivesFirst old (Some (Err e)) new
-      → answers_listing old.ahead ≡ field (codes "error steps") (decimal new.steps)
-  listing-fault e gives =
-      let cut = first_listing old.ahead (Some (Err e)) new.steps gives.first in
-      rw cut.1 refl
-
-  pub listing-end : GivesFirst old None new
-      → answers_listing old.ahead ≡ field (codes "end steps") (decimal new.steps)
-  listing-end gives =
-      let cut = first_listing old.ahead None new.steps gives.first in
-      rw cut.1 refl
+pub listing-label : (old new : Walk) (octets : Bor (List ℕ)) → GivesFirst old (Some (Ok octets)) new
+    → answers_listing old.ahead ≡ line (octets_text octets.now) ++ answers_listing new.ahead
+listing-label old new octets gives =
+    let cut = first_listing old.ahead (Some (Ok octets)) new.steps gives.first in
+    rw (gives.rest, cut.1) refl

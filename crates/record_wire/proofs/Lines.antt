@@ -9,10 +9,8 @@ use Rattle.record_wire.specs.declared.line.Before.{Before}
 use Rattle.record_wire.specs.declared.name.refusal.NameRefusal.{NameRefusal}
 use Rattle.record_wire.specs.declared.text.refusal.TextRefusal.{TextRefusal}
 use Rattle.record_wire.specs.FieldsText.{IsSecondText}
-use Rattle.record_wire.specs.Lines.{PutsSome, QuestionPuts, RecordPuts}
-use Rattle.record_wire.specs.private.Lines.{DataPuts, NamedPuts, RefusesData}
-use Rattle.record_wire.specs.Lines.{line_behind}
-use Rattle.record_wire.specs.private.Lines.{asked_line, numbers_text, owner_front}
+use Rattle.record_wire.specs.Lines.{PutsSome, QuestionPuts, RecordPuts, line_behind}
+use Rattle.record_wire.specs.private.Lines.{DataPuts, NamedPuts, RefusesData, asked_line, numbers_text, owner_front}
 use Rattle.record_wire.specs.Mnemonics.{class_text}
 use Rattle.record_wire.specs.private.NameReads.{NameReads}
 use Rattle.record_wire.specs.NameRefusal.{HasName}

@@ -10,9 +10,8 @@ use Rattle.std.proofs.lemmas.Bool.{and_parts}
 use Rattle.std.proofs.lemmas.Grind.{take-set_at}
 use Rattle.std.proofs.lemmas.Fmt.{IsAscii-decimal}
 use Rattle.std.proofs.lemmas.Str.{IsAscii-append}
-use Rattle.record_wire.specs.Escapes.{escaped, has_meaning, is_visible}
+use Rattle.record_wire.specs.Escapes.{escaped, has_meaning, is_visible, written_by}
 use Rattle.record_wire.specs.private.Escapes.{hidden_text, is_plain, is_set, plain_table}
-use Rattle.record_wire.specs.Escapes.{written_by}
 use Rattle.record_wire.specs.declared.escapes.Escaping.{Escaping}
 use Rattle.wirebase.specs.Sink.{PutsText}
 use Rattle.wirebase.proofs.Sinks.{put_both}

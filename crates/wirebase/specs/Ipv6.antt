@@ -15,8 +15,7 @@
 -- |                destination address, 16 bytes                  |
 -- |                                                               |
 -- +---------------------------------------------------------------+
-use Rattle.std.specs.Prelude.{◌≡◌, ◌≢◌, ℕ, ◌+◌, ◌/◌, ◌<◌, ◌≤◌, List, [], ◌∷◌, ◌++◌, codes, decimal}
-use Rattle.std.specs.Prelude.{length}
+use Rattle.std.specs.Prelude.{◌≡◌, ◌≢◌, ℕ, ◌+◌, ◌/◌, ◌<◌, ◌≤◌, List, [], ◌∷◌, ◌++◌, codes, decimal, length}
 use Rattle.std.specs.Borrow.{Bor}
 use Rattle.wirebase.specs.Bytes.{Field, field, Reaches, bytes_of, byte_of, number_of}
 use Rattle.wirebase.specs.ByteWriter.{be8, be16, be32, fields}
