@@ -6,8 +6,8 @@ use Rattle.std.proofs.lemmas.Bool.{eqb-true}
 use Rattle.std.proofs.lemmas.List.{append-nil, nil_from_length}
 use Rattle.std.specs.Prelude.{◌==◌, map}
 use Rattle.std.specs.Io.KnownBytes.{Keeps}
-use Rattle.listing.specs.Output.{Gains, GainsSome}
-use Rattle.listing.proofs.Printing.{gains_none, gains_both}
+use Rattle.packet_fields.specs.Output.{Gains, GainsSome}
+use Rattle.packet_fields.proofs.Printing.{gains_none, gains_both}
 use Rattle.dump_captures.specs.Files.{FilePrints, unopened, opened, FilesPrint, counts_before, names_of, several}
 use Rattle.dump_captures.specs.Files.{standard, title, end_text, RunPrints}
 use Rattle.dump_captures.specs.Tally.{TallyValue, empty}

@@ -1,8 +1,8 @@
 -- What an output gains where a packet is listed or refused.
 use Rattle.std.proofs.Common.{◌≡◌, ℕ, List, [], ◌++◌, Option, None, Some, Result, Ok, Err, IfOk, false, refl}
 use Rattle.listing.specs.Indented.{indented}
-use Rattle.listing.specs.Output.{Gains, GainsSome}
-use Rattle.listing.proofs.Printing.{gains_both}
+use Rattle.packet_fields.specs.Output.{Gains, GainsSome}
+use Rattle.packet_fields.proofs.Printing.{gains_both}
 use Rattle.dump_captures.specs.Messages.{refusal_text, ListsOrRefuses, lists, refuses, Indents}
 use Rattle.dump_captures.specs.Refusals.{reason_of}
 use Rattle.dump_captures.specs.declared.kind.Reason.{Reason}

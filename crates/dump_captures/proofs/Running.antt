@@ -7,8 +7,8 @@ use Rattle.capture.specs.declared.capture.Next.TheVariants as next
 use Rattle.capture.specs.declared.capture.Stage.TheVariants.{Start}
 use Rattle.capture.specs.declared.capture.Record.{Record}
 use Rattle.capture.specs.declared.ending.Ending.{Ending}
-use Rattle.listing.specs.Output.{Gains, GainsSome}
-use Rattle.listing.proofs.Printing.{gains_none, gains_both}
+use Rattle.packet_fields.specs.Output.{Gains, GainsSome}
+use Rattle.packet_fields.proofs.Printing.{gains_none, gains_both}
 use Rattle.dump_captures.specs.Dump.{PacketPrints, PacketsPrint, InputPrints}
 use Rattle.dump_captures.specs.Tally.{TallyValue, counted}
 use Rattle.dump_captures.specs.declared.options.Options.{Options}

@@ -6,8 +6,8 @@ use Rattle.std.proofs.lemmas.Grind.{flat_map-append}
 use Rattle.std.proofs.lemmas.List.{append-nil, take_all, take_more}
 use Rattle.std.proofs.lemmas.List.Sums.{fold_more}
 use Rattle.std.specs.Prelude.{flat_map, if◌then◌else◌}
-use Rattle.listing.proofs.Printing.{gains_both}
-use Rattle.listing.specs.Output.{Gains}
+use Rattle.packet_fields.proofs.Printing.{gains_both}
+use Rattle.packet_fields.specs.Output.{Gains}
 use Rattle.dump_captures.specs.Kinds.{reason_text}
 use Rattle.dump_captures.specs.Summary.{in_brackets, reason_parts, refused_for, sum_up}
 use Rattle.dump_captures.specs.Tally.{TallyValue, more_by}

@@ -1,7 +1,7 @@
 //! The files of a run, one after another, and the status at the end.
 
 ghost use Rattle.std.specs.Prelude.{◌≡◌, ℕ, List, Option, Some, IfOk, IfSome, OnOk, length, map, nat_lt, string_bytes};
-ghost use Rattle.listing.specs.Output.{Gains, GainsSome};
+ghost use Rattle.packet_fields.specs.Output.{Gains, GainsSome};
 ghost use Rattle.dump_captures.specs.Files.{bytes_of_name, counts_before, ending_status, FilePrints, FilesPrint};
 ghost use Rattle.dump_captures.specs.Files.{end_text, names_of, title, RunPrints};
 ghost use Rattle.dump_captures.specs.Tally.{tally_of};

@@ -1,13 +1,13 @@
 //! The heading of a control packet.
 
-#![tactic(auto, using(listing::proofs::Printing::gained, listing::proofs::Printing::gains_both))]
+#![tactic(auto, using(packet_fields::proofs::Printing::gained, packet_fields::proofs::Printing::gains_both))]
 
 ghost use Rattle.std.specs.Prelude.{◌≡◌, ◌<◌, ◌≤◌, IfSome, OnOk, Some, length};
 ghost use Rattle.std.specs.Option.{option_map};
 ghost use Rattle.frame_wire.specs.declared.datagram.Addresses.TheVariants.{V4, V6};
 ghost use Rattle.capture.specs.Capture.{packet_of};
 ghost use Rattle.capture.specs.Time.{value_of};
-ghost use Rattle.listing.specs.Output.{Gains};
+ghost use Rattle.packet_fields.specs.Output.{Gains};
 ghost use Rattle.dump_captures.specs.Heading.{heading, packet_time, addresses_text, source_port as source_in};
 ghost use Rattle.dump_captures.specs.Heading.{destination_port as destination_in, tag_text, tags_text, hop_by_hop_text};
 ghost use Rattle.dump_captures.specs.Sight.{headers_of};
@@ -16,7 +16,7 @@ use crate::sight::Headers;
 use crate::time::Clock;
 use capture::{Record, Time};
 use frame_wire::Addresses;
-use listing::output::ToWriter;
+use packet_fields::output::ToWriter;
 use listing::printer::{Value, line};
 use std::io;
 use std::io::Write;

@@ -1,6 +1,6 @@
 //! The lines of a control packet below its heading, each after two spaces.
 
-#![tactic(auto, using(listing::proofs::Printing::gained, listing::proofs::Printing::gains_both))]
+#![tactic(auto, using(packet_fields::proofs::Printing::gained, packet_fields::proofs::Printing::gains_both))]
 
 mod icmp;
 mod udp;
@@ -8,7 +8,7 @@ mod udp;
 ghost use Rattle.std.specs.Prelude.{◌≡◌, OnOk, IfOk, None, Some, false};
 ghost use Rattle.std.specs.Option.{option_map};
 ghost use Rattle.listing.specs.Indented.{indented};
-ghost use Rattle.listing.specs.Output.{Gains, GainsSome};
+ghost use Rattle.packet_fields.specs.Output.{Gains, GainsSome};
 ghost use Rattle.dump_captures.specs.Messages.{refusal_text, OptionsPrint, ContentPrints, ListingPrints};
 ghost use Rattle.dump_captures.specs.Refusals.{reason_of};
 ghost use Rattle.dump_captures.specs.Sight.{headers_of, content_of};

@@ -3,7 +3,7 @@
 ghost use Rattle.std.specs.Prelude.{◌≡◌, ◌<◌, ℕ, List, Option, [], IfOk, IfSome, OnOk};
 ghost use Rattle.capture.specs.Capture.{packet_of};
 ghost use Rattle.std.specs.Io.Buffered.{reader_remaining};
-ghost use Rattle.listing.specs.Output.{Gains, GainsSome};
+ghost use Rattle.packet_fields.specs.Output.{Gains, GainsSome};
 ghost use Rattle.dump_captures.specs.Dump.{PacketPrints, CapturePrints, InputPrints, outcome_of};
 ghost use Rattle.dump_captures.specs.Messages.{ListingPrints};
 ghost use Rattle.dump_captures.specs.Sight.{headers_of, content_of, kind_in, IsSight, control};

@@ -1,9 +1,9 @@
 //! The line that sums up a capture.
 
-#![tactic(auto, using(listing::proofs::Printing::gained, listing::proofs::Printing::gains_both))]
+#![tactic(auto, using(packet_fields::proofs::Printing::gained, packet_fields::proofs::Printing::gains_both))]
 
 ghost use Rattle.std.specs.Prelude.{◌≡◌, ◌++◌, OnOk, codes, decimal, if◌then◌else◌};
-ghost use Rattle.listing.specs.Output.{Gains};
+ghost use Rattle.packet_fields.specs.Output.{Gains};
 ghost use Rattle.dump_captures.specs.Kinds.{reason_text};
 ghost use Rattle.dump_captures.specs.Summary.{listed_in, refused_for, refused_in};
 ghost use Rattle.dump_captures.specs.Summary.{summary_text, reasons_text, link_text, links_text, further_text};

@@ -1,9 +1,9 @@
 //! The table of counts.
 
-#![tactic(auto, using(listing::proofs::Printing::gained, listing::proofs::Printing::gains_both))]
+#![tactic(auto, using(packet_fields::proofs::Printing::gained, packet_fields::proofs::Printing::gains_both))]
 
 ghost use Rattle.std.specs.Prelude.{OnOk};
-ghost use Rattle.listing.specs.Output.{Gains};
+ghost use Rattle.packet_fields.specs.Output.{Gains};
 ghost use Rattle.dump_captures.specs.Table.{table_text, head_text, reason_names, rows_text, chosen_text, row_text};
 ghost use Rattle.dump_captures.specs.Table.{with_tabs};
 ghost use Rattle.dump_captures.specs.Tally.{tally_of};

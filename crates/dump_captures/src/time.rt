@@ -1,15 +1,15 @@
 //! Times of packets, as RFC 3339 writes them in UTC.
 
-#![tactic(auto, using(listing::proofs::Printing::gained, listing::proofs::Printing::gains_both, listing::proofs::Printing::put))]
+#![tactic(auto, using(packet_fields::proofs::Printing::gained, packet_fields::proofs::Printing::gains_both, packet_fields::proofs::Printing::put))]
 
 ghost use Rattle.std.specs.Prelude.{◌≡◌, ◌+◌, ◌/◌, ◌%◌, ◌++◌, OnOk};
 ghost use Rattle.capture.specs.Calendar.{date_of as date_after};
-ghost use Rattle.listing.specs.Output.{Gains};
+ghost use Rattle.packet_fields.specs.Output.{Gains};
 ghost use Rattle.dump_captures.specs.TimeText.{time_of_day_text, time_text};
 ghost use Rattle.dump_captures.specs.private.Parts.{kept_text};
 
 use capture::calendar::{Date, date_of};
-use listing::output::ToWriter;
+use packet_fields::output::ToWriter;
 use std::io;
 use std::io::Write;
 use wirebase::text::{last_digit, nine_digits, put_number, two_digits};

@@ -12,8 +12,8 @@ use Rattle.dump_lines.specs.private.Parts.{ShowsFirst}
 use Rattle.dump_lines.proofs.Parts.{strip_last-more}
 use Rattle.dump_lines.specs.Listing.{Shape, line_shape, lines_of, shapes_of, is_known, are_known, LinePrints}
 use Rattle.dump_lines.specs.Listing.{LinesPrint}
-use Rattle.listing.specs.Output.{Gains, GainsSome}
-use Rattle.listing.proofs.Printing.{gains_none, gains_both}
+use Rattle.packet_fields.specs.Output.{Gains, GainsSome}
+use Rattle.packet_fields.proofs.Printing.{gains_none, gains_both}
 
 take_through-some : (x : ℕ) (xs : List ℕ) → (n : ℕ) × (length (take_through 10 (x ∷ xs)) ≡ suc n)
 take_through-some x xs =

@@ -1,7 +1,7 @@
 //! The commands: how the word before a packet tells to read it.
 
 ghost use Rattle.std.specs.Prelude.{◌≡◌, OnOk, map};
-ghost use Rattle.listing.specs.Output.{GainsSome};
+ghost use Rattle.packet_fields.specs.Output.{GainsSome};
 
 use crate::words::{is_word, read_address, read_offset};
 use listing::dhcp::show_dhcp;

@@ -1,7 +1,7 @@
 //! What a line prints.
 
 ghost use Rattle.std.specs.Prelude.{◌≡◌, ◌⊎◌, [], OnOk, IfOk, IfErr};
-ghost use Rattle.listing.specs.Output.{GainsSome};
+ghost use Rattle.packet_fields.specs.Output.{GainsSome};
 ghost use Rattle.dump_lines.specs.Listing.{LinePrints, is_known};
 ghost use Rattle.dump_lines.specs.PartialLines.{shape_from};
 ghost use Rattle.dump_lines.specs.Shapes.{seen};

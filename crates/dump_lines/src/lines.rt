@@ -2,7 +2,7 @@
 
 ghost use Rattle.std.specs.Prelude.{◌≡◌, [], IfOk, OnOk, IfSome};
 ghost use Rattle.std.specs.Io.Buffered.{reader_remaining};
-ghost use Rattle.listing.specs.Output.{Gains, GainsSome};
+ghost use Rattle.packet_fields.specs.Output.{Gains, GainsSome};
 ghost use Rattle.dump_lines.specs.private.Parts.{ShowsFirst};
 ghost use Rattle.dump_lines.specs.Listing.{LinesPrint, are_known, shapes_of};
 ghost use Rattle.dump_lines.specs.Status.{status_of};
@@ -148,7 +148,7 @@ fn show_part<R: Read, W: Write>(
 }
 
 // Writes out the output, where the next look at an input has to wait for more of it.
-#[tactic(auto, using(listing::proofs::Printing::gains_none))]
+#[tactic(auto, using(packet_fields::proofs::Printing::gains_none))]
 fn write_out_before_wait<R: Read, W: Write>(
     input: &BufReader<R>,
     output: &mut W,

@@ -9,7 +9,7 @@ use Rattle.record_wire.specs.Entries.{EntryValue, Left, IsNext, IsBroken, Refuse
 use Rattle.listing.specs.ListingMessage.{header_listing, EntryPrints, EntriesPrint, is_listed, is_unread, MessagePrints}
 use Rattle.listing.specs.ListingMessage.{has_header, none_begins}
 use Rattle.listing.specs.private.ListingParts.{RefusesNext}
-use Rattle.listing.proofs.Printing.{gains_both}
+use Rattle.packet_fields.proofs.Printing.{gains_both}
 
 module _ (margin : List ℕ) (is_multicast : Bool) (message : List ℕ) where
   -- after what is done, what the entries that are left print is what all print

@@ -4,7 +4,7 @@ use Rattle.listing.proofs.Words.{Result, Unread, ℕ, options_listing, subst, sy
 use Rattle.record_wire.specs.Edns.{EdnsValue, IsEdns, Answer, Tile}
 use Rattle.record_wire.specs.NameRefusal.{HasName}
 use Rattle.listing.specs.ListingEdns.{OptPrints, says, sender_listing}
-use Rattle.listing.proofs.Printing.{gains_both}
+use Rattle.packet_fields.proofs.Printing.{gains_both}
 
 -- what it says of its sender, and then its options up to one that is cut
 pub opt_printed : {E : Type 0} (margin message : List ℕ) (r : RecordValue) (edns : EdnsValue)

@@ -10,11 +10,11 @@ use Rattle.record_wire.specs.NameRefusal.{RefusesName}
 use Rattle.record_wire.specs.Names.{Names}
 use Rattle.record_wire.specs.declared.name.refusal.NameRefusal.{NameRefusal}
 use Rattle.record_wire.specs.declared.text.refusal.TextRefusal.{TextRefusal}
-use Rattle.listing.specs.Output.{Appending}
+use Rattle.packet_fields.specs.Output.{Appending}
 use Rattle.listing.specs.ListingRecord.{QuestionPrints, RecordPrints, asks, asks_of_no_name, entry_line, has}
 use Rattle.listing.specs.ListingRecord.{has_no_text}
 use Rattle.listing.specs.ListingRecord.{line_end, question_line, record_line}
-use Rattle.listing.proofs.Printing.{calls_gain, gains_both}
+use Rattle.packet_fields.proofs.Printing.{calls_gain, gains_both}
 
 -- what was put was gained
 pub puts_gain : {W : Type 0} (contents : W → Option (List ℕ)) (a b : W) (Kind : List ℕ → Type 0)

@@ -16,7 +16,7 @@ pub use Rattle.listing.specs.Layout.{IsListingOrRefused}
 unfoldable pub use Rattle.listing.specs.Layout.{field, line, part_field}
 pub use Rattle.listing.specs.ListingDns.{answers_listing}
 pub use Rattle.listing.specs.ListingEdns.{options_listing, unread_option}
-pub use Rattle.listing.specs.Output.{Gains, GainsSome}
+pub use Rattle.packet_fields.specs.Output.{Gains, GainsSome}
 pub use Rattle.record_wire.specs.Entries.{all_of}
 pub use Rattle.record_wire.specs.Record.{RecordValue, record_of}
 pub use Rattle.wirebase.specs.Hexadecimal.{octets_text}

@@ -17,7 +17,6 @@ pub mod ListingNdopt
 pub mod ListingQuote
 pub mod ListingRecord
 pub mod ListingUnread
-pub mod Output
 pub mod Page
 pub mod Ports
 pub mod Words

@@ -1,6 +1,6 @@
 //! DHCP packets.
 
-#![tactic(auto, using(crate::proofs::Printing::gains_both))]
+#![tactic(auto, using(packet_fields::proofs::Printing::gains_both))]
 
 ghost use Rattle.std.specs.Prelude.{OnOk, codes};
 ghost use Rattle.std.specs.Option.{option_map};
@@ -10,7 +10,7 @@ ghost use Rattle.wirebase.specs.Hexadecimal.{octets_text};
 ghost use Rattle.listing.specs.Layout.{field as field_text, text_or_none};
 ghost use Rattle.listing.specs.ListingDhcp.{DhcpPrints, dhcp_listing, sender_listing, addresses_listing};
 ghost use Rattle.listing.specs.ListingDhcp.{request_listing, limits_listing, hardware_text, addresses_text};
-ghost use Rattle.listing.specs.Output.{Gains, GainsSome};
+ghost use Rattle.packet_fields.specs.Output.{Gains, GainsSome};
 
 use crate::printer::{Value, field, line};
 use arrayvec::ArrayVec;

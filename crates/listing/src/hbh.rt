@@ -1,11 +1,11 @@
 //! The options of an IPv6 hop-by-hop header.
 
-#![tactic(auto, using(crate::proofs::Printing::gains_none, crate::proofs::Printing::gains_both))]
+#![tactic(auto, using(packet_fields::proofs::Printing::gains_none, packet_fields::proofs::Printing::gains_both))]
 
 ghost use Rattle.std.specs.Prelude.{OnOk};
 ghost use Rattle.opt_wire.specs.Ipv6Option.{value_of};
 ghost use Rattle.listing.specs.ListingHbh.{HbhPrints, option_listing};
-ghost use Rattle.listing.specs.Output.{Gains, GainsSome};
+ghost use Rattle.packet_fields.specs.Output.{Gains, GainsSome};
 
 use crate::ndopt::show_unknown;
 use crate::printer::{field, line};

@@ -1,12 +1,12 @@
 //! ICMPv4 messages.
 
-#![tactic(auto, using(crate::proofs::Printing::gains_both))]
+#![tactic(auto, using(packet_fields::proofs::Printing::gains_both))]
 
 ghost use Rattle.std.specs.Prelude.{◌≡◌, OnOk, true};
 ghost use Rattle.icmp4_wire.specs.Icmpv4.{value_of};
 ghost use Rattle.listing.specs.Indented.{indented, is_of_one_line};
 ghost use Rattle.listing.specs.ListingIcmp4.{Icmp4Prints, icmp4_listing, echo_listing, error_listing, header_listing};
-ghost use Rattle.listing.specs.Output.{Gains, GainsSome};
+ghost use Rattle.packet_fields.specs.Output.{Gains, GainsSome};
 
 use crate::page::{MARGIN, Page, write_indented};
 use crate::printer::{field, line, part_field};
@@ -95,7 +95,7 @@ fn show_indented_other<W: Write>(
 }
 
 /// Prints an echo of either ICMP after its name, each line after two spaces. Requires that the name is of one line.
-#[tactic(auto, using(crate::proofs::Printing::gained, crate::proofs::Printing::gains_both))]
+#[tactic(auto, using(packet_fields::proofs::Printing::gained, packet_fields::proofs::Printing::gains_both))]
 pub fn show_indented_echo<W: Write>(
     output: &mut W,
     name: &str,

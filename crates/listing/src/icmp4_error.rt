@@ -1,12 +1,12 @@
 //! ICMPv4 errors, with what they quote.
 
-#![tactic(auto, using(crate::proofs::Printing::gains_both))]
+#![tactic(auto, using(packet_fields::proofs::Printing::gains_both))]
 
 ghost use Rattle.std.specs.Prelude.{◌≡◌, OnOk};
 ghost use Rattle.quote_wire.specs.Icmpv4Error.{IsDatagram, value_of};
 ghost use Rattle.listing.specs.ListingIcmp4Error.{kind_name, gateway_listing, rest_listing, icmp4_error_listing};
 ghost use Rattle.listing.specs.ListingIcmp4Error.{Icmp4ErrorPrints};
-ghost use Rattle.listing.specs.Output.{Gains, GainsSome};
+ghost use Rattle.packet_fields.specs.Output.{Gains, GainsSome};
 
 use crate::printer::part_field;
 use crate::quote::{show_head, show_ipv4_quote};

@@ -1,6 +1,6 @@
 //! ICMPv6 messages.
 
-#![tactic(auto, using(crate::proofs::Printing::gains_both))]
+#![tactic(auto, using(packet_fields::proofs::Printing::gains_both))]
 
 ghost use Rattle.std.specs.Prelude.{OnOk};
 ghost use Rattle.wirebase.specs.Capabilities.{all_of};
@@ -9,7 +9,7 @@ ghost use Rattle.icmp6_wire.specs.Icmpv6.{IsMessage, too_big, param_problem, val
 ghost use Rattle.listing.specs.Indented.{indented};
 ghost use Rattle.listing.specs.Layout.{IsListingOrRefused};
 ghost use Rattle.listing.specs.ListingIcmp6.{Icmp6Prints, icmp6_listing, error_listing, quote_listing};
-ghost use Rattle.listing.specs.Output.{Gains, GainsSome};
+ghost use Rattle.packet_fields.specs.Output.{Gains, GainsSome};
 
 use crate::icmp4::{show_echo, show_indented_echo};
 use crate::ipv6::show_header;

@@ -1,11 +1,11 @@
 //! ICMPv6 errors, with what they quote.
 
-#![tactic(auto, using(crate::proofs::Printing::gains_both))]
+#![tactic(auto, using(packet_fields::proofs::Printing::gains_both))]
 
 ghost use Rattle.std.specs.Prelude.{◌≡◌, OnOk};
 ghost use Rattle.quote_wire.specs.Icmpv6Error.{IsPacketFront, value_of};
 ghost use Rattle.listing.specs.ListingIcmp6Error.{kind_name, rest_listing, icmp6_error_listing, Icmp6ErrorPrints};
-ghost use Rattle.listing.specs.Output.{Gains, GainsSome};
+ghost use Rattle.packet_fields.specs.Output.{Gains, GainsSome};
 
 use crate::printer::part_field;
 use crate::quote::{show_head, show_ipv6_quote};

@@ -1,11 +1,11 @@
 //! IGMP messages.
 
-#![tactic(auto, using(crate::proofs::Printing::gains_both))]
+#![tactic(auto, using(packet_fields::proofs::Printing::gains_both))]
 
 ghost use Rattle.std.specs.Prelude.{OnOk};
 ghost use Rattle.icmp4_wire.specs.declared.igmp.repr.Repr.TheVariants.{MembershipQuery, MembershipReport};
 ghost use Rattle.listing.specs.ListingIgmp.{IgmpPrints, igmp_listing, version_text};
-ghost use Rattle.listing.specs.Output.{Gains, GainsSome};
+ghost use Rattle.packet_fields.specs.Output.{Gains, GainsSome};
 
 use crate::printer::{Value, field, line};
 use icmp4_wire::igmp::{IgmpVersion, Packet, Repr};

@@ -1,10 +1,10 @@
 //! IPv6 addresses and headers, which occur in messages of several formats.
 
-#![tactic(auto, using(crate::proofs::Printing::gains_both))]
+#![tactic(auto, using(packet_fields::proofs::Printing::gains_both))]
 
 ghost use Rattle.std.specs.Prelude.{OnOk};
 ghost use Rattle.listing.specs.ListingIpv6.{address_text, header_listing};
-ghost use Rattle.listing.specs.Output.{Gains};
+ghost use Rattle.packet_fields.specs.Output.{Gains};
 
 use crate::printer::{Value, part_field};
 use std::io;

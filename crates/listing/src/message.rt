@@ -1,6 +1,6 @@
 //! Whole messages of DNS (RFC 1035 section 4.1).
 
-#![tactic(auto, using(crate::proofs::Printing::gains_both))]
+#![tactic(auto, using(packet_fields::proofs::Printing::gains_both))]
 
 mod edns;
 mod header;
@@ -14,7 +14,7 @@ ghost use Rattle.record_wire.specs.Entries.{entry_of, all_of, record_in};
 ghost use Rattle.listing.specs.private.ListingParts.{RefusesNext};
 ghost use Rattle.record_wire.specs.Record.{record_of};
 ghost use Rattle.listing.specs.ListingMessage.{MessagePrints, EntryPrints, EntriesPrint};
-ghost use Rattle.listing.specs.Output.{GainsSome};
+ghost use Rattle.packet_fields.specs.Output.{GainsSome};
 
 use crate::message::edns::show_opt;
 use crate::message::header::show_header;

@@ -1,11 +1,11 @@
 //! Messages of multicast listener discovery.
 
-#![tactic(auto, using(crate::proofs::Printing::gains_both))]
+#![tactic(auto, using(packet_fields::proofs::Printing::gains_both))]
 
 ghost use Rattle.std.specs.Prelude.{OnOk};
 ghost use Rattle.icmp6_wire.specs.Mld.{query, report, value_of};
 ghost use Rattle.listing.specs.ListingMld.{MldPrints, mld_listing};
-ghost use Rattle.listing.specs.Output.{Gains, GainsSome};
+ghost use Rattle.packet_fields.specs.Output.{Gains, GainsSome};
 
 use crate::printer::{field, line};
 use icmp6_wire::icmpv6::Packet;

@@ -1,6 +1,6 @@
 //! Messages of neighbor discovery.
 
-#![tactic(auto, using(crate::proofs::Printing::gains_both))]
+#![tactic(auto, using(packet_fields::proofs::Printing::gains_both))]
 
 ghost use Rattle.std.specs.Prelude.{OnOk};
 ghost use Rattle.std.specs.Option.{option_map};
@@ -9,7 +9,7 @@ ghost use Rattle.icmp6_wire.specs.Ndisc.{router_solicit, value_of};
 ghost use Rattle.icmp6_wire.specs.NdiscOptionsSeen.{link_of, packet_of};
 ghost use Rattle.listing.specs.ListingNdisc.{ndisc_listing, router_listing, lladdr_listing};
 ghost use Rattle.listing.specs.ListingNdisc.{prefix_info_listing, redirected_hdr_listing};
-ghost use Rattle.listing.specs.Output.{Gains};
+ghost use Rattle.packet_fields.specs.Output.{Gains};
 
 use crate::ndopt::{show_prefix, show_redirected};
 use crate::printer::{field, line};

@@ -1,12 +1,12 @@
 //! Options of neighbor discovery.
 
-#![tactic(auto, using(crate::proofs::Printing::gains_both))]
+#![tactic(auto, using(packet_fields::proofs::Printing::gains_both))]
 
 ghost use Rattle.std.specs.Prelude.{IfOk, IsErr, OnOk};
 ghost use Rattle.opt_wire.specs.NdiscOptionRepr.{OptionValue, prefix_information, redirected, unknown, value_of};
 ghost use Rattle.opt_wire.specs.NdiscOptionRepr.{BeginsWith};
 ghost use Rattle.listing.specs.ListingNdopt.{NdoptPrints, ndopt_listing, prefix_listing, redirected_listing};
-ghost use Rattle.listing.specs.Output.{Gains, GainsSome};
+ghost use Rattle.packet_fields.specs.Output.{Gains, GainsSome};
 
 use crate::ipv6::show_header;
 use crate::printer::{field, line, part_field};

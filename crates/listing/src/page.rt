@@ -1,10 +1,10 @@
 //! Texts that are put together before they are written, and indented texts.
 
-#![tactic(auto, using(crate::proofs::Printing::gained, crate::proofs::Printing::gains_both))]
+#![tactic(auto, using(packet_fields::proofs::Printing::gained, packet_fields::proofs::Printing::gains_both))]
 
 ghost use Rattle.std.specs.Prelude.{◌≡◌, ◌<◌, ◌≤◌, [], ◌∷◌, OnOk, Some, length, take, drop};
 ghost use Rattle.listing.specs.Indented.{indented, lines_in};
-ghost use Rattle.listing.specs.Output.{Gains};
+ghost use Rattle.packet_fields.specs.Output.{Gains};
 
 use memchr::memchr;
 use std::alloc::Global;

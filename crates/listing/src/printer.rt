@@ -1,6 +1,6 @@
 //! Printing of values: names and fields, one a line.
 
-#![tactic(auto, using(crate::proofs::Printing::gained, crate::proofs::Printing::gains_both, crate::proofs::Printing::put_on_ok))]
+#![tactic(auto, using(packet_fields::proofs::Printing::gained, packet_fields::proofs::Printing::gains_both, packet_fields::proofs::Printing::put_on_ok))]
 
 ghost use Rattle.std.specs.Prelude.{ℕ, List, OnOk, decimal};
 ghost use Rattle.wirebase.specs.Ipv4.{address_text};
@@ -8,9 +8,9 @@ ghost use Rattle.listing.specs.Layout.{line as line_text, field as field_text, p
 ghost use Rattle.wirebase.specs.Hexadecimal.{octets_text};
 ghost use Rattle.wirebase.specs.Display.{truth_text};
 ghost use Rattle.listing.specs.Layout.{millis_text, text_or_none};
-ghost use Rattle.listing.specs.Output.{Gains};
+ghost use Rattle.packet_fields.specs.Output.{Gains};
 
-use crate::output::ToWriter;
+use packet_fields::output::ToWriter;
 use std::io;
 use std::io::Write;
 use wirebase::text::{put_number, put_octets, put_v4};

@@ -1,11 +1,11 @@
 //! Questions of DNS.
 
-#![tactic(auto, using(crate::proofs::Printing::gains_both))]
+#![tactic(auto, using(packet_fields::proofs::Printing::gains_both))]
 
 ghost use Rattle.std.specs.Prelude.{OnOk};
 ghost use Rattle.dns_wire.specs.DnsQuestion.{value_of};
 ghost use Rattle.listing.specs.ListingDns.{QuestionPrints, question_listing};
-ghost use Rattle.listing.specs.Output.{Gains, GainsSome};
+ghost use Rattle.packet_fields.specs.Output.{Gains, GainsSome};
 
 use crate::printer::{field, line};
 use dns_wire::dns::Question;

@@ -1,12 +1,12 @@
 //! What ICMP errors print of themselves, and of the datagram that they quote.
 
-#![tactic(auto, using(crate::proofs::Printing::gains_both))]
+#![tactic(auto, using(packet_fields::proofs::Printing::gains_both))]
 
 ghost use Rattle.std.specs.Prelude.{◌≡◌, Option, OnOk};
 ghost use Rattle.listing.specs.ListingQuote.{head_listing, quoted_field as quoted_field_text, ports_listing};
 ghost use Rattle.listing.specs.ListingQuote.{ipv4_ports, fragment_listing, ipv4_path_listing, ipv4_quote_listing};
 ghost use Rattle.listing.specs.ListingQuote.{flow_listing, ipv6_path_listing, ipv6_quote_listing};
-ghost use Rattle.listing.specs.Output.{Gains};
+ghost use Rattle.packet_fields.specs.Output.{Gains};
 
 use crate::ports::ports_of;
 use crate::printer::{Value, line, part_field};

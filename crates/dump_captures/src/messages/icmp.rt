@@ -1,9 +1,9 @@
 //! ICMP messages of both families, and IGMP messages.
 
-#![tactic(auto, using(listing::proofs::Printing::gained, listing::proofs::Printing::gains_both))]
+#![tactic(auto, using(packet_fields::proofs::Printing::gained, packet_fields::proofs::Printing::gains_both))]
 
 ghost use Rattle.std.specs.Prelude.{IfOk};
-ghost use Rattle.listing.specs.Output.{GainsSome};
+ghost use Rattle.packet_fields.specs.Output.{GainsSome};
 ghost use Rattle.dump_captures.specs.Messages.{Icmp4Prints, Icmp6Prints, IgmpPrints};
 
 use crate::Fault;

@@ -1,6 +1,6 @@
 //! Messages over UDP: DNS and DHCP.
 
-#![tactic(auto, using(listing::proofs::Printing::gained, listing::proofs::Printing::gains_both))]
+#![tactic(auto, using(packet_fields::proofs::Printing::gained, packet_fields::proofs::Printing::gains_both))]
 
 ghost use Rattle.std.specs.Prelude.{◌≡◌, IfOk, IfErr};
 ghost use Rattle.wirebase.specs.Bytes.{bytes_of};
@@ -9,7 +9,7 @@ ghost use Rattle.wirebase.specs.declared.capabilities.Checksum.TheVariants.{Both
 ghost use Rattle.frame_wire.specs.Udp.{IsDatagram, payload_field};
 ghost use Rattle.frame_wire.specs.UdpRefusal.{Refuses};
 ghost use Rattle.frame_wire.specs.declared.udp.UdpRepr.{UdpRepr as AnUdpRepr};
-ghost use Rattle.listing.specs.Output.{GainsSome};
+ghost use Rattle.packet_fields.specs.Output.{GainsSome};
 ghost use Rattle.dump_captures.specs.Messages.{UdpPrints, DhcpPrints, DnsPrints};
 
 use crate::Fault;

@@ -1,6 +1,6 @@
 //! OPT records (RFC 6891 section 6.1).
 
-#![tactic(auto, using(crate::proofs::Printing::gains_both))]
+#![tactic(auto, using(packet_fields::proofs::Printing::gains_both))]
 
 ghost use Rattle.std.specs.Prelude.{◌≡◌, IfOk, OnOk};
 ghost use Rattle.dns_wire.specs.DnsPacket.{view_octets};
@@ -8,7 +8,7 @@ ghost use Rattle.record_wire.specs.Edns.{edns_of, IsEdns, option_of};
 ghost use Rattle.record_wire.specs.Record.{record_of};
 ghost use Rattle.listing.specs.ListingEdns.{OptPrints, sender_listing, opt_field as opt_field_text};
 ghost use Rattle.listing.specs.ListingEdns.{option_text, options_listing, unread_option};
-ghost use Rattle.listing.specs.Output.{Gains, GainsSome};
+ghost use Rattle.packet_fields.specs.Output.{Gains, GainsSome};
 
 use crate::message::Unread;
 use crate::printer::{Value, part_field};
@@ -49,7 +49,7 @@ fn show_sender<W: Write>(output: &mut W, margin: &str, edns: &Edns<'_>) -> io::R
 }
 
 // Prints a field of the record.
-#[tactic(auto, using(crate::proofs::Printing::gained, crate::proofs::Printing::gains_both), unfolding(crate::specs::ListingEdns::opt_field))]
+#[tactic(auto, using(packet_fields::proofs::Printing::gained, packet_fields::proofs::Printing::gains_both), unfolding(crate::specs::ListingEdns::opt_field))]
 fn opt_field<V: Value, W: Write>(
     output: &mut W,
     margin: &str,

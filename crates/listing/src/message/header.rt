@@ -1,13 +1,13 @@
 //! The header of a message (RFC 1035 section 4.1.1).
 
-#![tactic(auto, using(crate::proofs::Printing::gains_both))]
+#![tactic(auto, using(packet_fields::proofs::Printing::gains_both))]
 
 ghost use Rattle.std.specs.Prelude.{◌≡◌, ◌<◌, ◌≤◌, ◌+◌, [], ◌++◌, OnOk, take, codes, if◌then◌else◌};
 ghost use Rattle.dns_wire.specs.DnsPacket.{header as header_field};
 ghost use Rattle.wirebase.specs.Bytes.{Reaches};
 ghost use Rattle.listing.specs.ListingMessage.{header_listing, flag_names, names_set, flags_text, has_bit};
 ghost use Rattle.listing.specs.private.ListingParts.{each_behind};
-ghost use Rattle.listing.specs.Output.{Gains};
+ghost use Rattle.packet_fields.specs.Output.{Gains};
 
 use crate::printer::{Value, part_field};
 use std::io;

@@ -5,10 +5,10 @@ ghost use Rattle.dns_wire.specs.DnsPacket.{view_octets};
 ghost use Rattle.record_wire.specs.Record.{question_of, record_of};
 ghost use Rattle.record_wire.specs.RecordDisplay.{section_display};
 ghost use Rattle.listing.specs.ListingRecord.{QuestionPrints, RecordPrints, line_end};
-ghost use Rattle.listing.specs.Output.{Gains, GainsSome};
+ghost use Rattle.packet_fields.specs.Output.{Gains, GainsSome};
 
 use crate::message::Unread;
-use crate::output::ToWriter;
+use packet_fields::output::ToWriter;
 use dns_wire::dns::Packet;
 use dns_wire::octets::octets_of;
 use record_wire::line::{Before, put_question, put_record};
@@ -92,7 +92,7 @@ fn label_of(section: Section) -> &'static str
 }
 
 // The end of a line.
-#[tactic(auto, using(crate::proofs::Printing::gained, crate::proofs::Printing::gains_both), unfolding(crate::specs::ListingRecord::line_end))]
+#[tactic(auto, using(packet_fields::proofs::Printing::gained, packet_fields::proofs::Printing::gains_both), unfolding(crate::specs::ListingRecord::line_end))]
 fn end_line<W: Write>(output: &mut W, is_marked: bool, mark: &str) -> io::Result<()>
     ensures { OnOk result (Gains (W.contents output.old) (W.contents output.new)
         (line_end is_marked mark.now)) }

@@ -1,7 +1,7 @@
 //! Addresses and ports as text.
 
 use crate::testing::{holds_of, same_of};
-use listing::output::ToWriter;
+use packet_fields::output::ToWriter;
 use std::alloc::Global;
 use std::process::Abort;
 use wirebase::text::{put_v4, put_v6};

@@ -1,5 +1,5 @@
 -- The words, one after another.
-use Rattle.listing.proofs.Printing.{◌then◌, gained, gains_last}
+use Rattle.packet_fields.proofs.Printing.{◌then◌, gained, gains_last}
 use Rattle.dump_captures.specs.Heading.{heading}
 use Rattle.dump_captures.proofs.heading.show_heading.Goals as goal
 

@@ -1,6 +1,6 @@
 -- Each turn prints a tag.
 use Rattle.std.proofs.Common.{◌++◌, arith}
-use Rattle.listing.proofs.Printing.{◌then◌}
+use Rattle.packet_fields.proofs.Printing.{◌then◌}
 use Rattle.dump_captures.specs.Heading.{tag_text}
 use Rattle.dump_captures.proofs.Headings.{one_tag}
 use Rattle.dump_captures.proofs.heading.show_tags.Goals as goal

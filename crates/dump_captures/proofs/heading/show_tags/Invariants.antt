@@ -1,6 +1,6 @@
 -- The tags so far are printed.
 use Rattle.std.proofs.Common.{◌≡◌, ℕ, List, ◌++◌, length}
-use Rattle.listing.specs.Output.{Gains}
+use Rattle.packet_fields.specs.Output.{Gains}
 use Rattle.dump_captures.specs.Heading.{tags_text}
 use Rattle.dump_captures.proofs.heading.show_tags.Given as goal
 

@@ -1,5 +1,5 @@
 -- The words, one after another.
-use Rattle.listing.proofs.Printing.{◌then◌, gained, gains_last, put, put_on_ok}
+use Rattle.packet_fields.proofs.Printing.{◌then◌, gained, gains_last, put, put_on_ok}
 use Rattle.dump_captures.proofs.heading.show_v4.Goals as goal
 
 pub returns : goal.returns

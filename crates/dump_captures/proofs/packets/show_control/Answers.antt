@@ -1,8 +1,8 @@
 -- The packet is passed over, only counted, or printed.
 use Rattle.std.proofs.Common.{◌≡◌, ℕ, [], List, ◌++◌, Option, refl, sym, ◌∙◌}
 use Rattle.capture.specs.Capture.{packet_of}
-use Rattle.listing.specs.Output.{GainsSome}
-use Rattle.listing.proofs.Printing.{gains_none, gains_both}
+use Rattle.packet_fields.specs.Output.{GainsSome}
+use Rattle.packet_fields.proofs.Printing.{gains_none, gains_both}
 use Rattle.dump_captures.specs.Dump.{PacketPrints, printed, counted_alone, passed, outcome_of}
 use Rattle.dump_captures.specs.Heading.{heading}
 use Rattle.dump_captures.specs.Messages.{ListingPrints}

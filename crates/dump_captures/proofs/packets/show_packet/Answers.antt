@@ -1,6 +1,6 @@
 -- The packet's headers decide.
 use Rattle.std.proofs.Common.{[], refl}
-use Rattle.listing.proofs.Printing.{gains_none}
+use Rattle.packet_fields.proofs.Printing.{gains_none}
 use Rattle.dump_captures.specs.Dump.{of_unread, of_other}
 use Rattle.dump_captures.proofs.packets.show_packet.Goals as goal
 

@@ -1,7 +1,7 @@
 -- Each turn reads a packet and prints it.
 use Rattle.std.specs.Io.Buffered.{reader_remaining}
 use Rattle.capture.specs.Capture.{state_of, octets_of, count_of}
-use Rattle.listing.proofs.Printing.{gains_none}
+use Rattle.packet_fields.proofs.Printing.{gains_none}
 use Rattle.dump_captures.specs.Tally.{tally_of}
 use Rattle.dump_captures.proofs.Running.{so_far-init, so_far-more, so_far-end, so_far-unread}
 use Rattle.dump_captures.proofs.packets.show_packets.Goals as goal

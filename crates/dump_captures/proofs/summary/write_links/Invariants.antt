@@ -1,6 +1,6 @@
 -- The links so far.
 use Rattle.std.proofs.Common.{take}
-use Rattle.listing.specs.Output.{Gains}
+use Rattle.packet_fields.specs.Output.{Gains}
 use Rattle.dump_captures.specs.Summary.{links_text}
 use Rattle.dump_captures.proofs.summary.write_links.Given as goal
 

@@ -2,7 +2,7 @@
 use Rattle.std.proofs.Common.{◌∙◌, sym, arith}
 use Rattle.std.proofs.lemmas.List.{take_all}
 use Rattle.std.specs.Prelude.{flat_map}
-use Rattle.listing.proofs.Printing.{gained_on_ok, gains_last}
+use Rattle.packet_fields.proofs.Printing.{gained_on_ok, gains_last}
 use Rattle.dump_captures.specs.Kinds.{reasons}
 use Rattle.dump_captures.specs.Summary.{reason_parts, reasons_text}
 use Rattle.dump_captures.specs.Tally.{tally_of}

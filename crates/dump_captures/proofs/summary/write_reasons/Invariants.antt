@@ -1,6 +1,6 @@
 -- The reasons so far, and whether none was printed.
 use Rattle.std.proofs.Common.{◌≡◌}
-use Rattle.listing.specs.Output.{Gains}
+use Rattle.packet_fields.specs.Output.{Gains}
 use Rattle.dump_captures.specs.Kinds.{reasons}
 use Rattle.dump_captures.specs.Tally.{tally_of}
 use Rattle.dump_captures.proofs.Summaries.{is_none, opened, parts_so_far}

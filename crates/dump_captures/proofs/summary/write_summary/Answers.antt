@@ -1,5 +1,5 @@
 -- The parts of the line, one after another.
-use Rattle.listing.proofs.Printing.{◌then◌, gained, gains_last}
+use Rattle.packet_fields.proofs.Printing.{◌then◌, gained, gains_last}
 use Rattle.dump_captures.specs.Summary.{summary_text}
 use Rattle.dump_captures.proofs.summary.write_summary.Goals as goal
 

@@ -1,6 +1,6 @@
 -- The numbers so far.
 use Rattle.std.proofs.Common.{take}
-use Rattle.listing.specs.Output.{Gains}
+use Rattle.packet_fields.specs.Output.{Gains}
 use Rattle.dump_captures.specs.Table.{with_tabs}
 use Rattle.dump_captures.proofs.table.show_numbers.Given as goal
 

@@ -1,7 +1,7 @@
 -- Each turn prints a tab and one name more.
 use Rattle.std.proofs.Common.{ℕ, List, ◌++◌, codes, arith}
 use Rattle.std.proofs.lemmas.List.{take_all}
-use Rattle.listing.proofs.Printing.{◌then◌, gained, gains_both, one_more}
+use Rattle.packet_fields.proofs.Printing.{◌then◌, gained, gains_both, one_more}
 use Rattle.dump_captures.specs.Kinds.{reasons, reason_text}
 use Rattle.dump_captures.specs.declared.kind.Reason.{Reason}
 use Rattle.dump_captures.specs.declared.kind.Reason.TheVariants.{Cut}

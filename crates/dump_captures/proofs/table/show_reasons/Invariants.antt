@@ -1,7 +1,7 @@
 -- The names so far.
 use Rattle.std.proofs.Common.{◌++◌, codes, take}
 use Rattle.std.specs.Prelude.{flat_map}
-use Rattle.listing.specs.Output.{Gains}
+use Rattle.packet_fields.specs.Output.{Gains}
 use Rattle.dump_captures.specs.Kinds.{reasons, reason_text}
 use Rattle.dump_captures.proofs.table.show_reasons.Given as goal
 

@@ -1,5 +1,5 @@
 -- The parts of a row, one after another.
-use Rattle.listing.proofs.Printing.{◌then◌, gained, gained_on_ok, gains_last}
+use Rattle.packet_fields.proofs.Printing.{◌then◌, gained, gained_on_ok, gains_last}
 use Rattle.dump_captures.proofs.table.show_row.Goals as goal
 
 pub returns : goal.returns

@@ -1,5 +1,5 @@
 -- Each turn prints the row of one kind more.
-use Rattle.listing.proofs.Printing.{gains_both, one_more}
+use Rattle.packet_fields.proofs.Printing.{gains_both, one_more}
 use Rattle.dump_captures.specs.Kinds.{kinds}
 use Rattle.dump_captures.specs.Table.{chosen_text}
 use Rattle.dump_captures.specs.Tally.{tally_of}

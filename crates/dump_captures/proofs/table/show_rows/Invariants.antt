@@ -1,7 +1,7 @@
 -- The rows so far.
 use Rattle.std.proofs.Common.{take}
 use Rattle.std.specs.Prelude.{flat_map}
-use Rattle.listing.specs.Output.{Gains}
+use Rattle.packet_fields.specs.Output.{Gains}
 use Rattle.dump_captures.specs.Kinds.{kinds}
 use Rattle.dump_captures.specs.Table.{chosen_text}
 use Rattle.dump_captures.specs.Tally.{tally_of}

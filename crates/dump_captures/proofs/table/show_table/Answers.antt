@@ -1,5 +1,5 @@
 -- The names of the columns, and then the rows.
-use Rattle.listing.proofs.Printing.{gains_last}
+use Rattle.packet_fields.proofs.Printing.{gains_last}
 use Rattle.dump_captures.specs.Table.{table_text}
 use Rattle.dump_captures.proofs.table.show_table.Goals as goal
 

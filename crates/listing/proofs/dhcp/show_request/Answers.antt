@@ -1,7 +1,7 @@
 -- The lines, one after another.
 use Rattle.listing.proofs.Words.{sym}
 use Rattle.listing.proofs.Addresses.{identifier-text}
-use Rattle.listing.proofs.Printing.{◌then◌, gains_last}
+use Rattle.packet_fields.proofs.Printing.{◌then◌, gains_last}
 use Rattle.listing.proofs.dhcp.show_request.Goals as goal
 
 pub returns : goal.returns

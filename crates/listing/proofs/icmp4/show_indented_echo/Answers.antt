@@ -1,7 +1,7 @@
 -- Each line follows its spaces.
 use Rattle.listing.proofs.Words.{Gains, OnOk, arith, subst}
 use Rattle.listing.proofs.OneLine.{indented_echo}
-use Rattle.listing.proofs.Printing.{gained, gains_last, ◌then◌}
+use Rattle.packet_fields.proofs.Printing.{gained, gains_last, ◌then◌}
 use Rattle.listing.proofs.icmp4.show_indented_echo.Goals as goal
 
 pub returns : goal.returns

@@ -3,7 +3,7 @@ use Rattle.listing.proofs.Words.{IsListingOrRefused}
 use Rattle.wirebase.specs.Capabilities.{all_of}
 use Rattle.icmp6_wire.specs.Icmpv6.{IsMessage}
 use Rattle.listing.specs.ListingIcmp6.{Icmp6Prints, icmp6_listing}
-use Rattle.listing.proofs.Printing.{gained_as}
+use Rattle.packet_fields.proofs.Printing.{gained_as}
 use Rattle.listing.proofs.icmp6.show_icmp6.Goals as goal
 use Rattle.wirebase.specs.declared.capabilities.Checksum.{Checksum}
 

@@ -2,7 +2,7 @@
 use Rattle.listing.proofs.Words.{refl}
 use Rattle.quote_wire.specs.Icmpv6Error.{value_of}
 use Rattle.listing.specs.ListingIcmp6Error.{icmp6_error_listing, Icmp6ErrorPrints}
-use Rattle.listing.proofs.Printing.{gained_text}
+use Rattle.packet_fields.proofs.Printing.{gained_text}
 use Rattle.listing.proofs.icmp6_error.show_error.Goals as goal
 
 pub returns : goal.returns

@@ -2,7 +2,7 @@
 use Rattle.listing.proofs.Words.{◌≤◌, [], arith, length, refl}
 use Rattle.listing.specs.ListingMessage.{has_no_header}
 use Rattle.listing.proofs.Entries.{message_printed}
-use Rattle.listing.proofs.Printing.{gains_none}
+use Rattle.packet_fields.proofs.Printing.{gains_none}
 use Rattle.listing.proofs.message.show_message.Goals as goal
 
 pub returns-in_default : goal.returns-in_default

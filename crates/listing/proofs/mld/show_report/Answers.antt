@@ -1,5 +1,5 @@
 -- The lines, one after another.
-use Rattle.listing.proofs.Printing.{◌then◌, gains_last}
+use Rattle.packet_fields.proofs.Printing.{◌then◌, gains_last}
 use Rattle.listing.proofs.mld.show_report.Goals as goal
 
 pub returns : goal.returns

@@ -1,6 +1,6 @@
 -- Each turn prints a label, or how the walk ends.
 use Rattle.listing.proofs.Words.{◌++◌, ◌∙◌, ap, append_assoc, sym}
-use Rattle.listing.proofs.Printing.{gains_both}
+use Rattle.packet_fields.proofs.Printing.{gains_both}
 use Rattle.listing.proofs.Walking.{listing-label}
 use Rattle.listing.proofs.name.show_labels.Goals as goal
 

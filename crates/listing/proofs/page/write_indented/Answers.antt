@@ -1,7 +1,7 @@
 -- Each turn writes two spaces and a line.
 use Rattle.listing.proofs.Words.{◌++◌, codes}
 use Rattle.listing.proofs.Lines.{one_line}
-use Rattle.listing.proofs.Printing.{gained, ◌then◌}
+use Rattle.packet_fields.proofs.Printing.{gained, ◌then◌}
 use Rattle.listing.proofs.page.write_indented.Goals as goal
 
 pub loop-rest-preserved : goal.loop-rest-preserved

@@ -1,6 +1,6 @@
 -- The name, the sign, and the line of the value.
 use Rattle.listing.proofs.Words.{◌++◌, append_assoc, codes, field, line}
-use Rattle.listing.proofs.Printing.{◌then◌, gained, gains_last}
+use Rattle.packet_fields.proofs.Printing.{◌then◌, gained, gains_last}
 use Rattle.listing.proofs.printer.field.Goals as goal
 
 pub returns : goal.returns

@@ -1,6 +1,6 @@
 -- The value, and then the line's end.
 use Rattle.listing.proofs.Words.{line}
-use Rattle.listing.proofs.Printing.{gains_last, gained_on_ok}
+use Rattle.packet_fields.proofs.Printing.{gains_last, gained_on_ok}
 use Rattle.listing.proofs.printer.line.Goals as goal
 
 pub returns : goal.returns

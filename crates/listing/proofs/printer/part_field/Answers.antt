@@ -1,6 +1,6 @@
 -- The part's name with its dot, and the field.
 use Rattle.listing.proofs.Words.{part_field}
-use Rattle.listing.proofs.Printing.{gained, gains_last}
+use Rattle.packet_fields.proofs.Printing.{gained, gains_last}
 use Rattle.listing.proofs.printer.part_field.Goals as goal
 
 pub returns : goal.returns

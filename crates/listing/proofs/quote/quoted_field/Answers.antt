@@ -1,6 +1,6 @@
 -- The margin, and the field.
 use Rattle.listing.specs.ListingQuote.{quoted_field}
-use Rattle.listing.proofs.Printing.{gained, gains_last}
+use Rattle.packet_fields.proofs.Printing.{gained, gains_last}
 use Rattle.listing.proofs.quote.quoted_field.Goals as goal
 
 pub returns : goal.returns

@@ -1,5 +1,5 @@
 -- The lines, one after another; the ports are those of what is quoted.
-use Rattle.listing.proofs.Printing.{◌then◌, gains_last}
+use Rattle.packet_fields.proofs.Printing.{◌then◌, gains_last}
 use Rattle.listing.proofs.quote.show_ipv4_quote.Goals as goal
 
 pub returns : goal.returns

@@ -1,6 +1,6 @@
 -- The date that is kept and the time after it, and before both the digits of a long year.
 use Rattle.std.proofs.Common.{◌++◌, ap, ◌∙◌}
-use Rattle.listing.proofs.Printing.{gains_last, gained_on_ok, put}
+use Rattle.packet_fields.proofs.Printing.{gains_last, gained_on_ok, put}
 use Rattle.dump_captures.proofs.Times.{early, late}
 use Rattle.dump_captures.proofs.time.Clock.write.Goals as goal
 

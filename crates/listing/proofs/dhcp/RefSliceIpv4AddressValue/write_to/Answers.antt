@@ -1,7 +1,7 @@
 -- The first address, and each turn a comma and one address more.
 use Rattle.listing.proofs.Words.{◌-◌, Ipv4Address, arith, drop, length, take, take_all}
 use Rattle.listing.proofs.Addresses.{with_comma, addresses_text-some}
-use Rattle.listing.proofs.Printing.{◌then◌, gained, gains_both, one_more}
+use Rattle.packet_fields.proofs.Printing.{◌then◌, gained, gains_both, one_more}
 use Rattle.listing.proofs.dhcp.RefSliceIpv4AddressValue.write_to.Goals as goal
 
 abbrev no_address : Ipv4Address

@@ -3,7 +3,7 @@ use Rattle.record_wire.specs.Edns.{edns_of}
 use Rattle.record_wire.specs.NameRefusal.{HasName}
 use Rattle.listing.specs.ListingEdns.{says_for_no_name}
 use Rattle.listing.proofs.Options.{opt_printed}
-use Rattle.listing.proofs.Printing.{gains_none}
+use Rattle.packet_fields.proofs.Printing.{gains_none}
 use Rattle.listing.proofs.message.edns.show_opt.Goals as goal
 
 pub returns-in-Some : goal.returns-in-Some

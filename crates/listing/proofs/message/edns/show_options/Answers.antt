@@ -1,6 +1,6 @@
 -- Each turn prints an option, or tells how they end.
 use Rattle.listing.proofs.Words.{◌++◌, ◌∙◌, ap, append_assoc, options_listing, sym, unread_option}
-use Rattle.listing.proofs.Printing.{gains_both}
+use Rattle.packet_fields.proofs.Printing.{gains_both}
 use Rattle.listing.proofs.message.edns.show_options.Goals as goal
 
 pub loop-option-preserved : goal.loop-option-preserved

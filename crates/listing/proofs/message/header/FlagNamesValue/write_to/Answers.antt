@@ -1,7 +1,7 @@
 -- None, or all but the last comma.
 use Rattle.listing.proofs.Words.{arith, sym}
 use Rattle.listing.proofs.FlagNames.{no_flags, some_flags}
-use Rattle.listing.proofs.Printing.{gained_on_ok}
+use Rattle.packet_fields.proofs.Printing.{gained_on_ok}
 use Rattle.listing.proofs.message.header.FlagNamesValue.write_to.Goals as goal
 
 pub returns-then-len-eq0 : goal.returns-then-len-eq0

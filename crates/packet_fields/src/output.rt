@@ -2,7 +2,7 @@
 
 #![tactic(auto, using(crate::proofs::Printing::put_once))]
 
-ghost use Rattle.listing.specs.Output.{Appending};
+ghost use Rattle.packet_fields.specs.Output.{Appending};
 
 use std::io;
 use std::io::Write;

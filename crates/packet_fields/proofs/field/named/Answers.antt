@@ -1,0 +1,11 @@
+-- The number, and its name.
+use Rattle.packet_fields.proofs.Printing.{◌then◌, gains_last}
+use Rattle.packet_fields.proofs.Fields.{one_on_ok}
+unfoldable use Rattle.packet_fields.specs.Fields.{item_text}
+use Rattle.packet_fields.proofs.field.named.Goals as goal
+
+pub returns : goal.returns
+unfolding item_text
+returns g c =
+    one_on_ok _ _ _ _ _ c.put.ensures.fits (gains_last _ _ c.end.result (c.in_ok-begin.ensures then c.in_ok-put.ensures.text then c.in_ok-show_name.ensures)
+    c.end.ensures)

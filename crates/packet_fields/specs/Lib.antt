@@ -1,0 +1,5 @@
+pub mod Escapes
+pub mod Fields
+pub mod Json
+pub mod Output
+pub mod Prints
