@@ -37,10 +37,11 @@ leaf_or_missing leaf None = missing
 leaf_or_missing leaf (Some value) = leaf value
 
 -- seconds, and where they are not whole three digits of milliseconds
+abbrev pub fraction_text : ℕ → List ℕ
+fraction_text millis = if millis == 0 then [] else codes "." ++ three_digits millis
+
 abbrev pub seconds_text : ℕ → List ℕ
-seconds_text millis =
-    if millis % 1000 == 0 then decimal (millis / 1000) ++ codes "s"
-    else decimal (millis / 1000) ++ codes "." ++ three_digits (millis % 1000) ++ codes "s"
+seconds_text millis = decimal (millis / 1000) ++ fraction_text (millis % 1000) ++ codes "s"
 
 -- texts with commas between them, or a dash for none
 abbrev pub with_commas : List (List ℕ) → List ℕ

@@ -3,3 +3,4 @@ pub mod Fields
 pub mod Json
 pub mod Output
 pub mod Prints
+pub mod private

@@ -2,14 +2,17 @@
 
 #![tactic(auto, using(crate::proofs::Puts::put_escaped, crate::proofs::Printing::put, crate::proofs::Printing::put_on_ok, crate::proofs::Printing::gained, crate::proofs::Printing::gains_both))]
 
-ghost use Rattle.std.specs.Prelude.{ℕ, List, OnOk};
+ghost use Rattle.std.specs.Prelude.{◌*◌, ◌++◌, ℕ, List, OnOk, codes, flat_map, map};
+ghost use Rattle.wirebase.specs.Duration.{millis_of, three_digits};
+ghost use Rattle.wirebase.specs.Hexadecimal.{hex_colons};
+ghost use Rattle.packet_fields.specs.private.Colons.{behind_colon};
 ghost use Rattle.hex.specs.Hex.{encode_lower};
 ghost use Rattle.wirebase.specs.Sink.{PutsText};
 ghost use Rattle.wirebase.specs.Ipv4.{address_text};
 ghost use Rattle.wirebase.specs.Ipv6Address as ipv6;
 ghost use Rattle.packet_fields.specs.Output.{Gains};
-ghost use Rattle.packet_fields.specs.Fields.{Leaf, Fits, number, truth, text, octets, missing};
-ghost use Rattle.packet_fields.specs.Fields.{leaf_text, leaf_or_missing};
+ghost use Rattle.packet_fields.specs.Fields.{Leaf, Fits, number, truth, text, texts, octets, time, missing};
+ghost use Rattle.packet_fields.specs.Fields.{leaf_text, leaf_or_missing, fraction_text, seconds_text, strings_text, with_commas};
 ghost use Rattle.json.specs.Print.{quoted};
 
 use crate::escapes::ToString;
@@ -18,7 +21,7 @@ use crate::output::ToWriter;
 use std::io;
 use std::io::Write;
 use wirebase::text::{Sink, put_hex, put_number, put_octets, put_v4, put_v6};
-use wirebase::{Ipv4Address, Ipv6Address};
+use wirebase::{Duration, Ipv4Address, Ipv6Address};
 
 /// The value of a field.
 pub trait Value: Drop {
@@ -117,6 +120,111 @@ impl<V: Value> Value for Option<V> {
     }
 }
 
+// Whole milliseconds; lines have seconds.
+impl Value for Duration {
+    ghost leaf = { λ duration. time (millis_of duration) };
+
+    fn put<W: Write>(self, output: &mut W, form: Form) -> io::Result<()> {
+        put_time(output, form, self.total_millis())
+    }
+}
+
+// Prints a time of so many milliseconds.
+fn put_time<W: Write>(output: &mut W, form: Form, millis: u64) -> io::Result<()>
+    ensures { OnOk result (Gains (W.contents output.old) (W.contents output.new) (leaf_text form (time millis))) }
+{
+    match form {
+        Form::Lines => put_seconds(output, millis),
+        Form::Json => put_number::<_, ToWriter>(output, millis),
+    }
+}
+
+fn put_seconds<W: Write>(output: &mut W, millis: u64) -> io::Result<()>
+    ensures { OnOk result (Gains (W.contents output.old) (W.contents output.new) (seconds_text millis)) }
+{
+    put_number::<_, ToWriter>(output, millis / 1000)?;
+    put_fraction(output, millis % 1000)?;
+    output.write_all(b"s")
+}
+
+// Prints what follows the seconds.
+fn put_fraction<W: Write>(output: &mut W, millis: u64) -> io::Result<()>
+    ensures { OnOk result (Gains (W.contents output.old) (W.contents output.new) (fraction_text millis)) }
+{
+    if millis == 0 {
+        return Ok(());
+    }
+    put_millis(output, millis)
+}
+
+// Prints a dot and three digits.
+fn put_millis<W: Write>(output: &mut W, millis: u64) -> io::Result<()>
+    ensures { OnOk result (Gains (W.contents output.old) (W.contents output.new) (codes "." ++ three_digits millis)) }
+{
+    output.write_all(b".")?;
+    put_number::<_, ToWriter>(output, millis / 100)?;
+    put_number::<_, ToWriter>(output, millis / 10 % 10)?;
+    put_number::<_, ToWriter>(output, millis % 10)
+}
+
+/// Seconds, as a time.
+#[derive(Debug, PartialEq, Eq, Clone, Copy)]
+pub struct Seconds(pub u32);
+
+impl Value for Seconds {
+    ghost leaf = { λ seconds. time (1000 * seconds.0) };
+
+    fn put<W: Write>(self, output: &mut W, form: Form) -> io::Result<()> {
+        put_time(output, form, 1_000 * u64::from(self.0))
+    }
+}
+
+/// Texts, in lines with commas between them.
+#[derive(Debug, Clone, Copy)]
+pub struct Texts<'a, T>(pub &'a [T]);
+
+impl<T: Text + Copy> Value for Texts<'_, T> {
+    ghost leaf = { λ list. texts (map T.text_of list.0.now) };
+
+    fn put<W: Write>(self, output: &mut W, form: Form) -> io::Result<()> {
+        match form {
+            Form::Lines => put_commas(output, self.0),
+            Form::Json => put_strings(output, self.0),
+        }
+    }
+}
+
+// Prints texts with commas between them.
+fn put_commas<T: Text + Copy, W: Write>(output: &mut W, list: &[T]) -> io::Result<()>
+    ensures { OnOk result (Gains (W.contents output.old) (W.contents output.new) (with_commas (map T.text_of list.now))) }
+{
+    let [first, rest @ ..] = list else {
+        return output.write_all(b"-");
+    };
+    first.put_into::<W, ToWriter>(output)?;
+    for next in rest {
+        output.write_all(b",")?;
+        next.put_into::<W, ToWriter>(output)?;
+    }
+    Ok(())
+}
+
+// Prints texts as an array of strings.
+fn put_strings<T: Text + Copy, W: Write>(output: &mut W, list: &[T]) -> io::Result<()>
+    ensures { OnOk result (Gains (W.contents output.old) (W.contents output.new) (strings_text (map T.text_of list.now))) }
+{
+    let [first, rest @ ..] = list else {
+        return output.write_all(b"[]");
+    };
+    output.write_all(b"[")?;
+    put_string(output, *first)?;
+    for next in rest {
+        output.write_all(b",")?;
+        put_string(output, *next)?;
+    }
+    output.write_all(b"]")
+}
+
 fn put_missing<W: Write>(output: &mut W, form: Form) -> io::Result<()>
     ensures { OnOk result (Gains (W.contents output.old) (W.contents output.new) (leaf_text form missing)) }
 {
@@ -158,6 +266,48 @@ impl Text for Ipv6Address {
     fn put_into<O, S: Sink<O>>(self, output: &mut O) -> Result<(), S::Error> {
         put_v6::<O, S>(output, self, None)
     }
+}
+
+/// Octets in hexadecimal digits, with colons between them: a link-layer address.
+#[derive(Debug, PartialEq, Eq, Clone, Copy)]
+pub struct Colons<'a>(pub &'a [u8]);
+
+impl Value for Colons<'_> {
+    ghost leaf = { λ octets. text (hex_colons octets.0.now) };
+
+    fn put<W: Write>(self, output: &mut W, form: Form) -> io::Result<()> {
+        put_text(output, form, self)
+    }
+}
+
+impl Text for Colons<'_> {
+    ghost text_of = { λ octets. hex_colons octets.0.now };
+
+    fn put_into<O, S: Sink<O>>(self, output: &mut O) -> Result<(), S::Error> {
+        let [first, rest @ ..] = self.0 else {
+            return Ok(());
+        };
+        put_hex::<O, S>(output, &[*first])?;
+        put_behind_colons::<O, S>(output, rest)
+    }
+}
+
+// Puts each octet after a colon.
+fn put_behind_colons<O, S: Sink<O>>(output: &mut O, octets: &[u8]) -> Result<(), S::Error>
+    ensures { PutsText S.took output.old (flat_map behind_colon octets.now) result output.new }
+{
+    for octet in octets {
+        put_behind_colon::<O, S>(output, *octet)?;
+    }
+    Ok(())
+}
+
+#[tactic(auto, using(wirebase::proofs::Sinks::puts))]
+fn put_behind_colon<O, S: Sink<O>>(output: &mut O, octet: u8) -> Result<(), S::Error>
+    ensures { PutsText S.took output.old (behind_colon octet) result output.new }
+{
+    S::put_str(output, ":")?;
+    put_hex::<O, S>(output, &[octet])
 }
 
 // Octets by their hexadecimal digits alone.
