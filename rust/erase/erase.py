@@ -297,6 +297,10 @@ workspace = true
 """
 
 
+# What no crate of cargo stands for: `rattle_std` has `hex`, and of the others contracts alone speak.
+OF_THE_KIT = ("hex", "json", "serde_json")
+
+
 def dependencies_of(unit, kinds, needs):
     """The lines of a manifest for what a crate of cargo stands on, by their names: what crates.txt lists for it, and
     `rattle_std` where its files name that."""
@@ -308,7 +312,7 @@ def dependencies_of(unit, kinds, needs):
             lines[need] = f'{need} = {{ path = "../{need}" }}'
         elif need in needs:
             lines["control_wire"] = f'control_wire = {{ path = "../..", version = "={VERSION}" }}'
-        elif need != "hex":
+        elif need not in OF_THE_KIT:
             lines[need] = f"{need}.workspace = true"
     return lines
 

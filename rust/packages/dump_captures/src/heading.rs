@@ -7,8 +7,8 @@ use capture::{Record, Time};
 use control_wire::frames::Addresses;
 use control_wire::inside::text::{put_v4, put_v6};
 use control_wire::{Field, Ipv4Address, Ipv6Address, Octets};
-use listing::output::ToWriter;
 use listing::printer::{Value, line};
+use packet_fields::output::ToWriter;
 use rattle_std::io;
 use rattle_std::io::Write;
 

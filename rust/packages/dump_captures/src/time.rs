@@ -3,7 +3,7 @@
 
 use capture::calendar::{Date, date_of};
 use control_wire::inside::text::{last_digit, nine_digits, put_number, two_digits};
-use listing::output::ToWriter;
+use packet_fields::output::ToWriter;
 use rattle_std::io;
 use rattle_std::io::Write;
 

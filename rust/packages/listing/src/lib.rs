@@ -16,7 +16,6 @@ pub mod mld;
 pub mod name;
 pub mod ndisc;
 pub mod ndopt;
-pub mod output;
 pub mod page;
 pub mod ports;
 pub mod printer;

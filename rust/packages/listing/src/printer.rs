@@ -1,9 +1,9 @@
 // Made from crates/listing/src/printer.rt by rust/erase.
 //! Printing of values: names and fields, one a line.
 
-use crate::output::ToWriter;
 use control_wire::inside::text::{put_number, put_octets, put_v4};
 use control_wire::{Duration, Ipv4Address};
+use packet_fields::output::ToWriter;
 use rattle_std::io;
 use rattle_std::io::Write;
 

@@ -2,11 +2,11 @@
 //! Questions and records, a line each.
 
 use crate::message::Unread;
-use crate::output::ToWriter;
 use control_wire::dns::Packet;
 use control_wire::inside::line::{Before, put_question, put_record};
 use control_wire::inside::octets::octets_of;
 use control_wire::record::{Question, Record, Section, multicast};
+use packet_fields::output::ToWriter;
 use rattle_std::io;
 use rattle_std::io::Write;
 

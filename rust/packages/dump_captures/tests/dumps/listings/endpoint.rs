@@ -4,7 +4,7 @@
 use crate::testing::{holds_of, same_of};
 use control_wire::inside::text::{put_v4, put_v6};
 use control_wire::{Ipv4Address, Ipv6Address};
-use listing::output::ToWriter;
+use packet_fields::output::ToWriter;
 #[allow(unused_imports)]
 use rattle_std::prelude::*;
 

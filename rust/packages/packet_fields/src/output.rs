@@ -1,4 +1,4 @@
-// Made from crates/listing/src/output.rt by rust/erase.
+// Made from crates/packet_fields/src/output.rt by rust/erase.
 //! Where listings go.
 
 use control_wire::inside::text::Sink;
