@@ -1,3 +1,4 @@
+pub mod Attributes
 pub mod Headers
 pub mod TagLists
 pub mod Tags

@@ -1,6 +1,6 @@
 -- Tags follow one another.
-use Rattle.frame_wire.proofs.Words.{◌≡◌, ◌+◌, ◌-◌, ◌≤◌, [], ◌++◌, ◌∙◌, ◌<◌, ◌↔◌, Bool, Err, IfOk, IsTagged, IsTrue}
-use Rattle.frame_wire.proofs.Words.{List, Ok, Result, ℕ, ap, append-nil, append_assoc, arith, drop, false, field}
+use Rattle.frame_wire.proofs.Words.{◌≡◌, ◌+◌, ◌-◌, ◌≤◌, [], ◌++◌, ◌∙◌, ◌<◌, ◌↔◌, Bool, Err, IfErr, IfOk, IsTagged}
+use Rattle.frame_wire.proofs.Words.{IsTrue, List, Ok, Result, ℕ, ap, append-nil, append_assoc, arith, drop, false, field}
 use Rattle.frame_wire.proofs.Words.{length, length-drop, number_of, part, refl, subst, sym, take, true}
 use Rattle.std.proofs.lemmas.List.{drop-drop}
 use Rattle.std.proofs.Math.Seq.{take-add}
@@ -99,3 +99,7 @@ told_not b is no' p = let both : true ≡ false = sym (is.1 p) ∙ no' in cc
 pub if_ok : {T E : Type 0} (P Q : T → Type 0) (r : Result T E) → ((x : T) → P x → Q x) → IfOk r P → IfOk r Q
 if_ok P Q (Ok x) f h = f x h
 if_ok P Q (Err e) f h = tt
+
+pub if_err : {T E : Type 0} (P Q : E → Type 0) (r : Result T E) → ((e : E) → P e → Q e) → IfErr r P → IfErr r Q
+if_err P Q (Ok x) f h = tt
+if_err P Q (Err e) f h = f e h

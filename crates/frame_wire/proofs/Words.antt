@@ -3,6 +3,7 @@ pub use Rattle.std.proofs.Common.{◌≡◌, ◌≤◌, ◌<◌, [], ◌∷◌, 
 pub use Rattle.std.proofs.Common.{IsSome, IsTrue, List, None, Ok, Option, Result, Some, ℕ, ap, append_assoc, arith}
 pub use Rattle.std.proofs.Common.{drop, false, if◌then◌else◌, inl, inr, length, length-append, length-drop, refl, rules}
 pub use Rattle.std.proofs.Common.{slice_index, subst, suc, sym, take, take_all, true, zero}
+pub use Rattle.std.proofs.Common.{◌%◌, ◌*◌, ◌/◌, IfErr, slice_range}
 pub use Rattle.std.proofs.lemmas.Grind.{common_steps}
 pub use Rattle.std.proofs.lemmas.List.{append-nil, drop_at, take_at}
 pub use Rattle.byteorder.specs.Endian.{big_bytes, big_number}

@@ -1,8 +1,8 @@
 -- Frames of links: what their headers say of the network, VLAN tags, and the bytes after them.
 use Rattle.std.specs.Prelude.{◌≡◌, ◌≢◌, ◌+◌, ◌*◌, ◌/◌, ◌%◌, ◌≤◌, ◌⊎◌, [], ◌∷◌, ◌++◌, List, None, Option, Some, ℕ, drop}
-use Rattle.std.specs.Prelude.{if◌then◌else◌, length, nat_lt, slice_index, take}
+use Rattle.std.specs.Prelude.{Bool, ◌==◌, if◌then◌else◌, length, nat_lt, slice_index, slice_range, take}
 use Rattle.frame_wire.specs.Words.{Link, Network, field, number_of, part}
-use Rattle.byteorder.specs.Endian.{little_number}
+use Rattle.byteorder.specs.Endian.{big_number, little_number}
 use Rattle.frame_wire.specs.declared.link.Frame.{Frame}
 use Rattle.wirebase.specs.Numbered.{case_in}
 
@@ -110,6 +110,114 @@ pub record IsFamily (bytes : List ℕ) (v : FrameValue) : Type 0 where
   pub there : 4 ≤ length bytes
   pub value : v ≡ frame (network_of_family (family_in bytes)) [] (drop 4 bytes)
 
+-- ---- IPNET of Solaris: a version and an address family of one byte each, a kind of hook of two bytes, and the length
+-- of the packet, two numbers of interfaces and two of zones of four bytes each; then the packet
+
+abbrev pub network_of_solaris : ℕ → Network
+network_of_solaris n = case_in Network.Other ((Network.Ipv4, 2) ∷ (Network.Ipv6, 26) ∷ []) n
+
+pub record IsIpnet (bytes : List ℕ) (v : FrameValue) : Type 0 where
+  pub there : 24 ≤ length bytes
+  pub value : v ≡ frame (network_of_solaris (slice_index bytes 1)) [] (drop 24 bytes)
+
+-- ---- NFLOG: a header of four bytes, and attributes
+--
+--  0                   1                   2                   3
+--  0 1 2 3 4 5 6 7 8 9 0 1 2 3 4 5 6 7 8 9 0 1 2 3 4 5 6 7 8 9 0 1
+-- +---------------+---------------+-------------------------------+
+-- |    Family     |    Version    |           Resource            |
+-- +---------------+---------------+-------------------------------+
+-- |            Length             |             Type              |
+-- +-------------------------------+-------------------------------+
+-- |                   Value, padded to four bytes                 |
+
+-- the network of an address family of Linux
+abbrev pub network_of_nflog : ℕ → Network
+network_of_nflog n = case_in Network.Other ((Network.Ipv4, 2) ∷ (Network.Ipv6, 10) ∷ []) n
+
+-- Lengths and types are in the order of the machine that captured, which the frame does not tell. The type of the first
+-- attribute is below 256, and so the lower byte is first where the second byte of that type is 0.
+abbrev pub is_lowest_first : List ℕ → Bool
+is_lowest_first attributes = slice_index attributes 3 == 0
+
+-- the number in two bytes
+unfoldable pub number_in : Bool → List ℕ → ℕ
+number_in lowest_first two = if lowest_first then little_number 2 two else big_number 2 two
+
+-- of the attribute in front: its length, which counts the four bytes of the length and the type; its type; and the
+-- attributes after it
+abbrev pub attribute_len : Bool → List ℕ → ℕ
+attribute_len lowest_first bytes = number_in lowest_first (part bytes 0 2)
+
+abbrev pub attribute_type : Bool → List ℕ → ℕ
+attribute_type lowest_first bytes = number_in lowest_first (part bytes 2 4)
+
+abbrev pub after_attribute : Bool → List ℕ → List ℕ
+after_attribute lowest_first bytes = drop ((attribute_len lowest_first bytes + 3) / 4 * 4) bytes
+
+pub record HasAttribute (lowest_first : Bool) (bytes : List ℕ) : Type 0 where
+  pub header : 4 ≤ length bytes
+  pub least : 4 ≤ attribute_len lowest_first bytes
+  pub whole : attribute_len lowest_first bytes ≤ length bytes
+
+-- the packet is the value of the first attribute of type 9
+pub data HasPacket (lowest_first : Bool) : List ℕ → List ℕ → Type 0 where
+  packet_here : {bytes packet : List ℕ} → HasAttribute lowest_first bytes → attribute_type lowest_first bytes ≡ 9
+      → packet ≡ slice_range bytes 4 (attribute_len lowest_first bytes) → HasPacket lowest_first bytes packet
+  packet_later : {bytes packet : List ℕ} → HasAttribute lowest_first bytes → attribute_type lowest_first bytes ≢ 9
+      → HasPacket lowest_first (after_attribute lowest_first bytes) packet → HasPacket lowest_first bytes packet
+
+pub record IsNflog (bytes : List ℕ) (v : FrameValue) : Type 0 where
+  pub packet : List ℕ
+  pub there : 4 ≤ length bytes
+  pub version : slice_index bytes 1 ≡ 0
+  pub attributes : HasPacket (is_lowest_first (drop 4 bytes)) (drop 4 bytes) packet
+  pub value : v ≡ frame (network_of_nflog (slice_index bytes 0)) [] packet
+
+-- ---- frame relay (RFC 2427)
+
+-- An address has two to four bytes, of which the last alone has its lowest bit set (Q.922 section 3.3).
+pub data IsAddress (bytes : List ℕ) (n : ℕ) : Type 0 where
+  two_bytes : 2 ≤ length bytes → slice_index bytes 0 % 2 ≢ 1 → slice_index bytes 1 % 2 ≡ 1 → n ≡ 2 → IsAddress bytes n
+  three_bytes : 3 ≤ length bytes → slice_index bytes 0 % 2 ≢ 1 → slice_index bytes 1 % 2 ≢ 1
+      → slice_index bytes 2 % 2 ≡ 1 → n ≡ 3 → IsAddress bytes n
+  four_bytes : 4 ≤ length bytes → slice_index bytes 0 % 2 ≢ 1 → slice_index bytes 1 % 2 ≢ 1
+      → slice_index bytes 2 % 2 ≢ 1 → slice_index bytes 3 % 2 ≡ 1 → n ≡ 4 → IsAddress bytes n
+
+-- the network of an NLPID
+abbrev pub network_of_nlpid : ℕ → Network
+network_of_nlpid n = case_in Network.Other ((Network.Ipv4, 0xcc) ∷ (Network.Ipv6, 0x8e) ∷ []) n
+
+-- the organization of SNAP, in the three bytes after the NLPID
+abbrev pub organization : List ℕ → ℕ
+organization bytes = number_of (field 0 4) bytes % 0x1000000
+
+-- An NLPID, and what follows it: after that of SNAP, an organization of three bytes and a type of two bytes, which is
+-- an EtherType where the organization is 0. SNAP of another organization is a network by the NLPID, and its payload
+-- begins with the organization.
+pub data IsNlpid (bytes : List ℕ) (v : FrameValue) : Type 0 where
+  by_number : 1 ≤ length bytes → slice_index bytes 0 ≢ 0x80
+      → v ≡ frame (network_of_nlpid (slice_index bytes 0)) [] (drop 1 bytes) → IsNlpid bytes v
+  by_ether_type : 6 ≤ length bytes → slice_index bytes 0 ≡ 0x80 → organization bytes ≡ 0
+      → IsTypedFrame (number_of (field 4 6) bytes) (drop 6 bytes) v → IsNlpid bytes v
+  by_organization : 6 ≤ length bytes → slice_index bytes 0 ≡ 0x80 → organization bytes ≢ 0
+      → v ≡ frame (Network.Other 0x80) [] (drop 1 bytes) → IsNlpid bytes v
+
+-- a byte of zeros may pad the control byte
+abbrev pub after_pad : List ℕ → List ℕ
+after_pad bytes = if slice_index bytes 0 == 0 then drop 1 bytes else bytes
+
+-- unnumbered information: a control byte of 3, which may be padded, and an NLPID
+pub record IsUnnumbered (bytes : List ℕ) (v : FrameValue) : Type 0 where
+  pub there : 1 ≤ length bytes
+  pub control : slice_index bytes 0 ≡ 3
+  pub protocol : IsNlpid (after_pad (drop 1 bytes)) v
+
+pub record IsFrameRelay (bytes : List ℕ) (v : FrameValue) : Type 0 where
+  pub len : ℕ
+  pub address : IsAddress bytes len
+  pub unnumbered : IsUnnumbered (drop len bytes) v
+
 -- ---- links
 
 -- the link of a number (the registry of link types of pcap and pcapng)
@@ -118,8 +226,9 @@ link_of n =
     case_in (λ _. None)
     ((Some Link.Null, 0) ∷ (Some Link.Ethernet, 1) ∷ (Some Link.Ppp, 9) ∷ (Some Link.Raw, 12)
     ∷ (Some Link.Raw, 14) ∷ (Some Link.Ppp, 50) ∷ (Some Link.PppEther, 51) ∷ (Some Link.Raw, 101)
-    ∷ (Some Link.Null, 108) ∷ (Some Link.LinuxSll, 113) ∷ (Some Link.Raw, 228) ∷ (Some Link.Raw, 229)
-    ∷ (Some Link.LinuxSll2, 276) ∷ []) n
+    ∷ (Some Link.CHdlc, 104) ∷ (Some Link.FrameRelay, 107) ∷ (Some Link.Null, 108) ∷ (Some Link.LinuxSll, 113)
+    ∷ (Some Link.Ipnet, 226) ∷ (Some Link.Raw, 228) ∷ (Some Link.Raw, 229) ∷ (Some Link.Nflog, 239)
+    ∷ (Some Link.Ipoib, 242) ∷ (Some Link.LinuxSll2, 276) ∷ []) n
 
 -- The grammar of a frame, by its link.
 abbrev pub IsFrame : Link → List ℕ → FrameValue → Type 0
@@ -130,6 +239,11 @@ IsFrame Link.PppEther bytes v = IsSession bytes × IsProtocol (drop 6 bytes) [] 
 IsFrame Link.Raw bytes v = IsRaw bytes v
 IsFrame Link.LinuxSll bytes v = (16 ≤ length bytes) × IsTypedFrame (number_of (field 14 16) bytes) (drop 16 bytes) v
 IsFrame Link.LinuxSll2 bytes v = (20 ≤ length bytes) × IsTypedFrame (number_of (field 0 2) bytes) (drop 20 bytes) v
+IsFrame Link.CHdlc bytes v = (4 ≤ length bytes) × IsTypedFrame (number_of (field 2 4) bytes) (drop 4 bytes) v
+IsFrame Link.FrameRelay bytes v = IsFrameRelay bytes v
+IsFrame Link.Ipnet bytes v = IsIpnet bytes v
+IsFrame Link.Nflog bytes v = IsNflog bytes v
+IsFrame Link.Ipoib bytes v = (44 ≤ length bytes) × IsTypedFrame (number_of (field 40 42) bytes) (drop 44 bytes) v
 
 -- the number of the VLAN of a tag, and whether there is one at a place
 abbrev pub vlan_in : List ℕ → ℕ → ℕ

@@ -13,6 +13,11 @@ link_display Link.PppEther = codes "PPP_ETHER"
 link_display Link.Raw = codes "RAW"
 link_display Link.LinuxSll = codes "LINUX_SLL"
 link_display Link.LinuxSll2 = codes "LINUX_SLL2"
+link_display Link.CHdlc = codes "C_HDLC"
+link_display Link.FrameRelay = codes "FRELAY"
+link_display Link.Ipnet = codes "IPNET"
+link_display Link.Nflog = codes "NFLOG"
+link_display Link.Ipoib = codes "IPOIB"
 
 abbrev pub network_display : Network → List ℕ
 network_display Network.Ipv4 = codes "IPv4"
@@ -32,3 +37,9 @@ refusal_display Refusal.Protocol = codes "the PPP protocol is cut short"
 refusal_display (Refusal.SessionVersion n) = pieces (codes "PPPoE version " ∷ decimal n ∷ codes " is not read" ∷ [])
 refusal_display (Refusal.SessionType n) = pieces (codes "PPPoE type " ∷ decimal n ∷ codes " is not read" ∷ [])
 refusal_display (Refusal.SessionCode n) = pieces (codes "PPPoE code " ∷ decimal n ∷ codes " is not read" ∷ [])
+refusal_display Refusal.FrameRelayAddress = codes "the frame relay address has the wrong length"
+refusal_display (Refusal.FrameRelayControl n) =
+    pieces (codes "frame relay control " ∷ decimal n ∷ codes " is not read" ∷ [])
+refusal_display (Refusal.NflogVersion n) = pieces (codes "NFLOG version " ∷ decimal n ∷ codes " is not read" ∷ [])
+refusal_display (Refusal.NflogLen n) =
+    pieces (codes "NFLOG attribute length " ∷ decimal n ∷ codes " is below 4" ∷ [])

@@ -1,7 +1,9 @@
 -- Why octets are no frame of a link: the check that fails first.
-use Rattle.std.specs.Prelude.{◌≡◌, ◌≢◌, ◌+◌, ◌/◌, ◌%◌, ◌<◌, ◌≤◌, ◌⊎◌, List, ℕ, drop, length, slice_index}
+use Rattle.std.specs.Prelude.{◌≡◌, ◌≢◌, ◌+◌, ◌/◌, ◌%◌, ◌<◌, ◌≤◌, ◌⊎◌, Bool, List, ℕ, drop, length, slice_index}
 use Rattle.frame_wire.specs.Words.{Link, field, number_of}
 use Rattle.frame_wire.specs.Link.{FrameValue, TypedValue, IsTagType, IsTagged, HasAddress, IsSession, IsFrame}
+use Rattle.frame_wire.specs.Link.{HasAttribute, after_attribute, attribute_len, attribute_type, is_lowest_first}
+use Rattle.frame_wire.specs.Link.{IsAddress, after_pad, organization}
 use Rattle.frame_wire.specs.declared.link.refusal.Refusal.{Refusal}
 
 -- the bytes are a frame of a link
@@ -51,12 +53,66 @@ RefusesSession bytes (Refusal.SessionType n) =
 RefusesSession bytes (Refusal.SessionCode n) =
     (6 ≤ length bytes) × (session_word bytes / 0x100 ≡ 0x11) × (session_word bytes % 0x100 ≡ n) × (n ≢ 0)
 RefusesSession bytes Refusal.Protocol = IsSession bytes × IsProtocolCut (drop 6 bytes)
-RefusesSession bytes Refusal.Tag = ⊥
+RefusesSession bytes _ = ⊥
 
 -- of a frame that has a header of this many bytes and nothing that could be wrong in it
 abbrev pub RefusesPlain : ℕ → List ℕ → Refusal → Type 0
 RefusesPlain size bytes Refusal.Short = length bytes < size
 RefusesPlain size bytes _ = ⊥
+
+-- of the attributes of NFLOG: the first of them that is not whole, where none before it has the packet
+pub data RefusesAttributes (lowest_first : Bool) : List ℕ → Refusal → Type 0 where
+  header_cut : {bytes : List ℕ} {refusal : Refusal} → length bytes < 4 → refusal ≡ Refusal.Short
+      → RefusesAttributes lowest_first bytes refusal
+  len_low : {bytes : List ℕ} {refusal : Refusal} → 4 ≤ length bytes → attribute_len lowest_first bytes < 4
+      → refusal ≡ Refusal.NflogLen (attribute_len lowest_first bytes) → RefusesAttributes lowest_first bytes refusal
+  value_cut : {bytes : List ℕ} {refusal : Refusal} → 4 ≤ length bytes → 4 ≤ attribute_len lowest_first bytes
+      → length bytes < attribute_len lowest_first bytes → refusal ≡ Refusal.Short
+      → RefusesAttributes lowest_first bytes refusal
+  attribute_later : {bytes : List ℕ} {refusal : Refusal} → HasAttribute lowest_first bytes
+      → attribute_type lowest_first bytes ≢ 9
+      → RefusesAttributes lowest_first (after_attribute lowest_first bytes) refusal
+      → RefusesAttributes lowest_first bytes refusal
+
+pub data RefusesNflog (bytes : List ℕ) (refusal : Refusal) : Type 0 where
+  nflog_cut : length bytes < 4 → refusal ≡ Refusal.Short → RefusesNflog bytes refusal
+  nflog_version : 4 ≤ length bytes → slice_index bytes 1 ≢ 0
+      → refusal ≡ Refusal.NflogVersion (slice_index bytes 1) → RefusesNflog bytes refusal
+  nflog_attributes : 4 ≤ length bytes → slice_index bytes 1 ≡ 0
+      → RefusesAttributes (is_lowest_first (drop 4 bytes)) (drop 4 bytes) refusal → RefusesNflog bytes refusal
+
+-- of the address of frame relay: its first byte is its last, or its fourth is not, or the bytes end before it does
+pub data RefusesAddress (bytes : List ℕ) (refusal : Refusal) : Type 0 where
+  address_low : 2 ≤ length bytes → slice_index bytes 0 % 2 ≡ 1 → refusal ≡ Refusal.FrameRelayAddress
+      → RefusesAddress bytes refusal
+  address_high : 4 ≤ length bytes → slice_index bytes 0 % 2 ≢ 1 → slice_index bytes 1 % 2 ≢ 1
+      → slice_index bytes 2 % 2 ≢ 1 → slice_index bytes 3 % 2 ≢ 1 → refusal ≡ Refusal.FrameRelayAddress
+      → RefusesAddress bytes refusal
+  address_one : length bytes < 2 → refusal ≡ Refusal.Short → RefusesAddress bytes refusal
+  address_two : length bytes ≡ 2 → slice_index bytes 0 % 2 ≢ 1 → slice_index bytes 1 % 2 ≢ 1
+      → refusal ≡ Refusal.Short → RefusesAddress bytes refusal
+  address_three : length bytes ≡ 3 → slice_index bytes 0 % 2 ≢ 1 → slice_index bytes 1 % 2 ≢ 1
+      → slice_index bytes 2 % 2 ≢ 1 → refusal ≡ Refusal.Short → RefusesAddress bytes refusal
+
+-- of an NLPID and what follows it
+pub data RefusesNlpid (bytes : List ℕ) (refusal : Refusal) : Type 0 where
+  nlpid_cut : length bytes < 1 → refusal ≡ Refusal.Short → RefusesNlpid bytes refusal
+  snap_cut : 1 ≤ length bytes → length bytes < 6 → slice_index bytes 0 ≡ 0x80 → refusal ≡ Refusal.Short
+      → RefusesNlpid bytes refusal
+  snap_typed : 6 ≤ length bytes → slice_index bytes 0 ≡ 0x80 → organization bytes ≡ 0
+      → RefusesTyped 4 6 bytes refusal → RefusesNlpid bytes refusal
+
+pub data RefusesUnnumbered (bytes : List ℕ) (refusal : Refusal) : Type 0 where
+  control_cut : length bytes < 1 → refusal ≡ Refusal.Short → RefusesUnnumbered bytes refusal
+  control_other : 1 ≤ length bytes → slice_index bytes 0 ≢ 3
+      → refusal ≡ Refusal.FrameRelayControl (slice_index bytes 0) → RefusesUnnumbered bytes refusal
+  control_nlpid : 1 ≤ length bytes → slice_index bytes 0 ≡ 3 → RefusesNlpid (after_pad (drop 1 bytes)) refusal
+      → RefusesUnnumbered bytes refusal
+
+pub data RefusesFrameRelay (bytes : List ℕ) (refusal : Refusal) : Type 0 where
+  address : RefusesAddress bytes refusal → RefusesFrameRelay bytes refusal
+  addressed : (len : ℕ) → IsAddress bytes len → RefusesUnnumbered (drop len bytes) refusal
+      → RefusesFrameRelay bytes refusal
 
 -- the refusal of other bytes, by their link
 abbrev pub Refuses : Link → List ℕ → Refusal → Type 0
@@ -67,3 +123,8 @@ Refuses Link.PppEther bytes refusal = RefusesSession bytes refusal
 Refuses Link.Raw bytes refusal = RefusesPlain 1 bytes refusal
 Refuses Link.LinuxSll bytes refusal = RefusesTyped 14 16 bytes refusal
 Refuses Link.LinuxSll2 bytes refusal = RefusesTyped 0 20 bytes refusal
+Refuses Link.CHdlc bytes refusal = RefusesTyped 2 4 bytes refusal
+Refuses Link.FrameRelay bytes refusal = RefusesFrameRelay bytes refusal
+Refuses Link.Ipnet bytes refusal = RefusesPlain 24 bytes refusal
+Refuses Link.Nflog bytes refusal = RefusesNflog bytes refusal
+Refuses Link.Ipoib bytes refusal = RefusesTyped 40 44 bytes refusal

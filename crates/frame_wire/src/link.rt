@@ -5,6 +5,7 @@ ghost use Rattle.std.specs.Prelude.{drop};
 ghost use Rattle.frame_wire.specs.Link.{FrameValue, value_of, network_of_type, IsTagType, TypedValue, IsTagged};
 ghost use Rattle.frame_wire.specs.Link.{network_of_protocol, IsProtocol, IsPpp, IsSession, IsPayload, IsTypedFrame};
 ghost use Rattle.frame_wire.specs.Link.{link_of, IsFrame, IsRaw, IsFamily, family_in, network_of_family, vlan_in};
+ghost use Rattle.frame_wire.specs.Link.{IsIpnet, network_of_solaris};
 ghost use Rattle.frame_wire.specs.private.Parts.{typed_of};
 ghost use Rattle.frame_wire.specs.LinkRefusal.{IsTagCut, IsProtocolCut, RefusesPpp, IsSessionCut};
 ghost use Rattle.frame_wire.specs.declared.link.refusal.Refusal.TheVariants as refusals;
@@ -15,6 +16,8 @@ use wirebase::{Error, Octets, Result};
 
 mod display;
 mod ethernet;
+mod frame_relay;
+mod nflog;
 mod refusal;
 mod vlans;
 
@@ -50,12 +53,23 @@ pub enum Link {
     LinuxSll,
     /// Linux cooked capture, version 2.
     LinuxSll2,
+    /// HDLC as Cisco's routers have it: an address, a control byte, and an EtherType (RFC 1547 section 4.3.1).
+    CHdlc,
+    /// Frame relay with protocols by their numbers (RFC 2427).
+    FrameRelay,
+    /// IP with the header of Solaris's ipnet.
+    Ipnet,
+    /// What the firewall of Linux logs: attributes, one of which is the packet.
+    Nflog,
+    /// IP over InfiniBand (RFC 4391 section 6), behind a global route header of 40 bytes.
+    Ipoib,
 }
 
 impl Link {
     /// The link of a capture file's link type, by the registry of link types of pcap and pcapng; None where its frames
     /// are not read. Read are 0 and 108 (NULL and LOOP); 1 (ETHERNET); 9 and 50 (PPP and PPP_HDLC); 12, 14, 101, 228
-    /// and 229 (RAW by two older numbers, RAW, IPV4 and IPV6); 51 (PPP_ETHER); 113 (LINUX_SLL); and 276 (LINUX_SLL2).
+    /// and 229 (RAW by two older numbers, RAW, IPV4 and IPV6); 51 (PPP_ETHER); 104 (C_HDLC); 107 (FRELAY); 113
+    /// (LINUX_SLL); 226 (IPNET); 239 (NFLOG); 242 (IPOIB); and 276 (LINUX_SLL2).
     pub fn of(link_type: u16) -> Option<Link>
         ensures { result ≡ link_of link_type }
     {
@@ -65,14 +79,21 @@ impl Link {
             9 | 50 => Some(Link::Ppp),
             12 | 14 | 101 | 228 | 229 => Some(Link::Raw),
             51 => Some(Link::PppEther),
+            104 => Some(Link::CHdlc),
+            107 => Some(Link::FrameRelay),
             113 => Some(Link::LinuxSll),
+            226 => Some(Link::Ipnet),
+            239 => Some(Link::Nflog),
+            242 => Some(Link::Ipoib),
             276 => Some(Link::LinuxSll2),
             _ => None,
         }
     }
 
-    /// The frame in these octets. Refused where its headers are cut short, and where a PPPoE session packet has another
-    /// version, type or code than data.
+    /// The frame in these octets. Refused where its headers are cut short; where a PPPoE session packet has another
+    /// version, type or code than data; where frame relay has an address of another length than two to four bytes, or
+    /// another control byte than 3, that of unnumbered information; and where NFLOG has another version than 0, an
+    /// attribute whose length does not cover its own header, or no attribute with the packet.
     #[inline]
     pub fn frame(self, octets: &[u8]) -> Result<Frame<'_>>
         ensures sound { IfOk result (λ f. IsFrame self octets.now (value_of f)) }
@@ -86,6 +107,11 @@ impl Link {
             Link::Raw => raw(octets),
             Link::LinuxSll => typed_at(octets, 14, 16),
             Link::LinuxSll2 => typed_at(octets, 0, 20),
+            Link::CHdlc => typed_at(octets, 2, 4),
+            Link::FrameRelay => frame_relay::read(octets).map_err(|_| Error),
+            Link::Ipnet => ipnet(octets),
+            Link::Nflog => nflog::read(octets).map_err(|_| Error),
+            Link::Ipoib => typed_at(octets, 40, 44),
         }
     }
 }
@@ -278,7 +304,7 @@ fn payload_of<'a>(typed: Typed<'a>) -> Result<Frame<'a>>
 // A frame whose EtherType is at `place` and whose payload begins at `start`. Refused where its headers are cut short.
 fn typed_at(octets: &[u8], place: usize, start: usize) -> Result<Frame<'_>>
     requires order { place + 2 ≤ start }
-    requires small { start ≤ 20 }
+    requires small { start ≤ 44 }
     ensures sound { IfOk result (λ f. (start ≤ length octets.now)
         × IsTypedFrame (number_of (field_at place (place + 2)) octets.now) (drop start octets.now) (value_of f)) }
     ensures complete { (v : FrameValue) → start ≤ length octets.now
@@ -369,5 +395,32 @@ fn network_of_family(family: u16) -> Network
         2 => Network::Ipv4,
         10 | 24 | 28 | 30 => Network::Ipv6,
         other => Network::Other(other),
+    }
+}
+
+// A datagram behind the header of Solaris's ipnet. Refused where that is cut short.
+fn ipnet(octets: &[u8]) -> Result<Frame<'_>>
+    ensures sound { IfOk result (λ f. IsIpnet octets.now (value_of f)) }
+    ensures cut { IfErr result (λ _. length octets.now < 24) }
+    ensures complete { (v : FrameValue) → IsIpnet octets.now v → IsOkAnd result (λ f. value_of f ≡ v) }
+{
+    if octets.len() < 24 {
+        return Err(Error);
+    }
+    Ok(Frame {
+        network: network_of_solaris(octets[1]),
+        tags: &[],
+        payload: behind(octets, 24),
+    })
+}
+
+// The network of an address family of Solaris.
+fn network_of_solaris(family: u8) -> Network
+    ensures { result ≡ network_of_solaris family }
+{
+    match family {
+        2 => Network::Ipv4,
+        26 => Network::Ipv6,
+        other => Network::Other(other as u16),
     }
 }

@@ -4,7 +4,7 @@ use std::process::Abort;
 use wirebase::EthernetAddress;
 
 // A frame of a link, and what it holds.
-type Row = (Link, &'static [u8], Network, &'static [u16], &'static [u8]);
+pub(super) type Row = (Link, &'static [u8], Network, &'static [u16], &'static [u8]);
 
 const ROWS: &[Row] = &[
     (
@@ -159,21 +159,26 @@ fn check_frame(rt: &impl Abort, of: &[u8], frame: &Frame<'_>, row: &Row) {
     }
 }
 
-#[test]
-fn frames_of_each_link(rt: HostRuntime) {
-    for row in ROWS {
+// Compares the frames in these rows with what they hold.
+pub(super) fn check_frames(rt: &impl Abort, rows: &[Row]) {
+    for row in rows {
         let &(link, octets, ..) = row;
         same_of(
-            &rt,
+            rt,
             octets,
             link.frame_or_refusal(octets).ok(),
             link.frame(octets).ok(),
         );
         match link.frame(octets) {
-            Ok(frame) => check_frame(&rt, octets, &frame, row),
-            Err(_) => same_of(&rt, octets, false, true),
+            Ok(frame) => check_frame(rt, octets, &frame, row),
+            Err(_) => same_of(rt, octets, false, true),
         }
     }
+}
+
+#[test]
+fn frames_of_each_link(rt: HostRuntime) {
+    check_frames(&rt, ROWS);
 }
 
 // Without its payload a frame is whole, and with less it is refused.
@@ -207,11 +212,16 @@ fn link_types(rt: HostRuntime) {
         (50, Some(Link::Ppp)),
         (51, Some(Link::PppEther)),
         (101, Some(Link::Raw)),
+        (104, Some(Link::CHdlc)),
         (105, None),
+        (107, Some(Link::FrameRelay)),
         (108, Some(Link::Null)),
         (113, Some(Link::LinuxSll)),
+        (226, Some(Link::Ipnet)),
         (228, Some(Link::Raw)),
         (229, Some(Link::Raw)),
+        (239, Some(Link::Nflog)),
+        (242, Some(Link::Ipoib)),
         (276, Some(Link::LinuxSll2)),
         (65535, None),
     ];
@@ -221,26 +231,25 @@ fn link_types(rt: HostRuntime) {
 }
 
 // A reason is told exactly where a frame is refused: of each front of a frame, and with each of its bytes changed.
-#[test]
-fn refusals_of_damaged_frames(rt: HostRuntime) {
-    for &(link, octets, ..) in ROWS {
+pub(super) fn check_damaged(rt: &impl Abort, rows: &[Row]) {
+    for &(link, octets, ..) in rows {
         for len in 0..=octets.len() {
             let front = &octets[..len];
             same_of(
-                &rt,
+                rt,
                 (octets, len),
                 link.refusal(front).is_none(),
                 link.frame(front).is_ok(),
             );
         }
-        let mut changed = [0; 32];
-        if octets.len() <= 32 {
+        let mut changed = [0; 96];
+        if octets.len() <= 96 {
             changed[..octets.len()].copy_from_slice(octets);
             for place in 0..octets.len() {
                 changed[place] ^= 0x55;
                 let frame = &changed[..octets.len()];
                 same_of(
-                    &rt,
+                    rt,
                     (octets, place),
                     link.refusal(frame).is_none(),
                     link.frame(frame).is_ok(),
@@ -252,8 +261,29 @@ fn refusals_of_damaged_frames(rt: HostRuntime) {
 }
 
 #[test]
+fn refusals_of_damaged_frames(rt: HostRuntime) {
+    check_damaged(&rt, ROWS);
+}
+
+// A frame of a link, and why it is refused.
+pub(super) type Refused = (Link, &'static [u8], Option<Refusal>);
+
+// Compares the reasons for which these frames are refused.
+pub(super) fn check_refusals(rt: &impl Abort, rows: &[Refused]) {
+    for &(link, octets, refusal) in rows {
+        same_of(rt, (link, octets), link.refusal(octets), refusal);
+        same_of(
+            rt,
+            (link, octets),
+            link.frame_or_refusal(octets).err(),
+            refusal,
+        );
+    }
+}
+
+#[test]
 fn refusals_of_frames(rt: HostRuntime) {
-    const REFUSED: &[(Link, &[u8], Option<Refusal>)] = &[
+    const REFUSED: &[Refused] = &[
         (Link::Null, &[2, 0, 0], Some(Refusal::Short)),
         (Link::Raw, &[], Some(Refusal::Short)),
         (Link::Raw, &[0x45], None),
@@ -304,15 +334,7 @@ fn refusals_of_frames(rt: HostRuntime) {
             Some(Refusal::Protocol),
         ),
     ];
-    for &(link, octets, refusal) in REFUSED {
-        same_of(&rt, (link, octets), link.refusal(octets), refusal);
-        same_of(
-            &rt,
-            (link, octets),
-            link.frame_or_refusal(octets).err(),
-            refusal,
-        );
-    }
+    check_refusals(&rt, REFUSED);
 }
 
 #[test]

@@ -26,3 +26,27 @@ returns-in-Ok-raw-clause-exact c = (
       (value_of c.in-Ok-raw.field-0, c.in-Ok-raw.ensures.sound),
   λ _. refl,
 )
+
+pub returns-in-Ok-read-clause-exact : goal.returns-in-Ok-read-clause-exact
+returns-in-Ok-read-clause-exact c = (
+  λ _.
+      subst (λ link. IsRead link c.args.octets.now) (sym c.in-FrameRelay.is)
+      (value_of c.in-Ok-read.field-0, c.in-Ok-read.ensures.sound),
+  λ _. refl,
+)
+
+pub returns-in-Ok-ipnet-clause-exact : goal.returns-in-Ok-ipnet-clause-exact
+returns-in-Ok-ipnet-clause-exact c = (
+  λ _.
+      subst (λ link. IsRead link c.args.octets.now) (sym c.in-Ipnet.is)
+      (value_of c.in-Ok-ipnet.field-0, c.in-Ok-ipnet.ensures.sound),
+  λ _. refl,
+)
+
+pub returns-in-Ok-read-2-clause-exact : goal.returns-in-Ok-read-2-clause-exact
+returns-in-Ok-read-2-clause-exact c = (
+  λ _.
+      subst (λ link. IsRead link c.args.octets.now) (sym c.in-Nflog.is)
+      (value_of c.in-Ok-read-2.field-0, c.in-Ok-read-2.ensures.sound),
+  λ _. refl,
+)
