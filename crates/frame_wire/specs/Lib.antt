@@ -7,6 +7,7 @@ pub mod LinkDisplay
 pub mod LinkEthernet
 pub mod LinkRefusal
 pub mod LinkVlans
+pub mod Names
 pub mod Udp
 pub mod UdpCaptured
 pub mod UdpRefusal

@@ -25,6 +25,7 @@
 
 pub mod datagram;
 pub mod link;
+pub mod names;
 pub mod udp;
 
 pub use datagram::{Addresses, Captured, Datagram, Extent, Head, Refusal};

@@ -4,5 +4,6 @@ mod link;
 mod link_display;
 mod link_pseudo_headers;
 mod link_wide_area;
+mod names;
 mod udp;
 mod udp_display;
