@@ -71,7 +71,7 @@ fn packet(attributes: &[u8], lowest_first: bool) -> result::Result<&[u8], Refusa
         }
         let len = number_at(rest, 0, lowest_first);
         if len < 4 {
-            return Err(Refusal::NflogLen(len));
+            return Err(Refusal::NflogLen(len as u8));
         }
         let len = len as usize;
         if rest.len() < len {

@@ -34,7 +34,7 @@ pub enum Refusal {
     /// The NFLOG version is not 0; this is its number.
     NflogVersion(u8),
     /// An NFLOG attribute has a length below 4, the bytes of its own header; this is the length.
-    NflogLen(u16),
+    NflogLen(u8),
 }
 
 impl Link {
