@@ -8,6 +8,8 @@ pub mod LinkEthernet
 pub mod LinkRefusal
 pub mod LinkVlans
 pub mod Names
+pub mod Tunnel
+pub mod TunnelDisplay
 pub mod Udp
 pub mod UdpCaptured
 pub mod UdpRefusal
