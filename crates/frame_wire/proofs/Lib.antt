@@ -1,5 +1,7 @@
 pub mod Attributes
+pub mod Ends
 pub mod Headers
+pub mod Jumbograms
 pub mod TagLists
 pub mod Tags
 pub mod UdpFormat

@@ -1,7 +1,7 @@
 -- The words that the proofs of this crate are said in: those of std, of the crates below and of the definitions.
-pub use Rattle.std.proofs.Common.{◌≡◌, ◌≤◌, ◌<◌, [], ◌∷◌, ◌+◌, ◌-◌, ◌++◌, ◌∙◌, ◌↔◌, ◌≢◌, ◌^◌, Bool, Err, IfOk, IsNone}
-pub use Rattle.std.proofs.Common.{IsSome, IsTrue, List, None, Ok, Option, Result, Some, ℕ, ap, append_assoc, arith}
-pub use Rattle.std.proofs.Common.{drop, false, if◌then◌else◌, inl, inr, length, length-append, length-drop, refl, rules}
+pub use Rattle.std.proofs.Common.{◌≡◌, ◌≤◌, ◌<◌, [], ◌∷◌, ◌+◌, ◌-◌, ◌++◌, ◌∙◌, ◌↔◌, ◌≢◌, ◌^◌, Bool, Err, IfErr, IfOk}
+pub use Rattle.std.proofs.Common.{IfSome, IsNone, IsSome, IsTrue, List, None, Ok, Option, Result, Some, ℕ, ap}
+pub use Rattle.std.proofs.Common.{append_assoc, arith, drop, false, if◌then◌else◌, inl, inr, length, length-append, length-drop, refl, rules}
 pub use Rattle.std.proofs.Common.{slice_index, subst, suc, sym, take, take_all, true, zero}
 pub use Rattle.std.proofs.Common.{◌%◌, ◌*◌, ◌/◌, IfErr, slice_range}
 pub use Rattle.std.proofs.lemmas.Grind.{common_steps}
@@ -9,7 +9,8 @@ pub use Rattle.std.proofs.lemmas.List.{append-nil, drop_at, take_at}
 pub use Rattle.byteorder.specs.Endian.{big_bytes, big_number}
 pub use Rattle.frame_wire.specs.Addresses.{sum_before}
 pub use Rattle.frame_wire.specs.Captured.{cut}
-pub use Rattle.frame_wire.specs.Datagram.{Passes, next_header_in}
+pub use Rattle.frame_wire.specs.Datagram.{next_header_in}
+pub use Rattle.frame_wire.specs.DatagramHeaders.{Passes}
 pub use Rattle.frame_wire.specs.Link.{IsTagged, value_of}
 pub use Rattle.frame_wire.specs.private.Parts.{typed_of}
 unfoldable pub use Rattle.frame_wire.specs.LinkVlans.{tags_in}

@@ -3,8 +3,8 @@ use Rattle.std.specs.Prelude.{◌≡◌, ◌≢◌, ◌+◌, ◌<◌, ◌≤◌,
 use Rattle.frame_wire.specs.Words.{Extent, IpProtocol, Refusal}
 use Rattle.wirebase.specs.Ipv4 as ipv4
 use Rattle.frame_wire.specs.Datagram.{DatagramValue, value_of, HasHeader4, IsFragment4, IsHeaded4, IsDatagram4, IsHead4}
-use Rattle.frame_wire.specs.Datagram.{Refuses4, HasHeader6, total_len6, IsHeaded6, IsDatagram6, IsHead6, Refuses6}
-use Rattle.frame_wire.specs.Datagram.{RefusesBehind6}
+use Rattle.frame_wire.specs.Datagram.{Refuses4, HasHeader6, rest6, EndsAt6, IsCut6, IsHeaded6, IsDatagram6, IsHead6}
+use Rattle.frame_wire.specs.Datagram.{RefusesBehind6, Refuses6}
 use Rattle.frame_wire.specs.declared.datagram.captured.Captured.{Captured}
 
 -- by content
@@ -64,16 +64,18 @@ RefusesCaptured4 bytes refusal = Refuses4 bytes refusal
 -- extend IPv6 in what is there.
 pub data IsCaptured6 (bytes : List ℕ) (v : CapturedValue) : Type 0 where
   whole : IsDatagram6 bytes v.datagram → v.extent ≡ Extent.Whole → IsCaptured6 bytes v
-  cut : (missing : ℕ) → HasHeader6 bytes → length bytes + missing ≡ total_len6 bytes → missing ≢ 0
-      → IsHeaded6 bytes (drop 40 bytes) v.datagram → v.extent ≡ Extent.Cut missing → IsCaptured6 bytes v
+  cut : (missing end : ℕ) → HasHeader6 bytes → EndsAt6 bytes end → length bytes + missing ≡ end → missing ≢ 0
+      → IsHeaded6 bytes (rest6 bytes) v.datagram → v.extent ≡ Extent.Cut missing → IsCaptured6 bytes v
+
+-- the refusal of bytes that are cut, by what is there of the headers
+abbrev pub RefusesCut6 : List ℕ → Refusal → Type 0
+RefusesCut6 bytes refusal = HasHeader6 bytes × IsCut6 bytes × RefusesBehind6 bytes (rest6 bytes) refusal
 
 -- the refusal of other bytes: as for a whole datagram, except where the bytes end too early
 abbrev pub RefusesCaptured6 : List ℕ → Refusal → Type 0
 RefusesCaptured6 bytes (Refusal.Cut head) =
-    HasHeader6 bytes × (length bytes < total_len6 bytes) × IsHead6 bytes head
-    × ((p : IpProtocol) × RefusesBehind6 bytes (drop 40 bytes) (Refusal.Extension p))
+    IsHead6 bytes head × ((p : IpProtocol) × RefusesCut6 bytes (Refusal.Extension p))
 RefusesCaptured6 bytes (Refusal.Fragment head) =
-    Refuses6 bytes (Refusal.Fragment head)
-    ⊎ (HasHeader6 bytes × (length bytes < total_len6 bytes)
-    × RefusesBehind6 bytes (drop 40 bytes) (Refusal.Fragment head))
+    Refuses6 bytes (Refusal.Fragment head) ⊎ RefusesCut6 bytes (Refusal.Fragment head)
+RefusesCaptured6 bytes Refusal.Jumbogram = Refuses6 bytes Refusal.Jumbogram ⊎ RefusesCut6 bytes Refusal.Jumbogram
 RefusesCaptured6 bytes refusal = Refuses6 bytes refusal

@@ -1,8 +1,11 @@
 -- Datagrams of IPv4 (RFC 791 section 3.1), and of IPv6 with the headers that extend it (RFC 8200 sections 3 and 4).
-use Rattle.std.specs.Prelude.{◌≡◌, ◌≢◌, ◌+◌, ◌-◌, ◌*◌, ◌<◌, ◌≤◌, ◌⊎◌, ◌==◌, ◌||◌, ◌↔◌, ◌/◌, ◌%◌, IsTrue, List, None}
-use Rattle.std.specs.Prelude.{Option, Some, ℕ, drop, false, if◌then◌else◌, length, nat_le, slice_index}
-use Rattle.frame_wire.specs.Words.{Addresses, Head, IpProtocol, Refusal, bytes_of, field, number_of, part}
+use Rattle.std.specs.Prelude.{◌≡◌, ◌≢◌, ◌+◌, ◌*◌, ◌<◌, ◌≤◌, ◌⊎◌, ◌↔◌, ◌/◌, ◌%◌, IsTrue, List, None, Option, Some, ℕ}
+use Rattle.std.specs.Prelude.{drop, false, length, slice_index}
 use Rattle.std.specs.Option.{option_map}
+use Rattle.frame_wire.specs.Words.{Addresses, Head, IpProtocol, Refusal, bytes_of, field, number_of, part}
+use Rattle.frame_wire.specs.DatagramHeaders.{IsExtension, HasExtension, HasAtomic, options_of, Passes}
+use Rattle.frame_wire.specs.DatagramHeaders.{LeadsToTorn, HasFragment}
+use Rattle.frame_wire.specs.DatagramJumbogram.{HasJumboLen}
 use Rattle.wirebase.specs.Bytes.{byte_of}
 use Rattle.wirebase.specs.Ip.{protocol_of}
 use Rattle.wirebase.specs.Ipv4 as ipv4
@@ -88,68 +91,6 @@ Refuses4 bytes (Refusal.Fragment head) =
 Refuses4 bytes Refusal.Jumbogram = ⊥
 Refuses4 bytes (Refusal.Extension p) = ⊥
 
--- ---- the headers that extend IPv6
-
--- those that are passed: hop-by-hop and destination options, and routing headers
-abbrev pub IsExtension : IpProtocol → Type 0
-IsExtension p = (p ≡ IpProtocol.HopByHop) ⊎ (p ≡ IpProtocol.Ipv6Route) ⊎ (p ≡ IpProtocol.Ipv6Opts)
-
--- the end of a header: its length counts eight bytes each, without the first eight
-abbrev pub extension_end : List ℕ → ℕ
-extension_end bytes = 8 * slice_index bytes 1 + 8
-
--- the bytes begin with a whole header
-pub record HasExtension (bytes : List ℕ) : Type 0 where
-  pub least : 8 ≤ length bytes
-  pub whole : extension_end bytes ≤ length bytes
-
--- The bytes begin with the header of a fragment that is a whole datagram by itself, an atomic one (RFC 6946 section 2):
--- at offset 0, and with no more fragments. The offset has the upper 13 bits of two bytes, and the lowest bit is set
--- where more fragments follow (RFC 8200 section 4.5).
-pub record HasAtomic (bytes : List ℕ) : Type 0 where
-  pub whole : 8 ≤ length bytes
-  pub offset : number_of (field 2 4) bytes / 8 ≡ 0
-  pub last : number_of (field 2 4) bytes % 2 ≡ 0
-
--- the end of a header
-pub data EndsAt (p : IpProtocol) (bytes : List ℕ) (end : ℕ) : Type 0 where
-  extension : IsExtension p → HasExtension bytes → end ≡ extension_end bytes → EndsAt p bytes end
-  atomic : p ≡ IpProtocol.Ipv6Frag → HasAtomic bytes → end ≡ 8 → EndsAt p bytes end
-
--- the options of a hop-by-hop header, after its first two bytes (RFC 8200 section 4.3); other headers have none
-abbrev pub options_of : IpProtocol → List ℕ → Option (List ℕ)
-options_of IpProtocol.HopByHop header = Some (part header 2 (extension_end header))
-options_of _ header = None
-
--- Where a routing header leads that still has segments left: to the last address of types 0 and 2 (RFC 2460
--- section 4.4, RFC 6275 section 6.4), and to the first that is written of type 4 (RFC 8754 section 2). That
--- destination counts in checksums (RFC 8200 section 8.1).
-abbrev pub routed : List ℕ → List ℕ → List ℕ
-routed header destination =
-    if (slice_index header 3 == 0) || nat_le (extension_end header) 23 then destination
-    else if slice_index header 2 == 4 then part header 8 24
-    else if (slice_index header 2 == 0) || (slice_index header 2 == 2)
-    then part header (extension_end header - 16) (extension_end header)
-    else destination
-
--- the destination after a header
-pub data Routes (p : IpProtocol) (header destination next : List ℕ) : Type 0 where
-  by_route : p ≡ IpProtocol.Ipv6Route → next ≡ routed header destination → Routes p header destination next
-  by_options : p ≢ IpProtocol.Ipv6Route → next ≡ destination → Routes p header destination next
-
--- A protocol and the bytes after it lead past some headers to a protocol, with these bytes and this destination.
-pub data Passes : IpProtocol → List ℕ → List ℕ → IpProtocol → List ℕ → List ℕ → Type 0 where
-  here : {p : IpProtocol} {bytes destination : List ℕ} {q : IpProtocol} {rest final : List ℕ}
-      → q ≡ p → rest ≡ bytes → final ≡ destination → Passes p bytes destination q rest final
-  past : {p : IpProtocol} {bytes destination : List ℕ} {q : IpProtocol} {rest final : List ℕ} (end : ℕ)
-      (next : List ℕ) → EndsAt p bytes end → Routes p bytes destination next
-      → Passes (protocol_of (slice_index bytes 0)) (drop end bytes) next q rest final
-      → Passes p bytes destination q rest final
-
--- a header that is not whole: one of those that are passed, or that of a fragment, which has eight bytes
-abbrev pub IsTornHeader : IpProtocol → List ℕ → Type 0
-IsTornHeader p bytes = (IsExtension p × (HasExtension bytes → ⊥)) ⊎ ((p ≡ IpProtocol.Ipv6Frag) × (length bytes < 8))
-
 -- ---- IPv6
 
 -- the bytes begin with a header of version 6
@@ -157,16 +98,37 @@ pub record HasHeader6 (bytes : List ℕ) : Type 0 where
   pub fixed : 40 ≤ length bytes
   pub version : ipv6.version_in bytes ≡ 6
 
-abbrev pub total_len6 : List ℕ → ℕ
-total_len6 bytes = 40 + ipv6.payload_len_in bytes
+-- what follows the fixed header, as far as it is there, and its part up to the datagram's end
+abbrev pub rest6 : List ℕ → List ℕ
+rest6 bytes = drop 40 bytes
 
--- what follows the fixed header, up to the datagram's end
-abbrev pub behind6 : List ℕ → List ℕ
-behind6 bytes = bytes_of (ipv6.payload_field bytes) bytes
+abbrev pub behind6 : List ℕ → ℕ → List ℕ
+behind6 bytes end = part bytes 40 end
 
 -- the header after the fixed one
 abbrev pub next_header_in : List ℕ → IpProtocol
 next_header_in bytes = protocol_of (byte_of ipv6.next_header_field bytes)
+
+-- A jumbogram (RFC 2675 section 2): the payload length is 0, and a hop-by-hop header follows, which has the length in
+-- its place. A header takes bytes, so that no other datagram has this length before one.
+pub record IsJumbogram (bytes : List ℕ) : Type 0 where
+  pub uncounted : ipv6.payload_len_in bytes ≡ 0
+  pub header : next_header_in bytes ≡ IpProtocol.HopByHop
+
+-- Where a datagram ends by its own length, which counts what follows the fixed header: the payload length, or of a
+-- jumbogram that of its option.
+pub data EndsAt6 (bytes : List ℕ) (end : ℕ) : Type 0 where
+  counted : (IsJumbogram bytes → ⊥) → end ≡ 40 + ipv6.payload_len_in bytes → EndsAt6 bytes end
+  jumbo : (n : ℕ) → IsJumbogram bytes → HasJumboLen (rest6 bytes) n → end ≡ 40 + n → EndsAt6 bytes end
+
+-- The bytes are cut: they end before the datagram does, or before the end of the header with its length.
+pub data IsCut6 (bytes : List ℕ) : Type 0 where
+  short : (end : ℕ) → EndsAt6 bytes end → length bytes < end → IsCut6 bytes
+  torn : IsJumbogram bytes → (HasExtension (rest6 bytes) → ⊥) → IsCut6 bytes
+
+-- a fragment header in a jumbogram, which has no fragments (RFC 2675 section 3)
+abbrev pub IsBroken6 : List ℕ → List ℕ → Type 0
+IsBroken6 bytes behind = IsJumbogram bytes × HasFragment (next_header_in bytes) behind
 
 -- The fixed header of a datagram, and what follows it, which leads past as many headers as there are to a protocol that
 -- is none of them. A hop-by-hop header may only follow directly after the fixed one (RFC 8200 section 4.1): a later one
@@ -182,12 +144,15 @@ pub record IsHeaded6 (bytes behind : List ℕ) (v : DatagramValue) : Type 0 wher
       (octets_of destination)
   pub passed : IsExtension v.protocol → ⊥
   pub unfragmented : v.protocol ≢ IpProtocol.Ipv6Frag
+  pub unbroken : IsBroken6 bytes behind → ⊥
 
 -- The grammar: the bytes begin with a whole datagram by its own length, and what follows it is ignored.
 pub record IsDatagram6 (bytes : List ℕ) (v : DatagramValue) : Type 0 where
   pub header : HasHeader6 bytes
-  pub total : total_len6 bytes ≤ length bytes
-  pub headed : IsHeaded6 bytes (behind6 bytes) v
+  pub end : ℕ
+  pub ends : EndsAt6 bytes end
+  pub total : end ≤ length bytes
+  pub headed : IsHeaded6 bytes (behind6 bytes end) v
 
 -- what the fixed header tells of a datagram that is cut, without the headers after it
 pub record IsHead6 (bytes : List ℕ) (h : Head) : Type 0 where
@@ -219,32 +184,34 @@ pub record IsFragment6 (bytes behind : List ℕ) (h : Head) : Type 0 where
   pub frag_offset : h.frag_offset ≡ 8 * (number_of (field 2 4) header / 8)
   pub more_frags : IsTrue h.more_frags ↔ (number_of (field 2 4) header % 2 ≡ 1)
 
--- a protocol and the bytes after it lead to a header of a protocol that is not whole
-pub record LeadsToTorn (p : IpProtocol) (bytes destination : List ℕ) (q : IpProtocol) : Type 0 where
-  pub rest : List ℕ
-  pub final : List ℕ
-  pub passes : Passes p bytes destination q rest final
-  pub torn : IsTornHeader q rest
-
--- A jumbogram (RFC 2675 section 2): the payload length is 0, and a hop-by-hop header follows, which has the length in
--- its place. A header takes bytes, so that no other datagram has this length before one.
-pub record IsJumbogram (bytes : List ℕ) : Type 0 where
-  pub uncounted : ipv6.payload_len_in bytes ≡ 0
-  pub header : next_header_in bytes ≡ IpProtocol.HopByHop
-
 -- the refusal by the bytes after a fixed header, where they lead to no payload
 abbrev pub RefusesBehind6 : List ℕ → List ℕ → Refusal → Type 0
-RefusesBehind6 bytes behind Refusal.Jumbogram = IsJumbogram bytes
+RefusesBehind6 bytes behind Refusal.Jumbogram = IsBroken6 bytes behind
 RefusesBehind6 bytes behind (Refusal.Extension p) =
-    (IsJumbogram bytes → ⊥)
+    (IsBroken6 bytes behind → ⊥)
     × LeadsToTorn (next_header_in bytes) behind (bytes_of ipv6.dst_addr_field bytes) p
-RefusesBehind6 bytes behind (Refusal.Fragment head) = IsFragment6 bytes behind head
+RefusesBehind6 bytes behind (Refusal.Fragment head) = (IsBroken6 bytes behind → ⊥) × IsFragment6 bytes behind head
 RefusesBehind6 bytes behind _ = ⊥
+
+-- the refusal by the bytes up to the end of a whole datagram
+pub record RefusesWhole6 (bytes : List ℕ) (refusal : Refusal) : Type 0 where
+  pub header : HasHeader6 bytes
+  pub end : ℕ
+  pub ends : EndsAt6 bytes end
+  pub total : end ≤ length bytes
+  pub refuses : RefusesBehind6 bytes (behind6 bytes end) refusal
+
+-- a jumbogram whose hop-by-hop header has no length
+pub record IsEndless6 (bytes : List ℕ) : Type 0 where
+  pub header : HasHeader6 bytes
+  pub jumbogram : IsJumbogram bytes
+  pub whole : HasExtension (rest6 bytes)
+  pub endless : (end : ℕ) → EndsAt6 bytes end → ⊥
 
 -- the refusal of other bytes: the check that fails first
 abbrev pub Refuses6 : List ℕ → Refusal → Type 0
 Refuses6 bytes Refusal.Short = length bytes < 40
 Refuses6 bytes (Refusal.Version n) = (40 ≤ length bytes) × (ipv6.version_in bytes ≡ n) × (n ≢ 6)
-Refuses6 bytes (Refusal.Cut head) = HasHeader6 bytes × (length bytes < total_len6 bytes) × IsHead6 bytes head
-Refuses6 bytes refusal =
-    HasHeader6 bytes × (total_len6 bytes ≤ length bytes) × RefusesBehind6 bytes (behind6 bytes) refusal
+Refuses6 bytes (Refusal.Cut head) = HasHeader6 bytes × IsCut6 bytes × IsHead6 bytes head
+Refuses6 bytes Refusal.Jumbogram = IsEndless6 bytes ⊎ RefusesWhole6 bytes Refusal.Jumbogram
+Refuses6 bytes refusal = RefusesWhole6 bytes refusal

@@ -33,7 +33,7 @@ refusal_display (Refusal.HeaderLen n) =
 refusal_display (Refusal.TotalLen n) =
     pieces (codes "a total length of " ∷ decimal n ∷ codes " is below that of the header" ∷ [])
 refusal_display (Refusal.Cut head) = pieces (codes "cut short, " ∷ head_display head ∷ [])
-refusal_display Refusal.Jumbogram = codes "a jumbogram is not read"
+refusal_display Refusal.Jumbogram = codes "a malformed jumbogram"
 refusal_display (Refusal.Extension p) =
     pieces (codes "the extension header " ∷ protocol_display p ∷ codes " is cut short" ∷ [])
 refusal_display (Refusal.Fragment head) = pieces (codes "a fragment, " ∷ head_display head ∷ [])

@@ -2,6 +2,8 @@ pub mod Addresses
 pub mod Captured
 pub mod Datagram
 pub mod DatagramDisplay
+pub mod DatagramHeaders
+pub mod DatagramJumbogram
 pub mod Link
 pub mod LinkDisplay
 pub mod LinkEthernet

@@ -1,18 +1,19 @@
 //! Datagrams of IPv4 and IPv6.
 
-ghost use Rattle.std.specs.Prelude.{◌≡◌, ◌≤◌, ◌↔◌, IsTrue, IfOk, IfErr, IfSome, IsNone, length};
-ghost use Rattle.std.specs.Option.{option_map};
+ghost use Rattle.std.specs.Prelude.{◌≡◌, ◌≤◌, ◌+◌, ◌↔◌, ℕ, IsTrue, IfOk, IfErr, IfSome, IsNone, length};
 ghost use Rattle.wirebase.specs.Bytes.{bytes_of};
 ghost use Rattle.wirebase.specs.Checksum.{fold};
 ghost use Rattle.wirebase.specs.Ipv6.{dst_addr_field};
 ghost use Rattle.wirebase.specs.Ipv6Address.{octets_of};
 ghost use Rattle.frame_wire.specs.Addresses.{sum_before, IsV4};
-ghost use Rattle.frame_wire.specs.Datagram.{value_of, IsDatagram4, Refuses4, IsHead4, IsDatagram6, Refuses6, IsHead6};
-ghost use Rattle.frame_wire.specs.Datagram.{IsExtension, HasExtension, HasAtomic, EndsAt, IsHeaded6};
-ghost use Rattle.frame_wire.specs.private.Parts.{IsPassed};
-ghost use Rattle.frame_wire.specs.Datagram.{options_of, routed, Routes, Passes, LeadsToTorn, RefusesBehind6};
-ghost use Rattle.frame_wire.specs.Datagram.{next_header_in, HasHeader4};
+ghost use Rattle.frame_wire.specs.Datagram.{value_of, HasHeader4, IsDatagram4, Refuses4, IsHead4};
+ghost use Rattle.frame_wire.specs.Datagram.{next_header_in, behind6, IsJumbogram, EndsAt6, IsBroken6, IsHeaded6};
+ghost use Rattle.frame_wire.specs.Datagram.{HasHeader6, IsDatagram6, IsHead6, RefusesBehind6, Refuses6};
+ghost use Rattle.frame_wire.specs.DatagramHeaders.{HasAtomic, Passes};
 
+use self::headers::{
+    FRAGMENT_HEADER_LEN, Upper, has_extension, is_fragment, options_of, pass_headers,
+};
 use crate::link::behind;
 use wirebase::{
     IPV6_HEADER_LEN, IpProtocol, Ipv4Address, Ipv4Packet, Ipv6Address, Ipv6Packet, Octets, checksum,
@@ -20,6 +21,8 @@ use wirebase::{
 
 mod captured;
 mod display;
+mod headers;
+mod jumbogram;
 
 pub use captured::{Captured, Extent};
 
@@ -70,8 +73,9 @@ pub enum Refusal {
     /// They end before the datagram does by its own length, as where a capture kept only its start; `Captured` reads
     /// what is there.
     Cut(Head),
-    /// They are a jumbogram (RFC 2675): the payload length is 0 before a hop-by-hop header, whose option has the
-    /// length. Without that option such a datagram contradicts itself (RFC 2675 section 3).
+    /// They are a jumbogram that contradicts itself (RFC 2675 section 3): the payload length is 0 before a hop-by-hop
+    /// header, whose options don't lead to one with a length of 65,536 bytes or more; or there is a header of a
+    /// fragment too.
     Jumbogram,
     /// A header that extends IPv6, of this protocol, goes on past the end of the datagram.
     Extension(IpProtocol),
@@ -136,9 +140,6 @@ pub struct Datagram<'a> {
 // The bytes of an IPv4 header without options.
 const IPV4_HEADER_LEN: usize = 20;
 
-// The bytes of a fragment header of IPv6.
-const FRAGMENT_HEADER_LEN: usize = 8;
-
 impl<'a> Datagram<'a> {
     /// The IPv4 datagram at the start of the octets, by its total length; what follows it, such as padding, is ignored.
     /// The header's checksum is not verified, since machines that leave it to their network cards capture packets
@@ -175,7 +176,8 @@ impl<'a> Datagram<'a> {
     /// The IPv6 datagram at the start of the octets, by its payload length; what follows it is ignored. Its hop-by-hop,
     /// destination and routing headers are passed, and the options of a hop-by-hop header directly after the fixed one
     /// are kept. The header of an atomic fragment (RFC 6946 section 2), at offset 0 with no more fragments after it, is
-    /// passed too; every other fragment is refused, and so is a jumbogram.
+    /// passed too; every other fragment is refused. A jumbogram (RFC 2675), whose payload length is 0 before a
+    /// hop-by-hop header, ends by the length in the option of that header.
     pub fn parse_v6(octets: &'a [u8]) -> Result<Datagram<'a>, Refusal>
         ensures sound { IfOk result (λ d. IsDatagram6 octets.now (value_of d)) }
         ensures refuses { IfErr result (λ refusal. Refuses6 octets.now refusal) }
@@ -187,10 +189,13 @@ impl<'a> Datagram<'a> {
         if packet.version() != 6 {
             return Err(Refusal::Version(packet.version()));
         }
-        if octets.len() < IPV6_HEADER_LEN + packet.payload_len() as usize {
+        let Some(len) = len_v6(octets) else {
+            return Err(endless_v6(octets));
+        };
+        if octets.len() - IPV6_HEADER_LEN < len {
             return Err(Refusal::Cut(head_v6(octets)));
         }
-        read_v6(octets, packet.payload())
+        read_v6(octets, behind_v6(octets, len))
     }
 }
 
@@ -243,11 +248,87 @@ fn head_v6(octets: &[u8]) -> Head
     }
 }
 
-// The datagram of a fixed IPv6 header and of what follows it. Inlined, as is the passing of headers, so that a datagram
-// is not copied from call to call.
+// The number of bytes after the fixed IPv6 header by the datagram's own length. None for a jumbogram whose hop-by-hop
+// header is cut, or has no length.
+#[inline(always)]
+fn len_v6(octets: &[u8]) -> Option<usize>
+    requires { 40 ≤ length octets.now }
+    ensures ends { IfSome result (λ len. EndsAt6 octets.now (40 + len)) }
+    ensures jumbogram { IsNone result → IsJumbogram octets.now }
+    ensures endless { IsNone result → (end : ℕ) → EndsAt6 octets.now end → ⊥ }
+{
+    if !is_jumbogram(octets) {
+        return Some(Ipv6Packet::new_unchecked(octets).payload_len() as usize);
+    }
+    match jumbogram::jumbo_len(behind(octets, IPV6_HEADER_LEN)) {
+        Some(len) => Some(len as usize),
+        None => None,
+    }
+}
+
+// So many bytes after the fixed IPv6 header.
+#[tactic(auto, unfolding(wirebase::specs::Bytes::part))]
+#[inline(always)]
+fn behind_v6(octets: &[u8], len: usize) -> &[u8]
+    requires { 40 + len ≤ length octets.now }
+    ensures { result.now ≡ behind6 octets.now (40 + len) }
+{
+    &octets[IPV6_HEADER_LEN..IPV6_HEADER_LEN + len]
+}
+
+// Whether the fixed IPv6 header leaves the length to an option.
+#[inline(always)]
+fn is_jumbogram(octets: &[u8]) -> bool
+    requires { 40 ≤ length octets.now }
+    ensures { IsTrue result ↔ IsJumbogram octets.now }
+{
+    let packet = Ipv6Packet::new_unchecked(octets);
+    packet.payload_len() == 0 && packet.next_header() == IpProtocol::HopByHop
+}
+
+// Why the end of a jumbogram is not known.
+#[inline(never)]
+fn endless_v6(octets: &[u8]) -> Refusal
+    requires header { HasHeader6 octets.now }
+    requires jumbogram { IsJumbogram octets.now }
+    requires endless { (end : ℕ) → EndsAt6 octets.now end → ⊥ }
+    ensures { Refuses6 octets.now result }
+{
+    if has_extension(behind(octets, IPV6_HEADER_LEN)) {
+        return Refusal::Jumbogram;
+    }
+    Refusal::Cut(head_v6(octets))
+}
+
+// The datagram of a fixed IPv6 header and of what follows it. Inlined, as are the calls down to the passing of headers,
+// so that a datagram is not copied from call to call.
 #[inline(always)]
 fn read_v6<'a>(octets: &[u8], behind: &'a [u8]) -> Result<Datagram<'a>, Refusal>
     requires { 40 ≤ length octets.now }
+    ensures sound { IfOk result (λ d. IsHeaded6 octets.now behind.now (value_of d)) }
+    ensures refuses { IfErr result (λ refusal. RefusesBehind6 octets.now behind.now refusal) }
+{
+    if is_broken(octets, behind) {
+        return Err(Refusal::Jumbogram);
+    }
+    read_unbroken(octets, behind)
+}
+
+// Whether they are a jumbogram with a fragment header.
+#[inline(always)]
+fn is_broken(octets: &[u8], behind: &[u8]) -> bool
+    requires { 40 ≤ length octets.now }
+    ensures { IsTrue result ↔ IsBroken6 octets.now behind.now }
+{
+    let next_header = Ipv6Packet::new_unchecked(octets).next_header();
+    is_jumbogram(octets) && jumbogram::has_fragment(next_header, behind)
+}
+
+// The datagram of a fixed header and of what follows it, other than a jumbogram with a fragment header.
+#[inline(always)]
+fn read_unbroken<'a>(octets: &[u8], behind: &'a [u8]) -> Result<Datagram<'a>, Refusal>
+    requires fixed { 40 ≤ length octets.now }
+    requires unbroken { IsBroken6 octets.now behind.now → ⊥ }
     ensures sound { IfOk result (λ d. IsHeaded6 octets.now behind.now (value_of d)) }
     ensures refuses { IfErr result (λ refusal. RefusesBehind6 octets.now behind.now refusal) }
 {
@@ -255,7 +336,7 @@ fn read_v6<'a>(octets: &[u8], behind: &'a [u8]) -> Result<Datagram<'a>, Refusal>
     let next_header = packet.next_header();
     let upper = match pass_headers(next_header, behind, packet.dst_addr()) {
         Ok(upper) => upper,
-        Err(protocol) => return Err(torn_v6(octets, behind, protocol)),
+        Err(protocol) => return Err(Refusal::Extension(protocol)),
     };
     if is_fragment(upper.protocol) {
         return Err(fragment_v6(octets, behind, upper));
@@ -269,21 +350,6 @@ fn read_v6<'a>(octets: &[u8], behind: &'a [u8]) -> Result<Datagram<'a>, Refusal>
     })
 }
 
-// Why the IPv6 headers lead to no payload: one is cut, or the payload length is 0 and a hop-by-hop header has the
-// length.
-#[inline(never)]
-fn torn_v6(octets: &[u8], behind: &[u8], protocol: IpProtocol) -> Refusal
-    requires fixed { 40 ≤ length octets.now }
-    requires torn { LeadsToTorn (next_header_in octets.now) behind.now (bytes_of dst_addr_field octets.now) protocol }
-    ensures { RefusesBehind6 octets.now behind.now result }
-{
-    let packet = Ipv6Packet::new_unchecked(octets);
-    if packet.payload_len() == 0 && packet.next_header() == IpProtocol::HopByHop {
-        return Refusal::Jumbogram;
-    }
-    Refusal::Extension(protocol)
-}
-
 // What the fragment header that the IPv6 headers lead to tells (RFC 8200 section 4.5).
 #[inline(never)]
 fn fragment_v6(octets: &[u8], behind: &[u8], upper: Upper<'_>) -> Refusal
@@ -292,11 +358,12 @@ fn fragment_v6(octets: &[u8], behind: &[u8], upper: Upper<'_>) -> Refusal
         upper.protocol upper.payload.now (octets_of upper.dst_addr) }
     requires fragment { upper.protocol ≡ IpProtocol.Ipv6Frag }
     requires no_atomic { HasAtomic upper.payload.now → ⊥ }
+    requires unbroken { IsBroken6 octets.now behind.now → ⊥ }
     ensures { RefusesBehind6 octets.now behind.now result }
 {
     let header = upper.payload;
     if header.len() < FRAGMENT_HEADER_LEN {
-        return torn_v6(octets, behind, upper.protocol);
+        return Refusal::Extension(upper.protocol);
     }
     let packet = Ipv6Packet::new_unchecked(octets);
     let offset_and_flag = header.u16_at(2..4);
@@ -307,137 +374,4 @@ fn fragment_v6(octets: &[u8], behind: &[u8], upper: Upper<'_>) -> Refusal
         frag_offset: 8 * (offset_and_flag / 8),
         more_frags: offset_and_flag % 2 == 1,
     })
-}
-
-// The options of a hop-by-hop header; other headers have none.
-#[tactic(auto, unfolding(wirebase::specs::Bytes::part))]
-fn options_of(protocol: IpProtocol, header: &[u8]) -> Option<&[u8]>
-    requires { (protocol ≡ IpProtocol.HopByHop) → HasExtension header.now }
-    ensures { option_map (λ options. options.now) result ≡ options_of protocol header.now }
-{
-    if protocol == IpProtocol::HopByHop {
-        return Some(&header[2..8 * header[1] as usize + 8]);
-    }
-    None
-}
-
-// What the extension headers of IPv6 lead to.
-#[derive(Debug, PartialEq, Eq, Clone, Copy)]
-struct Upper<'a> {
-    protocol: IpProtocol,
-    payload: &'a [u8],
-    dst_addr: Ipv6Address,
-}
-
-// Passes the extension headers of IPv6. Refused where one of them is not whole, with its protocol.
-#[inline(always)]
-fn pass_headers<'a>(
-    next_header: IpProtocol,
-    payload: &'a [u8],
-    dst_addr: Ipv6Address,
-) -> Result<Upper<'a>, IpProtocol>
-    ensures passes { IfOk result (λ u. Passes next_header payload.now (octets_of dst_addr)
-        u.protocol u.payload.now (octets_of u.dst_addr)) }
-    ensures passed { IfOk result (λ u. IsPassed u.protocol u.payload.now → ⊥) }
-    ensures torn { IfErr result (λ p. LeadsToTorn next_header payload.now (octets_of dst_addr) p) }
-{
-    let mut protocol = next_header;
-    let mut rest = payload;
-    let mut dst_addr = dst_addr;
-    'headers: while is_passed(protocol, rest) {
-        let Some(end) = header_end(protocol, rest) else {
-            return Err(protocol);
-        };
-        dst_addr = behind_header(protocol, rest, dst_addr);
-        protocol = IpProtocol::from(rest[0]);
-        rest = behind(rest, end);
-    }
-    Ok(Upper {
-        protocol,
-        payload: rest,
-        dst_addr,
-    })
-}
-
-// Whether a header is passed.
-fn is_passed(protocol: IpProtocol, header: &[u8]) -> bool
-    ensures { IsTrue result ↔ IsPassed protocol header.now }
-{
-    is_extension(protocol) || is_atomic(protocol, header)
-}
-
-// Whether this is a header of options or of routing.
-fn is_extension(protocol: IpProtocol) -> bool
-    ensures { IsTrue result ↔ IsExtension protocol }
-{
-    protocol == IpProtocol::HopByHop
-        || protocol == IpProtocol::Ipv6Route
-        || protocol == IpProtocol::Ipv6Opts
-}
-
-// Whether this is the protocol of a fragment header.
-fn is_fragment(protocol: IpProtocol) -> bool
-    ensures { IsTrue result ↔ (protocol ≡ IpProtocol.Ipv6Frag) }
-{
-    protocol == IpProtocol::Ipv6Frag
-}
-
-// Whether this is the header of a fragment that is a whole datagram.
-fn is_atomic(protocol: IpProtocol, header: &[u8]) -> bool
-    ensures { IsTrue result ↔ ((protocol ≡ IpProtocol.Ipv6Frag) × HasAtomic header.now) }
-{
-    if !is_fragment(protocol) || header.len() < FRAGMENT_HEADER_LEN {
-        return false;
-    }
-    let offset_and_flag = header.u16_at(2..4);
-    offset_and_flag / 8 == 0 && offset_and_flag % 2 == 0
-}
-
-// The end of a header that is passed; None where it is not whole. An atomic fragment header always is.
-fn header_end(protocol: IpProtocol, header: &[u8]) -> Option<usize>
-    requires { IsPassed protocol header.now }
-    ensures ends { IfSome result (λ end. EndsAt protocol header.now end) }
-    ensures torn { IsNone result → IsExtension protocol × (HasExtension header.now → ⊥) }
-{
-    if is_fragment(protocol) {
-        return Some(FRAGMENT_HEADER_LEN);
-    }
-    if !has_extension(header) {
-        return None;
-    }
-    Some(8 * header[1] as usize + 8)
-}
-
-// The destination after a header that is passed.
-fn behind_header(protocol: IpProtocol, header: &[u8], dst_addr: Ipv6Address) -> Ipv6Address
-    requires { (protocol ≡ IpProtocol.Ipv6Route) → HasExtension header.now }
-    ensures { Routes protocol header.now (octets_of dst_addr) (octets_of result) }
-{
-    if protocol == IpProtocol::Ipv6Route {
-        return routed(header, dst_addr);
-    }
-    dst_addr
-}
-
-// Whether the octets begin with a whole header.
-fn has_extension(octets: &[u8]) -> bool
-    ensures { IsTrue result ↔ HasExtension octets.now }
-{
-    octets.len() >= 8 && octets.len() >= 8 * octets[1] as usize + 8
-}
-
-// The address that a routing header with segments left leads to.
-fn routed(header: &[u8], dst_addr: Ipv6Address) -> Ipv6Address
-    requires { HasExtension header.now }
-    ensures { octets_of result ≡ routed header.now (octets_of dst_addr) }
-{
-    let end = 8 * header[1] as usize + 8;
-    if header[3] == 0 || end < 24 {
-        return dst_addr;
-    }
-    match header[2] {
-        4 => Ipv6Address::from_octets(header.range(8, 24).try_into().unwrap()),
-        0 | 2 => Ipv6Address::from_octets(header.range(end - 16, end).try_into().unwrap()),
-        _ => dst_addr,
-    }
 }

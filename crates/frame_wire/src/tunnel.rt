@@ -76,8 +76,11 @@ const HEADER_LEN: usize = 4;
 
 // The bits of the flags for the parts of a GRE header that may be left out.
 const CHECKSUM: u16 = 0x8000;
+
 const ROUTING: u16 = 0x4000;
+
 const KEY: u16 = 0x2000;
+
 const SEQUENCE: u16 = 0x1000;
 
 impl Tunnel {

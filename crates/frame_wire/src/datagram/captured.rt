@@ -1,13 +1,14 @@
 //! Datagrams as far as they were captured.
 
-ghost use Rattle.std.specs.Prelude.{◌<◌, IfOk, IfErr, length};
+ghost use Rattle.std.specs.Prelude.{◌≡◌, IfOk, IfErr};
 ghost use Rattle.frame_wire.specs.Captured.{captured_of, IsCaptured4, RefusesCaptured4, IsCaptured6, RefusesCaptured6};
 ghost use Rattle.frame_wire.specs.Captured.{IsOpening4, IsOpen4, RefusesOpen4};
-ghost use Rattle.frame_wire.specs.Datagram.{value_of, IsHead4, HasHeader6, total_len6, IsHead6};
+ghost use Rattle.frame_wire.specs.Datagram.{value_of, IsHead4, HasHeader6, IsCut6, IsHead6};
+ghost use Rattle.frame_wire.specs.private.Parts.{told_of_cut};
 
-use super::{Addresses, Datagram, Head, Refusal, head_v4, read_v6};
+use super::{Addresses, Datagram, Head, Refusal, head_v4, len_v6, read_v6};
 use crate::link::behind;
-use wirebase::{IPV6_HEADER_LEN, Ipv4Packet, Ipv6Packet};
+use wirebase::{IPV6_HEADER_LEN, Ipv4Packet};
 
 /// How much of a datagram was captured.
 #[derive(Debug, PartialEq, Eq, Clone, Copy)]
@@ -114,20 +115,33 @@ fn open_v4<'a>(octets: &'a [u8], head: Head) -> Result<Datagram<'a>, Refusal>
 // An IPv6 datagram that lacks some of its bytes.
 fn cut_v6<'a>(octets: &'a [u8], head: Head) -> Result<Captured<'a>, Refusal>
     requires header { HasHeader6 octets.now }
-    requires cut { length octets.now < total_len6 octets.now }
+    requires cut { IsCut6 octets.now }
     requires head { IsHead6 octets.now head }
     ensures sound { IfOk result (λ c. IsCaptured6 octets.now (captured_of c)) }
     ensures refuses { IfErr result (λ refusal. RefusesCaptured6 octets.now refusal) }
 {
-    let payload_len = Ipv6Packet::new_unchecked(octets).payload_len() as usize;
-    match read_v6(octets, behind(octets, IPV6_HEADER_LEN)) {
+    let Some(len) = len_v6(octets) else {
+        return Err(Refusal::Cut(head));
+    };
+    let rest = behind(octets, IPV6_HEADER_LEN);
+    match read_v6(octets, rest) {
         Ok(datagram) => Ok(Captured {
             datagram,
             extent: Extent::Cut {
-                missing: IPV6_HEADER_LEN + payload_len - octets.len(),
+                missing: len - rest.len(),
             },
         }),
-        Err(Refusal::Fragment(head)) => Err(Refusal::Fragment(head)),
-        Err(_) => Err(Refusal::Cut(head)),
+        Err(refusal) => Err(told_of_cut(refusal, head)),
+    }
+}
+
+// What is told of a datagram that is cut, by the refusal of what is there: a header that is cut is where the datagram
+// is.
+fn told_of_cut(refusal: Refusal, head: Head) -> Refusal
+    ensures { result ≡ told_of_cut refusal head }
+{
+    match refusal {
+        Refusal::Extension(_) => Refusal::Cut(head),
+        other => other,
     }
 }

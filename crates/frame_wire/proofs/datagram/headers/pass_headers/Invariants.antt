@@ -1,7 +1,7 @@
 -- Some headers are passed.
 use Rattle.frame_wire.proofs.Words.{length, octets_of}
 use Rattle.frame_wire.proofs.Headers.{SoFar}
-use Rattle.frame_wire.proofs.datagram.pass_headers.Given as goal
+use Rattle.frame_wire.proofs.datagram.headers.pass_headers.Given as goal
 
 abbrev pub invariant-headers : goal.invariant-headers
 invariant-headers l =

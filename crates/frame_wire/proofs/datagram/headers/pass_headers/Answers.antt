@@ -1,8 +1,8 @@
 -- Headers are passed, one after another.
 use Rattle.frame_wire.proofs.Words.{inl, refl}
-use Rattle.frame_wire.specs.Datagram.{here}
+use Rattle.frame_wire.specs.DatagramHeaders.{here}
 use Rattle.frame_wire.proofs.Headers.{so_far-more}
-use Rattle.frame_wire.proofs.datagram.pass_headers.Goals as goal
+use Rattle.frame_wire.proofs.datagram.headers.pass_headers.Goals as goal
 
 pub returns-in_default-clause-torn : goal.returns-in_default-clause-torn
 returns-in_default-clause-torn c = record {

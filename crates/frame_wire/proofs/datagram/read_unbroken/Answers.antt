@@ -1,9 +1,12 @@
 -- The fixed header is read, and what the others lead to.
 use Rattle.frame_wire.proofs.Words.{◌≡◌, arith, bytes_of, common_steps, dst_addr_field, inl, next_header_in, octets_of}
 use Rattle.frame_wire.proofs.Words.{refl, rules}
-use Rattle.frame_wire.proofs.Headers.{passes_at, options_at}
+use Rattle.frame_wire.proofs.Headers.{first_whole, passes_at, options_at}
 use Rattle.frame_wire.proofs.Tags.{told_not}
-use Rattle.frame_wire.proofs.datagram.read_v6.Goals as goal
+use Rattle.frame_wire.proofs.datagram.read_unbroken.Goals as goal
+
+pub options_of-requires : goal.options_of-requires
+options_of-requires c is = first_whole _ _ _ _ _ _ c.in-Ok.ensures.passes c.in-Ok.ensures.passed is
 
 pub returns-clause-sound : goal.returns-clause-sound
 returns-clause-sound c =
@@ -22,4 +25,5 @@ returns-clause-sound c =
       passes = passes_at _ _ _ _ _ _ _ _ _ protocol refl destination c.in-Ok.ensures.passes;
       passed = λ is. c.in-Ok.ensures.passed (inl is);
       unfragmented = told_not _ c.is_fragment.ensures c.if-is_fragment.false;
+      unbroken = c.requires.unbroken;
     }
