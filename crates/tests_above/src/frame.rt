@@ -1,9 +1,12 @@
 mod datagram;
 mod datagram_display;
+mod jumbogram;
 mod link;
 mod link_display;
 mod link_pseudo_headers;
 mod link_wide_area;
 mod names;
+mod tunnel;
+mod tunnel_display;
 mod udp;
 mod udp_display;
