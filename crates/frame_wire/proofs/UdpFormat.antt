@@ -1,10 +1,12 @@
 -- The format of datagrams: a text is read back, what was read is canonical, and bytes have one value.
-use Rattle.frame_wire.proofs.Words.{◌≡◌, ◌≢◌, ◌+◌, ◌-◌, ◌<◌, ◌≤◌, ◌^◌, [], ◌∷◌, ◌++◌, ◌∙◌, Addresses, BeginsWhole, Bool}
-use Rattle.frame_wire.proofs.Words.{ChecksumCapabilities, HasChecksum, IpProtocol, IsGood, List, UdpRepr, ℕ, ap}
+use Rattle.frame_wire.proofs.Words.{◌≡◌, ◌≢◌, ◌+◌, ◌-◌, ◌<◌, ◌≤◌, ◌^◌, [], ◌++◌, ◌∙◌, Addresses, BeginsWhole, Bool}
+use Rattle.frame_wire.proofs.Words.{ChecksumCapabilities, HasChecksum, IpProtocol, IsGood, List, ℕ, ap}
 use Rattle.frame_wire.proofs.Words.{append-nil, append_assoc, arith, big_bytes, bytes_of, checksum_field, drop, drop_at}
-use Rattle.frame_wire.proofs.Words.{dst_port_field, false, format, if◌then◌else◌, inl, inr, is_verified, len_in, length}
+use Rattle.frame_wire.proofs.Words.{dst_port_field, end_in, false, format, if◌then◌else◌, inl, inr, is_verified, len_in, length}
 use Rattle.frame_wire.proofs.Words.{length-append, number_of, part, payload_field, refl, sealed_datagram, splice}
 use Rattle.frame_wire.proofs.Words.{src_port_field, subst, sum_before, sym, take, take_at, true, udp_checksum}
+use Rattle.std.specs.Prelude.{◌==◌}
+use Rattle.std.proofs.lemmas.Bool.{ne_eqb}
 use Rattle.wirebase.specs.Bytes.{IsBytes, over}
 use Rattle.wirebase.specs.ByteWriter.{be16, fields}
 use Rattle.wirebase.specs.Capabilities.{is_computed}
@@ -14,7 +16,7 @@ use Rattle.wirebase.proofs.ByteParts.{number_of-small}
 use Rattle.wirebase.proofs.Format.{IsFormat, round_trips, same_text-by}
 use Rattle.wirebase.proofs.Pieces.{over-fits, over-exact, length-part}
 use Rattle.frame_wire.specs.Addresses.{IsV4}
-use Rattle.frame_wire.specs.Udp.{IsVerified, IsSealed, IsDatagram, len_field, whole_field}
+use Rattle.frame_wire.specs.Udp.{IsSealed}
 use Rattle.frame_wire.specs.UdpText.{UdpValue, value_of, text_len, datagram_fields, text, packet_text, Reads}
 use Rattle.frame_wire.specs.UdpText.{IsCanonical, Fills, Emits}
 use Rattle.frame_wire.proofs.UdpSeals.{length-sealed_datagram, checksum-small, checksum-some, sealed-good}
@@ -60,17 +62,23 @@ record IsContent (bytes : List ℕ) (v : UdpValue) : Type 0 where
 
 -- what is in the bytes of a datagram, and after them
 record Holds (bytes : List ℕ) (v : UdpValue) (checksum : ℕ) (rest : List ℕ) : Type 0 where
-  len : len_in bytes ≡ text_len v
+  len : end_in bytes ≡ text_len v
   source : v.ports.src_port < 2 ^ 16 → v.ports.src_port ≡ number_of src_port_field bytes
   destination : v.ports.dst_port < 2 ^ 16 → v.ports.dst_port ≡ number_of dst_port_field bytes
   sum : checksum ≤ 65535 → checksum ≡ number_of checksum_field bytes
   behind : drop 8 bytes ≡ v.payload ++ rest
 
+-- a length that is not 0 is that of the datagram
+end_counted : (bytes : List ℕ) (n : ℕ) → len_in bytes ≡ n → n ≢ 0 → end_in bytes ≡ n
+unfolding end_in
+end_counted bytes n e some =
+    let counted : (len_in bytes == 0) ≡ false = ne_eqb (len_in bytes) 0 (λ none. some (sym e ∙ none)) in rw counted e
+
 holds : (v : UdpValue) (checksum : ℕ) (rest : List ℕ) → text_len v ≤ 65535
     → Holds (datagram_text v checksum rest) v checksum rest
 unfolding part
 holds v checksum rest fits = record {
-  len = omega (arith, fits);
+  len = end_counted (datagram_text v checksum rest) (text_len v) (omega (arith, fits)) (omega arith);
   source = λ small. omega (arith, small);
   destination = λ small. omega (arith, small);
   sum = λ small. omega (arith, small);
@@ -87,7 +95,7 @@ unfolding part
 content v checksum rest source destination fits =
     let bytes : List ℕ = datagram_text v checksum rest in
     let h = holds v checksum rest fits in
-    let few : len_in bytes - 8 ≡ length v.payload = omega (arith, h.len) in
+    let few : end_in bytes - 8 ≡ length v.payload = omega (arith, h.len) in
     record {
       whole = record {
         fixed = omega (arith, length-datagram v checksum rest);
@@ -116,12 +124,12 @@ verified addresses v checksum rest fits some small good =
     let h = holds v checksum rest fits in
     let whole : List ℕ = datagram_text v checksum [] in
     let long : length whole ≡ text_len v = omega (arith, length-datagram v checksum []) in
-    let count : len_in bytes - 0 ≡ text_len v = omega (arith, h.len) in
-    let front : take (len_in bytes - 0) bytes ≡ whole =
+    let count : end_in bytes - 0 ≡ text_len v = omega (arith, h.len) in
+    let front : take (end_in bytes - 0) bytes ≡ whole =
     ap (λ (n : ℕ). take n bytes) count ∙ ap (λ (l : List ℕ). take (text_len v) l) (sym (join v checksum rest))
     ∙ take_at whole rest (text_len v) long in (
       λ none. some (h.sum small ∙ none),
-      subst (λ (n : ℕ). IsGood (take (len_in bytes - 0) bytes) (sum_before addresses IpProtocol.Udp n)) (sym h.len)
+      subst (λ (n : ℕ). IsGood (take (end_in bytes - 0) bytes) (sum_before addresses IpProtocol.Udp n)) (sym h.len)
           (subst (λ (l : List ℕ). IsGood l (sum_before addresses IpProtocol.Udp (text_len v))) (sym front) good),
     )
 
@@ -212,7 +220,7 @@ accepted : (capabilities : ChecksumCapabilities) (addresses : Addresses) (bytes 
 accepted capabilities addresses bytes v are small m =
     let whole = m.datagram.whole in
     let long = ap (λ (l : List ℕ). length l) m.payload
-    ∙ length-part bytes 8 (len_in bytes) whole.order whole.total in (
+    ∙ length-part bytes 8 (end_in bytes) whole.order whole.total in (
       omega (arith, m.datagram.source, number_of-small 0 2 bytes refl are),
       omega (arith, m.datagram.destination, number_of-small 2 4 bytes refl are),
       m.datagram.port,

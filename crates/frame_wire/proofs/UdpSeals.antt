@@ -1,8 +1,8 @@
 -- The checksum of a datagram: it holds, also where it is written as 0xffff for 0.
-use Rattle.frame_wire.proofs.Words.{◌≡◌, ◌≢◌, ◌+◌, ◌-◌, ◌≤◌, [], ◌∷◌, ◌∙◌, ◌++◌, Addresses, IpProtocol, IsGood, List, ℕ}
+use Rattle.frame_wire.proofs.Words.{◌≡◌, ◌≢◌, ◌+◌, ◌-◌, ◌≤◌, ◌∙◌, ◌++◌, Addresses, IpProtocol, IsGood, List, ℕ}
 use Rattle.frame_wire.proofs.Words.{ap, arith, big_bytes, big_number, checksum_field, drop, drop_at, length, number_of}
-use Rattle.frame_wire.proofs.Words.{part, refl, sealed, sealed_datagram, splice, subst, suc, sum_before, sym, take}
-use Rattle.frame_wire.proofs.Words.{take_at, udp_checksum, zero}
+use Rattle.frame_wire.proofs.Words.{part, refl, sealed, sealed_datagram, splice, suc, sum_before, sym, take}
+use Rattle.frame_wire.proofs.Words.{udp_checksum, zero}
 use Rattle.std.proofs.lemmas.List.{length-take-le}
 use Rattle.wirebase.specs.Bytes.{Reaches, with_field}
 use Rattle.wirebase.specs.Checksum.{word_sum, fold, zeroed, checksum_of}

@@ -16,6 +16,7 @@ pub use Rattle.frame_wire.specs.private.Parts.{typed_of}
 unfoldable pub use Rattle.frame_wire.specs.LinkVlans.{tags_in}
 pub use Rattle.frame_wire.specs.Udp.{BeginsWhole, HasChecksum, checksum_field, dst_port_field, len_in, payload_field}
 pub use Rattle.frame_wire.specs.Udp.{src_port_field, view_octets}
+unfoldable pub use Rattle.frame_wire.specs.Udp.{end_in}
 pub use Rattle.frame_wire.specs.UdpText.{format, udp_checksum}
 unfoldable pub use Rattle.frame_wire.specs.UdpText.{sealed_datagram}
 pub use Rattle.wirebase.specs.Bytes.{bytes_of, field, number_of}

@@ -9,7 +9,7 @@
 -- +-------------------------------+-------------------------------+
 -- |  data, up to the length
 -- +- - - - - - - - - - - - - - - -
-use Rattle.std.specs.Prelude.{◌≡◌, ◌≢◌, ◌≤◌, ◌⊎◌, List, ℕ, length, true}
+use Rattle.std.specs.Prelude.{◌≡◌, ◌≢◌, ◌≤◌, ◌⊎◌, ◌^◌, ◌==◌, ◌&&◌, Bool, List, ℕ, if◌then◌else◌, length, nat_lt, true}
 use Rattle.frame_wire.specs.Words.{Addresses, ChecksumCapabilities, IpProtocol, UdpRepr, bytes_of, field, is_verified}
 use Rattle.frame_wire.specs.Words.{number_of}
 use Rattle.std.specs.Borrow.{Bor}
@@ -43,26 +43,34 @@ len_field = field 4 6
 abbrev pub checksum_field : Field
 checksum_field = field 6 8
 
--- the bytes of header and data
+-- the length field, which counts header and data
 abbrev pub len_in : List ℕ → ℕ
 len_in bytes = number_of len_field bytes
 
+-- a number of bytes that the length field can't hold, but the length of a jumbogram can
+abbrev pub is_jumbo : ℕ → Bool
+is_jumbo n = nat_lt 65535 n && nat_lt n (2 ^ 32)
+
+-- The bytes of header and data: a length of 0 among so many bytes means all of them (RFC 2675 section 4).
+unfoldable pub end_in : List ℕ → ℕ
+end_in bytes = if (len_in bytes == 0) && is_jumbo (length bytes) then length bytes else len_in bytes
+
 abbrev pub whole_field : List ℕ → Field
-whole_field bytes = field 0 (len_in bytes)
+whole_field bytes = field 0 (end_in bytes)
 
 abbrev pub payload_field : List ℕ → Field
-payload_field bytes = field 8 (len_in bytes)
+payload_field bytes = field 8 (end_in bytes)
 
 -- the bytes begin with a datagram that its own length calls whole
 pub record BeginsWhole (bytes : List ℕ) : Type 0 where
   pub fixed : Reaches checksum_field bytes
-  pub order : 8 ≤ len_in bytes
-  pub total : len_in bytes ≤ length bytes
+  pub order : 8 ≤ end_in bytes
+  pub total : end_in bytes ≤ length bytes
 
 -- the datagram at the start of the bytes carries its checksum
 abbrev pub IsVerified : Addresses → List ℕ → Type 0
-IsVerified addresses bytes = IsGood (bytes_of (whole_field bytes) bytes) (sum_before addresses IpProtocol.Udp (len_in
-    bytes))
+IsVerified addresses bytes =
+    IsGood (bytes_of (whole_field bytes) bytes) (sum_before addresses IpProtocol.Udp (end_in bytes))
 
 -- a checksum that holds and is not 0, which means that there is none (RFC 768)
 abbrev pub IsSealed : Addresses → List ℕ → Type 0

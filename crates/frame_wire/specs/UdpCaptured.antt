@@ -2,7 +2,7 @@
 use Rattle.std.specs.Prelude.{◌≡◌, ◌≢◌, ◌+◌, ◌≤◌, [], ◌∷◌, List, ℕ, codes, decimal, drop, length}
 use Rattle.frame_wire.specs.Words.{Extent, bytes_of, number_of, pieces}
 use Rattle.frame_wire.specs.DatagramDisplay.{extent_display}
-use Rattle.frame_wire.specs.Udp.{BeginsWhole, src_port_field, dst_port_field, len_in, payload_field}
+use Rattle.frame_wire.specs.Udp.{BeginsWhole, src_port_field, dst_port_field, end_in, payload_field}
 use Rattle.frame_wire.specs.UdpRefusal.{RefusesLen}
 use Rattle.frame_wire.specs.declared.udp.Refusal.{Refusal}
 use Rattle.frame_wire.specs.declared.udp.captured.CapturedUdp.{CapturedUdp}
@@ -26,13 +26,13 @@ pub record HasPorts (bytes : List ℕ) (v : CapturedValue) : Type 0 where
 -- the bytes begin with a header whose length counts it
 pub record HasHeader (bytes : List ℕ) : Type 0 where
   pub fixed : 8 ≤ length bytes
-  pub order : 8 ≤ len_in bytes
+  pub order : 8 ≤ end_in bytes
 
 -- The grammar: a whole datagram, or one that lacks some bytes at its end, by its own length.
 pub data IsCaptured (bytes : List ℕ) (v : CapturedValue) : Type 0 where
   whole : BeginsWhole bytes → HasPorts bytes v → v.payload ≡ bytes_of (payload_field bytes) bytes
       → v.extent ≡ Extent.Whole → IsCaptured bytes v
-  cut : (missing : ℕ) → HasHeader bytes → length bytes + missing ≡ len_in bytes → missing ≢ 0 → HasPorts bytes v
+  cut : (missing : ℕ) → HasHeader bytes → length bytes + missing ≡ end_in bytes → missing ≢ 0 → HasPorts bytes v
       → v.payload ≡ drop 8 bytes → v.extent ≡ Extent.Cut missing → IsCaptured bytes v
 
 -- the refusal of other bytes: the header is cut, or its length does not count it

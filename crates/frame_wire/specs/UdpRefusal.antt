@@ -2,7 +2,7 @@
 use Rattle.std.specs.Prelude.{◌≡◌, ◌≢◌, ◌<◌, ◌≤◌, [], ◌∷◌, List, ℕ, codes, decimal, length, true}
 use Rattle.frame_wire.specs.Words.{Addresses, ChecksumCapabilities, UdpRepr, is_verified, number_of, pieces}
 use Rattle.frame_wire.specs.Addresses.{IsV4}
-use Rattle.frame_wire.specs.Udp.{BeginsWhole, IsVerified, IsDatagram, len_in, dst_port_field, checksum_field}
+use Rattle.frame_wire.specs.Udp.{BeginsWhole, IsVerified, IsDatagram, end_in, dst_port_field, checksum_field}
 use Rattle.frame_wire.specs.declared.udp.Refusal.{Refusal}
 
 -- the bytes are read
@@ -12,8 +12,8 @@ IsRead capabilities addresses bytes = (r : UdpRepr) × IsDatagram capabilities a
 -- the bytes don't begin with a whole datagram
 abbrev pub RefusesLen : List ℕ → Refusal → Type 0
 RefusesLen bytes Refusal.Short = length bytes < 8
-RefusesLen bytes (Refusal.Length n) = (8 ≤ length bytes) × (len_in bytes ≡ n) × (n < 8)
-RefusesLen bytes (Refusal.Cut n) = (8 ≤ length bytes) × (len_in bytes ≡ n) × (8 ≤ n) × (length bytes < n)
+RefusesLen bytes (Refusal.Length n) = (8 ≤ length bytes) × (end_in bytes ≡ n) × (n < 8)
+RefusesLen bytes (Refusal.Cut n) = (8 ≤ length bytes) × (end_in bytes ≡ n) × (8 ≤ n) × (length bytes < n)
 RefusesLen bytes _ = ⊥
 
 -- a whole datagram to some port, whose checksum is to be verified

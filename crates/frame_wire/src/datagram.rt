@@ -70,8 +70,8 @@ pub enum Refusal {
     HeaderLen(u8),
     /// The total length of IPv4 is below the header length; this is the total length in bytes.
     TotalLen(u16),
-    /// They end before the datagram does by its own length, as where a capture kept only its start; `Captured` reads
-    /// what is there.
+    /// They end before the datagram does by its own length, or within the hop-by-hop header that has the length of a
+    /// jumbogram, as where a capture kept only the start; `Captured` reads what is there.
     Cut(Head),
     /// They are a jumbogram that contradicts itself (RFC 2675 section 3): the payload length is 0 before a hop-by-hop
     /// header, whose options don't lead to one with a length of 65,536 bytes or more; or there is a header of a

@@ -120,9 +120,9 @@ impl Tunnel {
         }
     }
 
-    /// Whether the checksum of a GRE packet holds, which is over its header and its payload (RFC 2784 section 2.5);
-    /// None where it has none, where [`Tunnel::inner`] refuses it, and for the other tunnels. Requires nothing, but
-    /// that of a packet of which a capture kept only the start can't be told.
+    /// Whether the checksum of a GRE packet holds, which is over its header and its payload (RFC 2784 section 2.5).
+    /// None where it has none, where [`Tunnel::inner`] refuses it, and for the other tunnels. Of a packet that is cut,
+    /// as by a capture, the answer means nothing.
     pub fn verify_checksum(self, octets: &[u8]) -> Option<bool>
         ensures some { IsSome result ↔ ((self ≡ Tunnel.Gre) × HasChecksum octets.now) }
         ensures verified { IfSome result (λ holds. IsTrue holds ↔ IsVerified octets.now) }

@@ -1,14 +1,14 @@
 //! UDP datagrams (RFC 768).
 
-ghost use Rattle.std.specs.Prelude.{◌≡◌, ◌≤◌, ◌↔◌, length, IsTrue, IsOk, IfOk, IfErr, IsOkAnd, IfSome, IsNone};
+ghost use Rattle.std.specs.Prelude.{◌≡◌, ◌≤◌, ◌<◌, ◌^◌, ◌↔◌, length, IsTrue, IsOk, IfOk, IfErr, IsOkAnd, IfSome, IsNone};
 ghost use Rattle.std.specs.Borrow.{sem, Lends, Array, u8 as byte};
 ghost use Rattle.byteorder.specs.Endian.{big_bytes};
 ghost use Rattle.wirebase.specs.Bytes.{Reaches, bytes_of, number_of, over, splice};
 ghost use Rattle.wirebase.specs.Format.{Rewrites, SameText};
 ghost use Rattle.wirebase.specs.View.{Sets, KeepsLen};
 ghost use Rattle.frame_wire.specs.Udp.{inner, with_inner, view_octets, src_port_field, dst_port_field, len_field};
-ghost use Rattle.frame_wire.specs.Udp.{checksum_field, len_in, payload_field, BeginsWhole, IsVerified, HasChecksum};
-ghost use Rattle.frame_wire.specs.Udp.{IsDatagram};
+ghost use Rattle.frame_wire.specs.Udp.{checksum_field, len_in, is_jumbo, payload_field, BeginsWhole, IsVerified, HasChecksum};
+ghost use Rattle.frame_wire.specs.Udp.{IsDatagram, end_in};
 ghost use Rattle.frame_wire.specs.UdpText.{value_of, text_len, text, sealed_datagram, format, Emits};
 ghost use Rattle.frame_wire.specs.UdpRefusal.{Refuses, RefusesLen, IsRead};
 ghost use Rattle.frame_wire.specs.contracts.udp.UdpPacket.{the_row};
@@ -82,8 +82,9 @@ impl<T: Octets> UdpPacket<T> {
         Ok(packet)
     }
 
-    /// Accepts 8 or more octets that hold the whole datagram by its length field, which counts the header too. Then
-    /// each accessor may be called.
+    /// Accepts 8 or more octets that hold the whole datagram by its length field, which counts the header too. A length
+    /// of 0 among 65,536 octets or more (and fewer than 2^32) is that of a jumbogram, which ends with the octets (RFC
+    /// 2675 section 4). Then each accessor may be called.
     pub fn check_len(&self) -> Result<()>
         ensures accepts { IsOk result ↔ BeginsWhole (T.bytes (inner self.now)) }
     {
@@ -91,8 +92,8 @@ impl<T: Octets> UdpPacket<T> {
         if len < HEADER_LEN {
             return Err(Error);
         }
-        let total = self.len() as usize;
-        if total < HEADER_LEN || len < total {
+        let end = self.end();
+        if end < HEADER_LEN || len < end {
             return Err(Error);
         }
         Ok(())
@@ -107,14 +108,31 @@ impl<T: Octets> UdpPacket<T> {
         if len < HEADER_LEN {
             return Some(Refusal::Short);
         }
-        let total = self.len();
-        if (total as usize) < HEADER_LEN {
-            return Some(Refusal::Length(total));
+        let end = self.end();
+        if end < HEADER_LEN {
+            return Some(Refusal::Length(end as u16));
         }
-        if len < total as usize {
-            return Some(Refusal::Cut(total));
+        if len < end {
+            return Some(Refusal::Cut(end as u16));
         }
         None
+    }
+
+    // The bytes of header and data. Requires at least 6 bytes.
+    #[inline(always)]
+    #[tactic(auto, unfolding(crate::specs::Udp::end_in))]
+    fn end(&self) -> usize
+        requires { Reaches len_field (T.bytes (inner self.now)) }
+        ensures value { result ≡ end_in (T.bytes (inner self.now)) }
+        ensures small { result < 2 ^ 32 }
+        ensures counted { length (T.bytes (inner self.now)) < result → result < 2 ^ 16 }
+    {
+        let len = self.len();
+        let octets = self.buffer.octets().len();
+        if len == 0 && is_jumbo(octets) {
+            return octets;
+        }
+        len as usize
     }
 
     /// The buffer that the view was made from, in its present state.
@@ -140,7 +158,8 @@ impl<T: Octets> UdpPacket<T> {
         self.buffer.u16_at(field::DST_PORT)
     }
 
-    /// The length of header and data in bytes. Requires at least 6 bytes.
+    /// The length of header and data in bytes, or 0 in a jumbogram where that is more than 65,535. Requires at least 6
+    /// bytes.
     pub fn len(&self) -> u16
         requires { Reaches len_field (T.bytes (inner self.now)) }
         ensures { result ≡ len_in (T.bytes (inner self.now)) }
@@ -164,9 +183,9 @@ impl<T: Octets> UdpPacket<T> {
         requires { BeginsWhole (T.bytes (inner self.now)) }
         ensures { IsTrue result ↔ IsVerified addresses.now (T.bytes (inner self.now)) }
     {
-        let len = self.len();
-        let sum = addresses.sum_before(IpProtocol::Udp, len as u32);
-        checksum::is_good(self.buffer.range(0, len as usize), sum)
+        let end = self.end();
+        let sum = addresses.sum_before(IpProtocol::Udp, end as u32);
+        checksum::is_good(self.buffer.range(0, end), sum)
     }
 }
 
@@ -179,7 +198,7 @@ impl<'a> UdpPacket<&'a [u8]> {
             (view_octets self.now) }
     {
         let octets: &'a [u8] = self.buffer;
-        &octets[field::PAYLOAD..self.len() as usize]
+        &octets[field::PAYLOAD..self.end()]
     }
 }
 
@@ -225,11 +244,11 @@ impl<T: OctetsMut> UdpPacket<T> {
         requires { BeginsWhole (T.bytes (inner self.old)) }
         ensures* lends { sem 𝓛 (Lends (the_row T.row) (Array byte 0) self.entry result
             (λ w. with_inner self.old (T.put (inner self.old)
-            (splice (T.bytes (inner self.old)) 8 (len_in (T.bytes (inner self.old))) w)))) }
+            (splice (T.bytes (inner self.old)) 8 (end_in (T.bytes (inner self.old))) w)))) }
         ensures value { result.now
             ≡ bytes_of (payload_field (T.bytes (inner self.old))) (T.bytes (inner self.old)) }
     {
-        let end = self.len() as usize;
+        let end = self.end();
         self.buffer.range_mut(field::PAYLOAD, end)
     }
 }
@@ -459,6 +478,14 @@ fn seal(octets: &mut [u8], addresses: &Addresses)
     if octets.u16_at(field::CHECKSUM) == 0 {
         BigEndian::write_u16(&mut octets[field::CHECKSUM], 0xffff);
     }
+}
+
+// Whether a datagram of so many bytes may have a length of 0.
+#[inline(always)]
+fn is_jumbo(len: usize) -> bool
+    ensures { result ≡ is_jumbo len }
+{
+    len > 65_535 && len <= 0xffff_ffff
 }
 
 // Whether the datagram has its checksum, or needs none.

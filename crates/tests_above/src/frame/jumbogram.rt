@@ -1,6 +1,7 @@
 use crate::testing::same_of;
 use frame_wire::datagram::{Addresses, Captured, Datagram, Extent, Head, Refusal};
-use wirebase::{IpProtocol, Ipv6Address};
+use frame_wire::udp::{self, CapturedUdp, UdpPacket, UdpRepr};
+use wirebase::{ChecksumCapabilities, IpProtocol, Ipv6Address};
 
 // The start of a jumbogram of UDP, with the option of RFC 2675 section 2 in a hop-by-hop header of 8 bytes; its number
 // is zero yet.
@@ -207,4 +208,36 @@ fn a_payload_length_of_0_before_other_headers(rt: HostRuntime) {
     octets[6] = 0;
     octets[5] = 9;
     same_of(&rt, "9", payload_len(&octets), Ok(1));
+}
+
+// A UDP datagram of 65,536 bytes, whose length field is 0 (RFC 2675 section 4); its checksum counts its true length.
+#[test]
+fn udp_in_a_jumbogram(rt: HostRuntime) {
+    const HEADER: &[u8] = &[0x03, 0xe8, 0x07, 0xd0, 0x00, 0x00, 0x98, 0xc0];
+    let mut octets = [0; 65_584];
+    octets[..48].copy_from_slice(START);
+    octets[44..48].copy_from_slice(&[0x00, 0x01, 0x00, 0x08]);
+    octets[48..56].copy_from_slice(HEADER);
+    let Ok(datagram) = Datagram::parse_v6(&octets) else {
+        return same_of(&rt, "no datagram", false, true);
+    };
+    let packet = UdpPacket::new_unchecked(datagram.payload);
+    let caps = ChecksumCapabilities::default();
+    let ports = UdpRepr {
+        src_port: 1000,
+        dst_port: 2000,
+    };
+    let read = UdpRepr::parse_or_refusal(&packet, &datagram.addresses, &caps);
+    same_of(&rt, "whole", read, Ok(ports));
+    let captured = CapturedUdp::parse(datagram.payload);
+    let len = captured.map(|captured| captured.payload.len());
+    same_of(&rt, "data", len, Ok(65_528));
+
+    octets[65_583] = 1;
+    let packet = UdpPacket::new_unchecked(&octets[48..]);
+    let read = UdpRepr::parse_or_refusal(&packet, &addresses(), &caps);
+    same_of(&rt, "changed", read, Err(udp::Refusal::Checksum));
+    // Fewer bytes have a length, which 0 is not.
+    let cut = CapturedUdp::parse(&octets[48..65_583]).err();
+    same_of(&rt, "cut", cut, Some(udp::Refusal::Length(0)));
 }

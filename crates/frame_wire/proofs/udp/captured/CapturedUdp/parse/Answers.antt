@@ -1,6 +1,6 @@
 -- A datagram that is cut lacks what its own length has more.
-use Rattle.frame_wire.proofs.Words.{◌≡◌, arith, common_steps, len_in, refl, rules}
-use Rattle.frame_wire.specs.UdpCaptured.{HasPorts, captured_of, cut}
+use Rattle.frame_wire.proofs.Words.{arith, common_steps, refl, rules}
+use Rattle.frame_wire.specs.UdpCaptured.{cut}
 use Rattle.frame_wire.specs.UdpRefusal.{RefusesLen}
 use Rattle.frame_wire.proofs.udp.captured.CapturedUdp.parse.Goals as goal
 use Rattle.frame_wire.specs.declared.udp.Refusal.{Refusal}
