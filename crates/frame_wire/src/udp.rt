@@ -485,7 +485,7 @@ fn seal(octets: &mut [u8], addresses: &Addresses)
 fn is_jumbo(len: usize) -> bool
     ensures { result ≡ is_jumbo len }
 {
-    len > 65_535 && len <= 0xffff_ffff
+    len > 65_535 && u32::try_from(len).is_ok()
 }
 
 // Whether the datagram has its checksum, or needs none.
