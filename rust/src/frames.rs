@@ -25,8 +25,11 @@
 
 pub mod datagram;
 pub mod link;
+pub mod names;
+pub mod tunnel;
 pub mod udp;
 
 pub use datagram::{Addresses, Captured, Datagram, Extent, Head, Refusal};
 pub use link::{EthernetHeader, Frame, Link, Network, VlanTag, VlanTags};
+pub use tunnel::{Inner, Tunnel};
 pub use udp::{CapturedUdp, UdpPacket, UdpRepr};

@@ -1,8 +1,6 @@
 -- Tags follow one another.
 use Rattle.frame_wire.proofs.Words.{◌≡◌, ◌+◌, ◌-◌, ◌≤◌, [], ◌++◌, ◌∙◌, ◌<◌, ◌↔◌, Bool, Err, IfErr, IfOk, IsTagged}
 use Rattle.frame_wire.proofs.Words.{IsTrue, List, Ok, Result, ℕ, ap, append-nil, append_assoc, arith, drop, false, field}
-use Rattle.frame_wire.proofs.Words.{IsTrue}
-use Rattle.frame_wire.proofs.Words.{List, Ok, Result, ℕ, ap, append-nil, append_assoc, arith, drop, false, field}
 use Rattle.frame_wire.proofs.Words.{length, length-drop, number_of, part, refl, subst, sym, take, true}
 use Rattle.std.proofs.lemmas.List.{drop-drop}
 use Rattle.std.proofs.Math.Seq.{take-add}

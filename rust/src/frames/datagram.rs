@@ -1,6 +1,9 @@
 // Made from crates/frame_wire/src/datagram.rt by rust/erase.
 //! Datagrams of IPv4 and IPv6.
 
+use self::headers::{
+    FRAGMENT_HEADER_LEN, Upper, has_extension, is_fragment, options_of, pass_headers,
+};
 use crate::frames::link::behind;
 use crate::wirebase::{
     IPV6_HEADER_LEN, IpProtocol, Ipv4Address, Ipv4Packet, Ipv6Address, Ipv6Packet, Octets, checksum,
@@ -8,6 +11,8 @@ use crate::wirebase::{
 
 mod captured;
 mod display;
+mod headers;
+mod jumbogram;
 
 pub use captured::{Captured, Extent};
 
@@ -52,11 +57,12 @@ pub enum Refusal {
     HeaderLen(u8),
     /// The total length of IPv4 is below the header length; this is the total length in bytes.
     TotalLen(u16),
-    /// They end before the datagram does by its own length, as where a capture kept only its start; `Captured` reads
-    /// what is there.
+    /// They end before the datagram does by its own length, or within the hop-by-hop header that has the length of a
+    /// jumbogram, as where a capture kept only the start; `Captured` reads what is there.
     Cut(Head),
-    /// They are a jumbogram (RFC 2675): the payload length is 0 before a hop-by-hop header, whose option has the
-    /// length. Without that option such a datagram contradicts itself (RFC 2675 section 3).
+    /// They are a jumbogram that contradicts itself (RFC 2675 section 3): the payload length is 0 before a hop-by-hop
+    /// header, whose options don't lead to one with a length of 65,536 bytes or more; or there is a header of a
+    /// fragment too.
     Jumbogram,
     /// A header that extends IPv6, of this protocol, goes on past the end of the datagram.
     Extension(IpProtocol),
@@ -121,9 +127,6 @@ pub struct Datagram<'a> {
 // The bytes of an IPv4 header without options.
 const IPV4_HEADER_LEN: usize = 20;
 
-// The bytes of a fragment header of IPv6.
-const FRAGMENT_HEADER_LEN: usize = 8;
-
 impl<'a> Datagram<'a> {
     /// The IPv4 datagram at the start of the octets, by its total length; what follows it, such as padding, is ignored.
     /// The header's checksum is not verified, since machines that leave it to their network cards capture packets
@@ -157,7 +160,8 @@ impl<'a> Datagram<'a> {
     /// The IPv6 datagram at the start of the octets, by its payload length; what follows it is ignored. Its hop-by-hop,
     /// destination and routing headers are passed, and the options of a hop-by-hop header directly after the fixed one
     /// are kept. The header of an atomic fragment (RFC 6946 section 2), at offset 0 with no more fragments after it, is
-    /// passed too; every other fragment is refused, and so is a jumbogram.
+    /// passed too; every other fragment is refused. A jumbogram (RFC 2675), whose payload length is 0 before a
+    /// hop-by-hop header, ends by the length in the option of that header.
     pub fn parse_v6(octets: &'a [u8]) -> Result<Datagram<'a>, Refusal> {
         if octets.len() < IPV6_HEADER_LEN {
             return Err(Refusal::Short);
@@ -166,10 +170,13 @@ impl<'a> Datagram<'a> {
         if packet.version() != 6 {
             return Err(Refusal::Version(packet.version()));
         }
-        if octets.len() < IPV6_HEADER_LEN + packet.payload_len() as usize {
+        let Some(len) = len_v6(octets) else {
+            return Err(endless_v6(octets));
+        };
+        if octets.len() - IPV6_HEADER_LEN < len {
             return Err(Refusal::Cut(head_v6(octets)));
         }
-        read_v6(octets, packet.payload())
+        read_v6(octets, behind_v6(octets, len))
     }
 }
 
@@ -212,15 +219,66 @@ fn head_v6(octets: &[u8]) -> Head {
     }
 }
 
-// The datagram of a fixed IPv6 header and of what follows it. Inlined, as is the passing of headers, so that a datagram
-// is not copied from call to call.
+// The number of bytes after the fixed IPv6 header by the datagram's own length. None for a jumbogram whose hop-by-hop
+// header is cut, or has no length.
+#[inline(always)]
+fn len_v6(octets: &[u8]) -> Option<usize> {
+    if !is_jumbogram(octets) {
+        return Some(Ipv6Packet::new_unchecked(octets).payload_len() as usize);
+    }
+    match jumbogram::jumbo_len(behind(octets, IPV6_HEADER_LEN)) {
+        Some(len) => Some(len as usize),
+        None => None,
+    }
+}
+
+// So many bytes after the fixed IPv6 header.
+#[inline(always)]
+fn behind_v6(octets: &[u8], len: usize) -> &[u8] {
+    &octets[IPV6_HEADER_LEN..IPV6_HEADER_LEN + len]
+}
+
+// Whether the fixed IPv6 header leaves the length to an option.
+#[inline(always)]
+fn is_jumbogram(octets: &[u8]) -> bool {
+    let packet = Ipv6Packet::new_unchecked(octets);
+    packet.payload_len() == 0 && packet.next_header() == IpProtocol::HopByHop
+}
+
+// Why the end of a jumbogram is not known.
+#[inline(never)]
+fn endless_v6(octets: &[u8]) -> Refusal {
+    if has_extension(behind(octets, IPV6_HEADER_LEN)) {
+        return Refusal::Jumbogram;
+    }
+    Refusal::Cut(head_v6(octets))
+}
+
+// The datagram of a fixed IPv6 header and of what follows it. Inlined, as are the calls down to the passing of headers,
+// so that a datagram is not copied from call to call.
 #[inline(always)]
 fn read_v6<'a>(octets: &[u8], behind: &'a [u8]) -> Result<Datagram<'a>, Refusal> {
+    if is_broken(octets, behind) {
+        return Err(Refusal::Jumbogram);
+    }
+    read_unbroken(octets, behind)
+}
+
+// Whether they are a jumbogram with a fragment header.
+#[inline(always)]
+fn is_broken(octets: &[u8], behind: &[u8]) -> bool {
+    let next_header = Ipv6Packet::new_unchecked(octets).next_header();
+    is_jumbogram(octets) && jumbogram::has_fragment(next_header, behind)
+}
+
+// The datagram of a fixed header and of what follows it, other than a jumbogram with a fragment header.
+#[inline(always)]
+fn read_unbroken<'a>(octets: &[u8], behind: &'a [u8]) -> Result<Datagram<'a>, Refusal> {
     let packet = Ipv6Packet::new_unchecked(octets);
     let next_header = packet.next_header();
     let upper = match pass_headers(next_header, behind, packet.dst_addr()) {
         Ok(upper) => upper,
-        Err(protocol) => return Err(torn_v6(octets, behind, protocol)),
+        Err(protocol) => return Err(Refusal::Extension(protocol)),
     };
     if is_fragment(upper.protocol) {
         return Err(fragment_v6(octets, behind, upper));
@@ -234,23 +292,12 @@ fn read_v6<'a>(octets: &[u8], behind: &'a [u8]) -> Result<Datagram<'a>, Refusal>
     })
 }
 
-// Why the IPv6 headers lead to no payload: one is cut, or the payload length is 0 and a hop-by-hop header has the
-// length.
-#[inline(never)]
-fn torn_v6(octets: &[u8], behind: &[u8], protocol: IpProtocol) -> Refusal {
-    let packet = Ipv6Packet::new_unchecked(octets);
-    if packet.payload_len() == 0 && packet.next_header() == IpProtocol::HopByHop {
-        return Refusal::Jumbogram;
-    }
-    Refusal::Extension(protocol)
-}
-
 // What the fragment header that the IPv6 headers lead to tells (RFC 8200 section 4.5).
 #[inline(never)]
 fn fragment_v6(octets: &[u8], behind: &[u8], upper: Upper<'_>) -> Refusal {
     let header = upper.payload;
     if header.len() < FRAGMENT_HEADER_LEN {
-        return torn_v6(octets, behind, upper.protocol);
+        return Refusal::Extension(upper.protocol);
     }
     let packet = Ipv6Packet::new_unchecked(octets);
     let offset_and_flag = header.u16_at(2..4);
@@ -261,108 +308,4 @@ fn fragment_v6(octets: &[u8], behind: &[u8], upper: Upper<'_>) -> Refusal {
         frag_offset: 8 * (offset_and_flag / 8),
         more_frags: offset_and_flag % 2 == 1,
     })
-}
-
-// The options of a hop-by-hop header; other headers have none.
-fn options_of(protocol: IpProtocol, header: &[u8]) -> Option<&[u8]> {
-    if protocol == IpProtocol::HopByHop {
-        return Some(&header[2..8 * header[1] as usize + 8]);
-    }
-    None
-}
-
-// What the extension headers of IPv6 lead to.
-#[derive(Debug, PartialEq, Eq, Clone, Copy)]
-struct Upper<'a> {
-    protocol: IpProtocol,
-    payload: &'a [u8],
-    dst_addr: Ipv6Address,
-}
-
-// Passes the extension headers of IPv6. Refused where one of them is not whole, with its protocol.
-#[inline(always)]
-fn pass_headers<'a>(
-    next_header: IpProtocol,
-    payload: &'a [u8],
-    dst_addr: Ipv6Address,
-) -> Result<Upper<'a>, IpProtocol> {
-    let mut protocol = next_header;
-    let mut rest = payload;
-    let mut dst_addr = dst_addr;
-    while is_passed(protocol, rest) {
-        let Some(end) = header_end(protocol, rest) else {
-            return Err(protocol);
-        };
-        dst_addr = behind_header(protocol, rest, dst_addr);
-        protocol = IpProtocol::from(rest[0]);
-        rest = behind(rest, end);
-    }
-    Ok(Upper {
-        protocol,
-        payload: rest,
-        dst_addr,
-    })
-}
-
-// Whether a header is passed.
-fn is_passed(protocol: IpProtocol, header: &[u8]) -> bool {
-    is_extension(protocol) || is_atomic(protocol, header)
-}
-
-// Whether this is a header of options or of routing.
-fn is_extension(protocol: IpProtocol) -> bool {
-    protocol == IpProtocol::HopByHop
-        || protocol == IpProtocol::Ipv6Route
-        || protocol == IpProtocol::Ipv6Opts
-}
-
-// Whether this is the protocol of a fragment header.
-fn is_fragment(protocol: IpProtocol) -> bool {
-    protocol == IpProtocol::Ipv6Frag
-}
-
-// Whether this is the header of a fragment that is a whole datagram.
-fn is_atomic(protocol: IpProtocol, header: &[u8]) -> bool {
-    if !is_fragment(protocol) || header.len() < FRAGMENT_HEADER_LEN {
-        return false;
-    }
-    let offset_and_flag = header.u16_at(2..4);
-    offset_and_flag / 8 == 0 && offset_and_flag % 2 == 0
-}
-
-// The end of a header that is passed; None where it is not whole. An atomic fragment header always is.
-fn header_end(protocol: IpProtocol, header: &[u8]) -> Option<usize> {
-    if is_fragment(protocol) {
-        return Some(FRAGMENT_HEADER_LEN);
-    }
-    if !has_extension(header) {
-        return None;
-    }
-    Some(8 * header[1] as usize + 8)
-}
-
-// The destination after a header that is passed.
-fn behind_header(protocol: IpProtocol, header: &[u8], dst_addr: Ipv6Address) -> Ipv6Address {
-    if protocol == IpProtocol::Ipv6Route {
-        return routed(header, dst_addr);
-    }
-    dst_addr
-}
-
-// Whether the octets begin with a whole header.
-fn has_extension(octets: &[u8]) -> bool {
-    octets.len() >= 8 && octets.len() >= 8 * octets[1] as usize + 8
-}
-
-// The address that a routing header with segments left leads to.
-fn routed(header: &[u8], dst_addr: Ipv6Address) -> Ipv6Address {
-    let end = 8 * header[1] as usize + 8;
-    if header[3] == 0 || end < 24 {
-        return dst_addr;
-    }
-    match header[2] {
-        4 => Ipv6Address::from_octets(header.range(8, 24).try_into().unwrap()),
-        0 | 2 => Ipv6Address::from_octets(header.range(end - 16, end).try_into().unwrap()),
-        _ => dst_addr,
-    }
 }

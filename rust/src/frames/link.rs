@@ -6,6 +6,8 @@ use byteorder::{ByteOrder, LittleEndian};
 
 mod display;
 mod ethernet;
+mod frame_relay;
+mod nflog;
 mod refusal;
 mod vlans;
 
@@ -41,12 +43,23 @@ pub enum Link {
     LinuxSll,
     /// Linux cooked capture, version 2.
     LinuxSll2,
+    /// HDLC as Cisco's routers have it: an address, a control byte, and an EtherType (RFC 1547 section 4.3.1).
+    CHdlc,
+    /// Frame relay with protocols by their numbers (RFC 2427).
+    FrameRelay,
+    /// IP with the header of Solaris's ipnet.
+    Ipnet,
+    /// What the firewall of Linux logs: attributes, one of which is the packet.
+    Nflog,
+    /// IP over InfiniBand (RFC 4391 section 6), behind a global route header of 40 bytes.
+    Ipoib,
 }
 
 impl Link {
     /// The link of a capture file's link type, by the registry of link types of pcap and pcapng; None where its frames
     /// are not read. Read are 0 and 108 (NULL and LOOP); 1 (ETHERNET); 9 and 50 (PPP and PPP_HDLC); 12, 14, 101, 228
-    /// and 229 (RAW by two older numbers, RAW, IPV4 and IPV6); 51 (PPP_ETHER); 113 (LINUX_SLL); and 276 (LINUX_SLL2).
+    /// and 229 (RAW by two older numbers, RAW, IPV4 and IPV6); 51 (PPP_ETHER); 104 (C_HDLC); 107 (FRELAY); 113
+    /// (LINUX_SLL); 226 (IPNET); 239 (NFLOG); 242 (IPOIB); and 276 (LINUX_SLL2).
     pub fn of(link_type: u16) -> Option<Link> {
         match link_type {
             0 | 108 => Some(Link::Null),
@@ -54,14 +67,21 @@ impl Link {
             9 | 50 => Some(Link::Ppp),
             12 | 14 | 101 | 228 | 229 => Some(Link::Raw),
             51 => Some(Link::PppEther),
+            104 => Some(Link::CHdlc),
+            107 => Some(Link::FrameRelay),
             113 => Some(Link::LinuxSll),
+            226 => Some(Link::Ipnet),
+            239 => Some(Link::Nflog),
+            242 => Some(Link::Ipoib),
             276 => Some(Link::LinuxSll2),
             _ => None,
         }
     }
 
-    /// The frame in these octets. Refused where its headers are cut short, and where a PPPoE session packet has another
-    /// version, type or code than data.
+    /// The frame in these octets. Refused where its headers are cut short; where a PPPoE session packet has another
+    /// version, type or code than data; where frame relay has an address of another length than two to four bytes, or
+    /// another control byte than 3, that of unnumbered information; and where NFLOG has another version than 0, an
+    /// attribute whose length does not cover its own header, or no attribute with the packet.
     #[inline]
     pub fn frame(self, octets: &[u8]) -> Result<Frame<'_>> {
         match self {
@@ -72,6 +92,11 @@ impl Link {
             Link::Raw => raw(octets),
             Link::LinuxSll => typed_at(octets, 14, 16),
             Link::LinuxSll2 => typed_at(octets, 0, 20),
+            Link::CHdlc => typed_at(octets, 2, 4),
+            Link::FrameRelay => frame_relay::read(octets).map_err(|_| Error),
+            Link::Ipnet => ipnet(octets),
+            Link::Nflog => nflog::read(octets).map_err(|_| Error),
+            Link::Ipoib => typed_at(octets, 40, 44),
         }
     }
 }
@@ -296,5 +321,26 @@ fn network_of_family(family: u16) -> Network {
         2 => Network::Ipv4,
         10 | 24 | 28 | 30 => Network::Ipv6,
         other => Network::Other(other),
+    }
+}
+
+// A datagram behind the header of Solaris's ipnet. Refused where that is cut short.
+fn ipnet(octets: &[u8]) -> Result<Frame<'_>> {
+    if octets.len() < 24 {
+        return Err(Error);
+    }
+    Ok(Frame {
+        network: network_of_solaris(octets[1]),
+        tags: &[],
+        payload: behind(octets, 24),
+    })
+}
+
+// The network of an address family of Solaris.
+fn network_of_solaris(family: u8) -> Network {
+    match family {
+        2 => Network::Ipv4,
+        26 => Network::Ipv6,
+        other => Network::Other(other as u16),
     }
 }

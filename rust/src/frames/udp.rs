@@ -63,15 +63,16 @@ impl<T: Octets> UdpPacket<T> {
         Ok(packet)
     }
 
-    /// Accepts 8 or more octets that hold the whole datagram by its length field, which counts the header too. Then
-    /// each accessor may be called.
+    /// Accepts 8 or more octets that hold the whole datagram by its length field, which counts the header too. A length
+    /// of 0 among 65,536 octets or more (and fewer than 2^32) is that of a jumbogram, which ends with the octets (RFC
+    /// 2675 section 4). Then each accessor may be called.
     pub fn check_len(&self) -> Result<()> {
         let len = self.buffer.octets().len();
         if len < HEADER_LEN {
             return Err(Error);
         }
-        let total = self.len() as usize;
-        if total < HEADER_LEN || len < total {
+        let end = self.end();
+        if end < HEADER_LEN || len < end {
             return Err(Error);
         }
         Ok(())
@@ -83,14 +84,25 @@ impl<T: Octets> UdpPacket<T> {
         if len < HEADER_LEN {
             return Some(Refusal::Short);
         }
-        let total = self.len();
-        if (total as usize) < HEADER_LEN {
-            return Some(Refusal::Length(total));
+        let end = self.end();
+        if end < HEADER_LEN {
+            return Some(Refusal::Length(end as u16));
         }
-        if len < total as usize {
-            return Some(Refusal::Cut(total));
+        if len < end {
+            return Some(Refusal::Cut(end as u16));
         }
         None
+    }
+
+    // The bytes of header and data. Requires at least 6 bytes.
+    #[inline(always)]
+    fn end(&self) -> usize {
+        let len = self.len();
+        let octets = self.buffer.octets().len();
+        if len == 0 && is_jumbo(octets) {
+            return octets;
+        }
+        len as usize
     }
 
     /// The buffer that the view was made from, in its present state.
@@ -116,7 +128,8 @@ impl<T: Octets> UdpPacket<T> {
         self.buffer.u16_at(field::DST_PORT)
     }
 
-    /// The length of header and data in bytes. Requires at least 6 bytes.
+    /// The length of header and data in bytes, or 0 in a jumbogram where that is more than 65,535. Requires at least 6
+    /// bytes.
     ///
     /// # Panics
     ///
@@ -142,9 +155,9 @@ impl<T: Octets> UdpPacket<T> {
     ///
     /// May panic where what is asked for above does not hold.
     pub fn verify_checksum(&self, addresses: &Addresses) -> bool {
-        let len = self.len();
-        let sum = addresses.sum_before(IpProtocol::Udp, len as u32);
-        checksum::is_good(self.buffer.range(0, len as usize), sum)
+        let end = self.end();
+        let sum = addresses.sum_before(IpProtocol::Udp, end as u32);
+        checksum::is_good(self.buffer.range(0, end), sum)
     }
 }
 
@@ -156,7 +169,7 @@ impl<'a, B: AsRef<[u8]> + ?Sized> UdpPacket<&'a B> {
     /// May panic where what is asked for above does not hold.
     pub fn payload(&self) -> &'a [u8] {
         let octets: &'a [u8] = self.buffer.as_ref();
-        &octets[field::PAYLOAD..self.len() as usize]
+        &octets[field::PAYLOAD..self.end()]
     }
 }
 
@@ -203,7 +216,7 @@ impl<T: OctetsMut> UdpPacket<T> {
     ///
     /// May panic where what is asked for above does not hold.
     pub fn payload_mut(&mut self) -> &mut [u8] {
-        let end = self.len() as usize;
+        let end = self.end();
         self.buffer.range_mut(field::PAYLOAD, end)
     }
 }
@@ -369,6 +382,12 @@ fn seal(octets: &mut [u8], addresses: &Addresses) {
     if octets.u16_at(field::CHECKSUM) == 0 {
         BigEndian::write_u16(&mut octets[field::CHECKSUM], 0xffff);
     }
+}
+
+// Whether a datagram of so many bytes may have a length of 0.
+#[inline(always)]
+fn is_jumbo(len: usize) -> bool {
+    len > 65_535 && u32::try_from(len).is_ok()
 }
 
 // Whether the datagram has its checksum, or needs none.

@@ -61,7 +61,11 @@ fn frame_reason(is_cut: bool, refusal: link::Refusal) -> Reason {
         link::Refusal::Short | link::Refusal::Tag | link::Refusal::Protocol => early(is_cut),
         link::Refusal::SessionVersion(_)
         | link::Refusal::SessionType(_)
-        | link::Refusal::SessionCode(_) => Reason::Malformed,
+        | link::Refusal::SessionCode(_)
+        | link::Refusal::FrameRelayAddress
+        | link::Refusal::FrameRelayControl(_)
+        | link::Refusal::NflogVersion(_)
+        | link::Refusal::NflogLen(_) => Reason::Malformed,
         _ => unreachable!(),
     }
 }

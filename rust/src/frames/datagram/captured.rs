@@ -1,9 +1,9 @@
 // Made from crates/frame_wire/src/datagram/captured.rt by rust/erase.
 //! Datagrams as far as they were captured.
 
-use super::{Addresses, Datagram, Head, Refusal, head_v4, read_v6};
+use super::{Addresses, Datagram, Head, Refusal, head_v4, len_v6, read_v6};
 use crate::frames::link::behind;
-use crate::wirebase::{IPV6_HEADER_LEN, Ipv4Packet, Ipv6Packet};
+use crate::wirebase::{IPV6_HEADER_LEN, Ipv4Packet};
 
 /// How much of a datagram was captured.
 #[derive(Debug, PartialEq, Eq, Clone, Copy)]
@@ -98,15 +98,26 @@ fn open_v4<'a>(octets: &'a [u8], head: Head) -> Result<Datagram<'a>, Refusal> {
 
 // An IPv6 datagram that lacks some of its bytes.
 fn cut_v6<'a>(octets: &'a [u8], head: Head) -> Result<Captured<'a>, Refusal> {
-    let payload_len = Ipv6Packet::new_unchecked(octets).payload_len() as usize;
-    match read_v6(octets, behind(octets, IPV6_HEADER_LEN)) {
+    let Some(len) = len_v6(octets) else {
+        return Err(Refusal::Cut(head));
+    };
+    let rest = behind(octets, IPV6_HEADER_LEN);
+    match read_v6(octets, rest) {
         Ok(datagram) => Ok(Captured {
             datagram,
             extent: Extent::Cut {
-                missing: IPV6_HEADER_LEN + payload_len - octets.len(),
+                missing: len - rest.len(),
             },
         }),
-        Err(Refusal::Fragment(head)) => Err(Refusal::Fragment(head)),
-        Err(_) => Err(Refusal::Cut(head)),
+        Err(refusal) => Err(told_of_cut(refusal, head)),
+    }
+}
+
+// What is told of a datagram that is cut, by the refusal of what is there: a header that is cut is where the datagram
+// is.
+fn told_of_cut(refusal: Refusal, head: Head) -> Refusal {
+    match refusal {
+        Refusal::Extension(_) => Refusal::Cut(head),
+        other => other,
     }
 }

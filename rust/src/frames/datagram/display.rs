@@ -42,7 +42,7 @@ impl fmt::Display for Refusal {
                 write!(f, "a total length of {len} is below that of the header")
             }
             Refusal::Cut(head) => write!(f, "cut short, {head}"),
-            Refusal::Jumbogram => write!(f, "a jumbogram is not read"),
+            Refusal::Jumbogram => write!(f, "a malformed jumbogram"),
             Refusal::Extension(protocol) => {
                 write!(f, "the extension header {protocol} is cut short")
             }

@@ -15,6 +15,11 @@ impl fmt::Display for Link {
             Link::Raw => write!(f, "RAW"),
             Link::LinuxSll => write!(f, "LINUX_SLL"),
             Link::LinuxSll2 => write!(f, "LINUX_SLL2"),
+            Link::CHdlc => write!(f, "C_HDLC"),
+            Link::FrameRelay => write!(f, "FRELAY"),
+            Link::Ipnet => write!(f, "IPNET"),
+            Link::Nflog => write!(f, "NFLOG"),
+            Link::Ipoib => write!(f, "IPOIB"),
         }
     }
 }
@@ -50,6 +55,14 @@ impl fmt::Display for Refusal {
             Refusal::SessionVersion(version) => write!(f, "PPPoE version {version} is not read"),
             Refusal::SessionType(number) => write!(f, "PPPoE type {number} is not read"),
             Refusal::SessionCode(code) => write!(f, "PPPoE code {code} is not read"),
+            Refusal::FrameRelayAddress => {
+                write!(f, "the frame relay address has the wrong length")
+            }
+            Refusal::FrameRelayControl(control) => {
+                write!(f, "frame relay control {control} is not read")
+            }
+            Refusal::NflogVersion(version) => write!(f, "NFLOG version {version} is not read"),
+            Refusal::NflogLen(len) => write!(f, "NFLOG attribute length {len} is below 4"),
         }
     }
 }

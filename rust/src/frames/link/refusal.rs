@@ -1,14 +1,17 @@
 // Made from crates/frame_wire/src/link/refusal.rt by rust/erase.
 //! Why frames are refused.
 
-use super::{Frame, Link, behind, family, payload_of, ppp, protocol, raw, untagged};
+use super::{
+    Frame, Link, behind, family, frame_relay, ipnet, nflog, payload_of, ppp, protocol, raw,
+    untagged,
+};
 use crate::wirebase::Octets;
 
 /// Why octets are refused as a frame of their link: the check that fails first.
 #[derive(Debug, PartialEq, Eq, Clone, Copy)]
 #[non_exhaustive]
 pub enum Refusal {
-    /// Fewer bytes than the header of the link has.
+    /// Fewer bytes than the header of the link has; of NFLOG, than its attributes have up to the end of the packet.
     Short,
     /// The octets end within a VLAN tag of four bytes.
     Tag,
@@ -20,6 +23,15 @@ pub enum Refusal {
     SessionType(u8),
     /// The PPPoE code is not 0, the code of session data; this is its number.
     SessionCode(u8),
+    /// The address of frame relay has one byte, or more than four (Q.922 section 3.3).
+    FrameRelayAddress,
+    /// The control byte of frame relay is not 3, that of unnumbered information (RFC 2427 section 3); this is its
+    /// number.
+    FrameRelayControl(u8),
+    /// The NFLOG version is not 0; this is its number.
+    NflogVersion(u8),
+    /// An NFLOG attribute has a length below 4, the bytes of its own header; this is the length.
+    NflogLen(u8),
 }
 
 impl Link {
@@ -52,12 +64,26 @@ impl Link {
             },
             Link::LinuxSll => why_not_typed(octets, 14, 16),
             Link::LinuxSll2 => why_not_typed(octets, 0, 20),
+            Link::CHdlc => why_not_typed(octets, 2, 4),
+            Link::FrameRelay => match frame_relay::read(octets) {
+                Ok(_) => None,
+                Err(refusal) => Some(refusal),
+            },
+            Link::Ipnet => match ipnet(octets) {
+                Ok(_) => None,
+                Err(_) => Some(Refusal::Short),
+            },
+            Link::Nflog => match nflog::read(octets) {
+                Ok(_) => None,
+                Err(refusal) => Some(refusal),
+            },
+            Link::Ipoib => why_not_typed(octets, 40, 44),
         }
     }
 }
 
 // Why a frame whose EtherType is at `place` and whose payload begins at `start` is refused; None where it is read.
-fn why_not_typed(octets: &[u8], place: usize, start: usize) -> Option<Refusal> {
+pub(super) fn why_not_typed(octets: &[u8], place: usize, start: usize) -> Option<Refusal> {
     if octets.len() < start {
         return Some(Refusal::Short);
     }

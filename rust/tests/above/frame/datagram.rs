@@ -134,32 +134,6 @@ fn fragment_v6(protocol: IpProtocol, ident: u32, frag_offset: u16, more_frags: b
     }
 }
 
-// A jumbogram of 70,000 bytes of UDP behind its hop-by-hop header (RFC 2675 section 2), as far as it is there. Before
-// other headers a payload length of 0 counts no bytes.
-#[test]
-fn a_jumbogram() {
-    let mut octets = [0; 64];
-    octets[..8].copy_from_slice(&[0x60, 0, 0, 0, 0, 0, 0, 64]);
-    octets[40..48].copy_from_slice(&[17, 0, 0xc2, 4, 0, 1, 0x11, 0x70]);
-    for len in [40, 48, 64] {
-        let read = Datagram::parse_v6(&octets[..len]);
-        same_of(len, read, Err(Refusal::Jumbogram));
-        let read = Captured::parse_v6(&octets[..len]);
-        same_of(len, read, Err(Refusal::Jumbogram));
-    }
-    for (next_header, refusal) in [
-        (17, None),
-        (59, None),
-        (60, Some(Refusal::Extension(IpProtocol::Ipv6Opts))),
-        (43, Some(Refusal::Extension(IpProtocol::Ipv6Route))),
-        (44, Some(Refusal::Extension(IpProtocol::Ipv6Frag))),
-    ] {
-        octets[6] = next_header;
-        let read = Datagram::parse_v6(&octets);
-        same_of(next_header, read.err(), refusal);
-    }
-}
-
 // The datagram with another byte at a place, and the answer to it.
 fn answer_of(place: usize, byte: u8) -> (Option<Addresses>, Option<Refusal>) {
     let mut octets = [0; 74];

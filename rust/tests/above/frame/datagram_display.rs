@@ -73,7 +73,7 @@ fn refusals_in_words() {
             Refusal::Cut(cut),
             "cut short, fe80::1 > ff02::16 protocol=Hop-by-Hop",
         ),
-        (Refusal::Jumbogram, "a jumbogram is not read"),
+        (Refusal::Jumbogram, "a malformed jumbogram"),
         (
             Refusal::Extension(IpProtocol::Ipv6Opts),
             "the extension header IPv6-Opts is cut short",

@@ -4,7 +4,7 @@ use control_wire::EthernetAddress;
 use control_wire::frames::link::{EthernetHeader, Frame, Link, Network, Refusal, VlanTag};
 
 // A frame of a link, and what it holds.
-type Row = (Link, &'static [u8], Network, &'static [u16], &'static [u8]);
+pub(super) type Row = (Link, &'static [u8], Network, &'static [u16], &'static [u8]);
 
 const ROWS: &[Row] = &[
     (
@@ -159,9 +159,9 @@ fn check_frame(of: &[u8], frame: &Frame<'_>, row: &Row) {
     }
 }
 
-#[test]
-fn frames_of_each_link() {
-    for row in ROWS {
+// Compares the frames in these rows with what they hold.
+pub(super) fn check_frames(rows: &[Row]) {
+    for row in rows {
         let &(link, octets, ..) = row;
         same_of(
             octets,
@@ -173,6 +173,11 @@ fn frames_of_each_link() {
             Err(_) => same_of(octets, false, true),
         }
     }
+}
+
+#[test]
+fn frames_of_each_link() {
+    check_frames(ROWS);
 }
 
 // Without its payload a frame is whole, and with less it is refused.
@@ -206,11 +211,16 @@ fn link_types() {
         (50, Some(Link::Ppp)),
         (51, Some(Link::PppEther)),
         (101, Some(Link::Raw)),
+        (104, Some(Link::CHdlc)),
         (105, None),
+        (107, Some(Link::FrameRelay)),
         (108, Some(Link::Null)),
         (113, Some(Link::LinuxSll)),
+        (226, Some(Link::Ipnet)),
         (228, Some(Link::Raw)),
         (229, Some(Link::Raw)),
+        (239, Some(Link::Nflog)),
+        (242, Some(Link::Ipoib)),
         (276, Some(Link::LinuxSll2)),
         (65535, None),
     ];
@@ -220,9 +230,8 @@ fn link_types() {
 }
 
 // A reason is told exactly where a frame is refused: of each front of a frame, and with each of its bytes changed.
-#[test]
-fn refusals_of_damaged_frames() {
-    for &(link, octets, ..) in ROWS {
+pub(super) fn check_damaged(rows: &[Row]) {
+    for &(link, octets, ..) in rows {
         for len in 0..=octets.len() {
             let front = &octets[..len];
             same_of(
@@ -231,8 +240,8 @@ fn refusals_of_damaged_frames() {
                 link.frame(front).is_ok(),
             );
         }
-        let mut changed = [0; 32];
-        if octets.len() <= 32 {
+        let mut changed = [0; 96];
+        if octets.len() <= 96 {
             changed[..octets.len()].copy_from_slice(octets);
             for place in 0..octets.len() {
                 changed[place] ^= 0x55;
@@ -249,8 +258,24 @@ fn refusals_of_damaged_frames() {
 }
 
 #[test]
+fn refusals_of_damaged_frames() {
+    check_damaged(ROWS);
+}
+
+// A frame of a link, and why it is refused.
+pub(super) type Refused = (Link, &'static [u8], Option<Refusal>);
+
+// Compares the reasons for which these frames are refused.
+pub(super) fn check_refusals(rows: &[Refused]) {
+    for &(link, octets, refusal) in rows {
+        same_of((link, octets), link.refusal(octets), refusal);
+        same_of((link, octets), link.frame_or_refusal(octets).err(), refusal);
+    }
+}
+
+#[test]
 fn refusals_of_frames() {
-    const REFUSED: &[(Link, &[u8], Option<Refusal>)] = &[
+    const REFUSED: &[Refused] = &[
         (Link::Null, &[2, 0, 0], Some(Refusal::Short)),
         (Link::Raw, &[], Some(Refusal::Short)),
         (Link::Raw, &[0x45], None),
@@ -301,10 +326,7 @@ fn refusals_of_frames() {
             Some(Refusal::Protocol),
         ),
     ];
-    for &(link, octets, refusal) in REFUSED {
-        same_of((link, octets), link.refusal(octets), refusal);
-        same_of((link, octets), link.frame_or_refusal(octets).err(), refusal);
-    }
+    check_refusals(REFUSED);
 }
 
 #[test]

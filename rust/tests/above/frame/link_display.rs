@@ -12,6 +12,11 @@ fn links_by_their_names() {
         (Link::Raw, "RAW"),
         (Link::LinuxSll, "LINUX_SLL"),
         (Link::LinuxSll2, "LINUX_SLL2"),
+        (Link::CHdlc, "C_HDLC"),
+        (Link::FrameRelay, "FRELAY"),
+        (Link::Ipnet, "IPNET"),
+        (Link::Nflog, "NFLOG"),
+        (Link::Ipoib, "IPOIB"),
     ];
     for (link, text) in rows {
         prints(&link, text);
@@ -47,6 +52,16 @@ fn refusals_in_words() {
         (Refusal::SessionVersion(2), "PPPoE version 2 is not read"),
         (Refusal::SessionType(0), "PPPoE type 0 is not read"),
         (Refusal::SessionCode(0xa7), "PPPoE code 167 is not read"),
+        (
+            Refusal::FrameRelayAddress,
+            "the frame relay address has the wrong length",
+        ),
+        (
+            Refusal::FrameRelayControl(0xaf),
+            "frame relay control 175 is not read",
+        ),
+        (Refusal::NflogVersion(1), "NFLOG version 1 is not read"),
+        (Refusal::NflogLen(3), "NFLOG attribute length 3 is below 4"),
     ];
     for (refusal, text) in rows {
         prints(&refusal, text);
