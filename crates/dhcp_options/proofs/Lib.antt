@@ -1,0 +1,9 @@
+pub mod AheadFronts
+pub mod AreaAnswers
+pub mod Cuts
+pub mod JoinedParts
+pub mod SmallKinds
+pub mod Marks
+pub mod Overloads
+pub mod PartLists
+pub mod Words

@@ -1,0 +1,140 @@
+//! The parts of options in a packet, in turn.
+
+ghost use Rattle.std.specs.Prelude.{◌≡◌, ◌≤◌, List, Some, length, ℕ};
+ghost use Rattle.wirebase.specs.Answers.{GivesFirst};
+ghost use Rattle.wirebase.specs.Bytes.{Reaches};
+ghost use Rattle.dhcp_wire.specs.Dhcpv4Packet.{inner, magic_field};
+ghost use Rattle.dhcp_options.specs.Joined.{joined};
+ghost use Rattle.dhcp_options.specs.Parts.{Answer, ArePartsOf, value_of};
+ghost use Rattle.dhcp_options.specs.PartsDisplay.{area_display, refusal_display};
+
+use crate::areas::Areas;
+use crate::front::Placed;
+use crate::overload::Overload;
+use dhcp_wire::dhcpv4::Packet;
+use std::marker::Model;
+use std::{fmt, result};
+use wirebase::are_bytes;
+
+/// A field of a packet that may hold options (RFC 2131 section 2).
+#[derive(Debug, PartialEq, Eq, Clone, Copy)]
+pub enum Area {
+    /// The options field, from byte 240 on.
+    Options,
+    /// `file`, bytes 108 to 235.
+    File,
+    /// `sname`, bytes 44 to 107.
+    Sname,
+}
+
+/// The name of the field.
+impl fmt::Display for Area {
+    ghost output = { λ area. Some (area_display area) };
+
+    fn fmt<W: fmt::Write>(&self, f: &mut fmt::Formatter<W>) -> fmt::Result {
+        f.write_str(match self {
+            Area::Options => "options",
+            Area::File => "file",
+            Area::Sname => "sname",
+        })
+    }
+}
+
+/// A part of an option, and most often all of it: octets behind one kind and one length.
+#[derive(Debug, PartialEq, Eq, Clone, Copy)]
+pub struct Part<'a> {
+    /// Where it stands.
+    pub area: Area,
+    /// The kind of the option, neither padding nor the end mark.
+    pub kind: u8,
+    /// The data, 0 to 255 bytes.
+    pub octets: &'a [u8],
+    /// Whether no part before it has its kind.
+    pub is_first: bool,
+}
+
+/// An area ends within an option: before its length, or within its data (RFC 2132 section 2).
+#[derive(Debug, PartialEq, Eq, Clone, Copy)]
+pub struct Refusal {
+    /// The area.
+    pub area: Area,
+    /// The kind of the option.
+    pub kind: u8,
+}
+
+/// What is wrong with the area.
+impl fmt::Display for Refusal {
+    ghost output = { λ refusal. Some (refusal_display refusal) };
+
+    fn fmt<W: fmt::Write>(&self, f: &mut fmt::Formatter<W>) -> fmt::Result {
+        let Refusal { area, kind } = self;
+        write!(f, "option {kind} is cut at the end of {area}")
+    }
+}
+
+/// The parts of the options of a packet in turn: those of the options field, then those of `file` and of `sname`, where
+/// option 52 says that these hold options (RFC 3396 section 5). Padding is skipped. An area ends at its end mark, or
+/// with its last byte; where it ends within an option, that option is one refusal, and the next area follows.
+#[derive(Debug, Clone, Drop)]
+pub struct Parts<'a> {
+    pub(crate) areas: Areas<'a>,
+    // Of each kind whether a part that was returned has it.
+    seen: [bool; 256],
+}
+
+impl<'a> Model for Parts<'a> {
+    ghost use Rattle.std.specs.Prelude.{List};
+    ghost use Rattle.dhcp_options.specs.Parts.{Answer};
+    ghost use Rattle.dhcp_options.specs.private.Areas.{answers_left};
+    ghost use Rattle.dhcp_options.specs.private.Marks.{marked};
+
+    ghost Value = { List Answer };
+
+    ghost view = { λ it. marked it.seen (answers_left it.areas) };
+}
+
+impl<'a> Parts<'a> {
+    /// The parts of the options of a packet; those of one kind have at most as many bytes as the packet. Its other
+    /// fields, as the magic cookie, are not looked at. Requires at least 240 bytes.
+    pub fn of(packet: &Packet<&'a [u8]>) -> Parts<'a>
+        requires { Reaches magic_field (inner packet.now).now }
+        ensures parts { ArePartsOf (inner packet.now).now result }
+        ensures unique { (others : List Answer) → ArePartsOf (inner packet.now).now others
+            → others ≡ result }
+        ensures fits { (kind : ℕ) → length (joined kind result) ≤ length (inner packet.now).now }
+    {
+        let overload = Overload::of(packet);
+        let octets = packet.into_inner();
+        are_bytes(octets);
+        Parts {
+            areas: Areas::new(octets, overload),
+            seen: [false; 256],
+        }
+    }
+}
+
+impl<'a> Iterator for Parts<'a> {
+    ghost use Rattle.std.specs.Iterator.{at_most};
+
+    type Item = result::Result<Part<'a>, Refusal>;
+
+    ghost next_gives = { GivesFirst value_of };
+
+    ghost remaining = { λ answers. at_most (length answers) };
+
+    fn next(&mut self) -> Option<result::Result<Part<'a>, Refusal>> {
+        match self.areas.next_answer()? {
+            Ok(Placed { area, option }) => {
+                let is_first = !self.seen[option.kind as usize];
+                self.seen[option.kind as usize] = true;
+                Some(Ok(Part {
+                    area,
+                    kind: option.kind,
+                    octets: option.data,
+                    is_first,
+                }))
+            }
+            Err(refusal) => Some(Err(refusal)),
+        }
+    }
+}
