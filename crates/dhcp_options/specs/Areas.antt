@@ -1,13 +1,13 @@
--- The areas of a packet: its fields that hold options, in the order in which they are read (RFC 2131 sections 2 and 4.1,
--- RFC 3396 section 5).
+-- The areas of a packet: its fields that hold options, in the order in which they are read (RFC 2131 sections 2 and 4.1).
+-- RFC 3396 calls them together the aggregate option buffer.
 --
--- +---------+-----------------+---------------------------------------------+
--- | field   | bytes           | holds options                               |
--- +---------+-----------------+---------------------------------------------+
--- | options | 240 to the last | always                                      |
--- | file    | 108 to 235      | where option 52 says file, or file and sname  |
--- | sname   | 44 to 107       | where option 52 says sname, or file and sname |
--- +---------+-----------------+---------------------------------------------+
+-- +---------+-----------------+------------------------------+
+-- | field   | bytes           | holds options                |
+-- +---------+-----------------+------------------------------+
+-- | options | 240 to the last | always                       |
+-- | file    | 108 to 235      | where option 52 says 1 or 3  |
+-- | sname   | 44 to 107       | where option 52 says 2 or 3  |
+-- +---------+-----------------+------------------------------+
 --
 -- The hardware address before sname has its 16 bytes here (bytes 28 to 43).
 use Rattle.std.specs.Prelude.{[], ◌∷◌, List, None, Option, Some, ℕ}

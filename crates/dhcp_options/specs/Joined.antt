@@ -1,4 +1,4 @@
--- Options that stand in several parts (RFC 3396 sections 5 to 7).
+-- Options that stand in several parts (RFC 2131 section 4.1, RFC 3396).
 use Rattle.std.specs.Prelude.{◌≡◌, ◌==◌, [], ◌∷◌, Err, List, None, Ok, Option, Some, flat_map}
 use Rattle.std.specs.Prelude.{if◌then◌else◌, length, ℕ}
 use Rattle.std.specs.Borrow.{Bor}

@@ -1,4 +1,4 @@
--- The parts of the options of a packet (RFC 3396 section 5).
+-- The parts of the options of a packet (RFC 2131 section 4.1, RFC 3396).
 use Rattle.std.specs.Prelude.{◌≡◌, ◌==◌, ◌||◌, ◌++◌, [], ◌∷◌, Bool, Err, List, None, Ok, Option, Result, Some, false}
 use Rattle.std.specs.Prelude.{map, not, ℕ}
 use Rattle.dhcp_options.specs.Words.{Area, Ends, OptionValue, Options, Overload, Refusal}

@@ -32,7 +32,7 @@ pub(crate) struct Areas<'a> {
 
 impl<'a> Areas<'a> {
     ghost use Rattle.wirebase.specs.Answers.{GivesFirst};
-    ghost use Rattle.wirebase.specs.Bytes.{Reaches};
+    ghost use Rattle.wirebase.specs.Bytes.{IsBytes, Reaches};
     ghost use Rattle.dhcp_wire.specs.Dhcpv4Packet.{magic_field};
     ghost use Rattle.dhcp_options.specs.private.Areas.{HasAreas, answers_left};
     ghost use Rattle.dhcp_options.specs.private.Fronts.{placed_of};
@@ -40,7 +40,8 @@ impl<'a> Areas<'a> {
     // The areas of a packet with this overload.
     pub(crate) fn new(octets: &'a [u8], overload: Option<Overload>) -> Areas<'a>
         requires { Reaches magic_field octets.now }
-        ensures { HasAreas overload octets.entry.now result }
+        ensures areas { HasAreas overload octets.entry.now result }
+        ensures bytes { IsBytes octets.entry.now }
     {
         Areas {
             options: &octets[field::OPTIONS..],

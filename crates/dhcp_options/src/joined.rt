@@ -71,7 +71,7 @@ impl<'a> Parts<'a> {
     }
 
     /// Writes the octets of the parts of this kind that are still to come, one after another, over the front of the
-    /// buffer, and returns how many they are (RFC 3396 section 7). Refused where the buffer has fewer bytes than
+    /// buffer, and returns how many they are (RFC 3396). Refused where the buffer has fewer bytes than
     /// `joined_len`; then nothing changes.
     pub fn join(&self, kind: u8, buffer: &mut [u8]) -> Result<usize>
         ensures accepts { IsOk result ↔ (length (joined kind self.now) ≤ length buffer.old) }

@@ -3,19 +3,17 @@
 //! (RFC 3396).
 //!
 //! ```
-//! use control_wire::dhcpv4::Packet;
-//! use dhcp_options::{Area, Parts};
+//! use dhcp_options::Parts;
 //!
-//! // The name of a file that is split, and a host name in `file`.
+//! // The name of a file that is split, and a host's name in `file`.
 //! let mut octets = [0; 267];
 //! octets[108..115].copy_from_slice(b"\x0c\x04host\xff");
 //! octets[240..].copy_from_slice(b"\x34\x01\x01\x43\x07/diskle\x43\x06ss/foo\xff\0\0\0\0\0\0");
-//! let packet = Packet::new_checked(&octets[..])?;
 //!
 //! let mut buffer = [0; 267];
 //! let mut lines = Vec::new();
-//! for part in Parts::of(&packet).flatten().filter(|part| part.is_first) {
-//!     let option = Parts::of(&packet).option(part.kind, &mut buffer)?;
+//! for part in Parts::of(&octets).flatten().filter(|part| part.is_first) {
+//!     let option = Parts::of(&octets).option(part.kind, &mut buffer)?;
 //!     lines.push(format!("{}: {option}", part.area));
 //! }
 //! assert_eq!(

@@ -3,7 +3,7 @@
 ghost use Rattle.std.specs.Prelude.{◌≡◌, Option};
 ghost use Rattle.wirebase.specs.Bytes.{Reaches};
 ghost use Rattle.dhcp_wire.specs.Dhcpv4Options.{value_of_option};
-ghost use Rattle.dhcp_wire.specs.Dhcpv4Packet.{inner, magic_field};
+ghost use Rattle.dhcp_wire.specs.Dhcpv4Packet.{magic_field};
 ghost use Rattle.dhcp_options.specs.Overload.{IsOverload, overload_of, said};
 
 use dhcp_wire::dhcpv4::{DhcpOption, OPT_OPTION_OVERLOAD, Packet};
@@ -20,15 +20,15 @@ pub enum Overload {
 }
 
 impl Overload {
-    /// What the first option 52 of the options field that has one byte, of 1 to 3, says. None where there is no such
-    /// option: then `file` and `sname` are names. Requires at least 240 bytes.
-    pub fn of(packet: &Packet<&[u8]>) -> Option<Overload>
-        requires { Reaches magic_field (inner packet.now).now }
-        ensures overload { IsOverload (inner packet.now).now result }
-        ensures unique { (other : Option Overload) → IsOverload (inner packet.now).now other
+    /// The overload of the packet in these octets: what the first option 52 of its options field that has one byte, of
+    /// 1 to 3, says. None where there is no such option: then `file` and `sname` are names. Requires at least 240 bytes.
+    pub fn of(octets: &[u8]) -> Option<Overload>
+        requires { Reaches magic_field octets.now }
+        ensures overload { IsOverload octets.now result }
+        ensures unique { (other : Option Overload) → IsOverload octets.now other
             → other ≡ result }
     {
-        for option in packet.options() {
+        for option in Packet::new_unchecked(octets).into_options() {
             if let Some(overload) = said(option) {
                 return Some(overload);
             }

@@ -3,7 +3,7 @@
 ghost use Rattle.std.specs.Prelude.{◌≡◌, ◌≤◌, List, Some, length, ℕ};
 ghost use Rattle.wirebase.specs.Answers.{GivesFirst};
 ghost use Rattle.wirebase.specs.Bytes.{Reaches};
-ghost use Rattle.dhcp_wire.specs.Dhcpv4Packet.{inner, magic_field};
+ghost use Rattle.dhcp_wire.specs.Dhcpv4Packet.{magic_field};
 ghost use Rattle.dhcp_options.specs.Joined.{joined};
 ghost use Rattle.dhcp_options.specs.Parts.{Answer, ArePartsOf, value_of};
 ghost use Rattle.dhcp_options.specs.PartsDisplay.{area_display, refusal_display};
@@ -11,10 +11,8 @@ ghost use Rattle.dhcp_options.specs.PartsDisplay.{area_display, refusal_display}
 use crate::areas::Areas;
 use crate::front::Placed;
 use crate::overload::Overload;
-use dhcp_wire::dhcpv4::Packet;
 use std::marker::Model;
 use std::{fmt, result};
-use wirebase::are_bytes;
 
 /// A field of a packet that may hold options (RFC 2131 section 2).
 #[derive(Debug, PartialEq, Eq, Clone, Copy)]
@@ -73,7 +71,7 @@ impl fmt::Display for Refusal {
 }
 
 /// The parts of the options of a packet in turn: those of the options field, then those of `file` and of `sname`, where
-/// option 52 says that these hold options (RFC 3396 section 5). Padding is skipped. An area ends at its end mark, or
+/// option 52 says that these hold options (RFC 2131 section 4.1). Padding is skipped. An area ends at its end mark, or
 /// with its last byte; where it ends within an option, that option is one refusal, and the next area follows.
 #[derive(Debug, Clone, Drop)]
 pub struct Parts<'a> {
@@ -94,20 +92,18 @@ impl<'a> Model for Parts<'a> {
 }
 
 impl<'a> Parts<'a> {
-    /// The parts of the options of a packet; those of one kind have at most as many bytes as the packet. Its other
-    /// fields, as the magic cookie, are not looked at. Requires at least 240 bytes.
-    pub fn of(packet: &Packet<&'a [u8]>) -> Parts<'a>
-        requires { Reaches magic_field (inner packet.now).now }
-        ensures parts { ArePartsOf (inner packet.now).now result }
-        ensures unique { (others : List Answer) → ArePartsOf (inner packet.now).now others
+    /// The parts of the options of the packet in these octets; those of one kind have at most as many bytes as the
+    /// packet. Its other fields, as the magic cookie, are not looked at. Requires at least 240 bytes, as those of a view
+    /// that was checked: `Parts::of(packet.into_inner())`.
+    pub fn of(octets: &'a [u8]) -> Parts<'a>
+        requires { Reaches magic_field octets.now }
+        ensures parts { ArePartsOf octets.entry.now result }
+        ensures unique { (others : List Answer) → ArePartsOf octets.entry.now others
             → others ≡ result }
-        ensures fits { (kind : ℕ) → length (joined kind result) ≤ length (inner packet.now).now }
+        ensures fits { (kind : ℕ) → length (joined kind result) ≤ length octets.entry.now }
     {
-        let overload = Overload::of(packet);
-        let octets = packet.into_inner();
-        are_bytes(octets);
         Parts {
-            areas: Areas::new(octets, overload),
+            areas: Areas::new(octets, Overload::of(octets)),
             seen: [false; 256],
         }
     }

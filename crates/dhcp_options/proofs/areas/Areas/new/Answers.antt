@@ -1,8 +1,8 @@
 use Rattle.dhcp_options.proofs.Words.{take_rest}
 use Rattle.dhcp_options.proofs.areas.Areas.new.Goals as goal
 
-pub returns : goal.returns
-returns c =
+pub returns-clause-areas : goal.returns-clause-areas
+returns-clause-areas c =
     record {
       options = take_rest c.args.octets.now 240;
       file = c.file_of.ensures.value;

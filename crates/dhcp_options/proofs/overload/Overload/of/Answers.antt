@@ -1,14 +1,17 @@
-use Rattle.dhcp_options.proofs.Words.{◌∙◌, ◌≡◌, List, None, Option, OptionValue, Overload, ap, first_said, inner}
-use Rattle.dhcp_options.proofs.Words.{list_of, option_or, options_in, sym}
+use Rattle.dhcp_options.proofs.Words.{◌∙◌, ◌≡◌, List, None, Option, OptionValue, Overload, ap, first_said}
+use Rattle.dhcp_options.proofs.Words.{list_of, option_or, options_in, subst, sym, ℕ, Options}
+use Rattle.std.specs.Borrow.{Bor}
 use Rattle.dhcp_wire.proofs.Dhcpv4Lists.{list-options}
 use Rattle.dhcp_options.proofs.Overloads.{overload-is, overload-one}
 use Rattle.dhcp_options.proofs.overload.Overload.of.Goals as goal
 
 pub loop-option-init : goal.loop-option-init
 loop-option-init c =
-    let bytes = options_in (inner c.args.packet.now).now in
+    let bytes = options_in c.args.octets.now in
     let same : list_of bytes ≡ c.into_iter-option-iterator.result =
-    c.options-option-items.ensures.unique (list_of bytes) (list-options bytes)
+    c.into_options-option-items.ensures.unique (list_of bytes)
+    (subst (λ (b : Bor (List ℕ)). Options (options_in b.now) (list_of bytes)) (sym c.new_unchecked.ensures)
+    (list-options bytes))
     ∙ sym c.into_iter-option-iterator.ensures.into_iter_gives in
     ap (λ (os : List OptionValue). first_said os) (sym same)
 
