@@ -4,6 +4,7 @@
 #![forbid(unsafe_code)]
 
 mod by_hand;
+pub mod dhcp_options;
 mod dhcp_wire;
 mod dns_wire;
 pub mod frames;

@@ -39,6 +39,15 @@ fn jumbogram(number: u32) -> [u8; 65_577] {
     octets
 }
 
+// The first octets, as many as this where there are more.
+fn front(octets: &[u8], len: usize) -> &[u8] {
+    if len < octets.len() {
+        &octets[..len]
+    } else {
+        octets
+    }
+}
+
 // How the octets are read: the bytes of the payload.
 fn payload_len(octets: &[u8]) -> Result<usize, Refusal> {
     match Datagram::parse_v6(octets) {
@@ -83,7 +92,7 @@ fn a_jumbogram_of_65536_bytes() {
         (39, Err(Refusal::Short)),
     ];
     for (len, want) in rows {
-        same_of(len, captured_len(&octets[..len]), want);
+        same_of(len, captured_len(front(&octets, len)), want);
     }
 }
 
@@ -171,10 +180,10 @@ fn jumbograms_in_fragments() {
     for flags in [0x00, 0x01, 0x08] {
         octets[51] = flags;
         same_of(flags, payload_len(&octets), Err(Refusal::Jumbogram));
-        let captured = captured_len(&octets[..64]);
+        let captured = captured_len(front(&octets, 64));
         same_of(flags, captured, Err(Refusal::Jumbogram));
     }
-    let captured = captured_len(&octets[..50]);
+    let captured = captured_len(front(&octets, 50));
     same_of("cut", captured, Err(Refusal::Jumbogram));
     octets[40] = 60;
     octets[48] = 44;
@@ -182,7 +191,7 @@ fn jumbograms_in_fragments() {
     same_of("behind options", behind, Err(Refusal::Jumbogram));
     octets[48] = 17;
     same_of("options alone", payload_len(&octets), Ok(65_520));
-    let captured = captured_len(&octets[..50]);
+    let captured = captured_len(front(&octets, 50));
     same_of("options cut", captured, Err(cut()));
 }
 
@@ -206,34 +215,49 @@ fn a_payload_length_of_0_before_other_headers() {
     same_of("9", payload_len(&octets), Ok(1));
 }
 
-// A UDP datagram of 65,536 bytes, whose length field is 0 (RFC 2675 section 4); its checksum counts its true length.
+// A UDP datagram of 65,536 bytes, whose length field is 0 (RFC 2675 section 4), and whose checksum counts that length;
+// it holds where the last byte is 0.
+fn udp_datagram(last: u8) -> [u8; 65_536] {
+    let mut octets = [0; 65_536];
+    octets[..8].copy_from_slice(&[0x03, 0xe8, 0x07, 0xd0, 0x00, 0x00, 0x98, 0xc0]);
+    octets[65_535] = last;
+    octets
+}
+
+// How its ports are read.
+fn ports(octets: &[u8], addresses: &Addresses) -> Result<UdpRepr, udp::Refusal> {
+    let packet = UdpPacket::new_unchecked(octets);
+    UdpRepr::parse_or_refusal(&packet, addresses, &ChecksumCapabilities::default())
+}
+
 #[test]
 fn udp_in_a_jumbogram() {
-    const HEADER: &[u8] = &[0x03, 0xe8, 0x07, 0xd0, 0x00, 0x00, 0x98, 0xc0];
-    let mut octets = [0; 65_584];
-    octets[..48].copy_from_slice(START);
-    octets[44..48].copy_from_slice(&[0x00, 0x01, 0x00, 0x08]);
-    octets[48..56].copy_from_slice(HEADER);
-    let Ok(datagram) = Datagram::parse_v6(&octets) else {
-        return same_of("no datagram", false, true);
-    };
-    let packet = UdpPacket::new_unchecked(datagram.payload);
-    let caps = ChecksumCapabilities::default();
-    let ports = UdpRepr {
+    let octets = udp_datagram(0);
+    let want = UdpRepr {
         src_port: 1000,
         dst_port: 2000,
     };
-    let read = UdpRepr::parse_or_refusal(&packet, &datagram.addresses, &caps);
-    same_of("whole", read, Ok(ports));
-    let captured = CapturedUdp::parse(datagram.payload);
+    same_of("whole", ports(&octets, &addresses()), Ok(want));
+    let captured = CapturedUdp::parse(&octets);
     let len = captured.map(|captured| captured.payload.len());
     same_of("data", len, Ok(65_528));
-
-    octets[65_583] = 1;
-    let packet = UdpPacket::new_unchecked(&octets[48..]);
-    let read = UdpRepr::parse_or_refusal(&packet, &addresses(), &caps);
+    let read = ports(&udp_datagram(1), &addresses());
     same_of("changed", read, Err(udp::Refusal::Checksum));
-    // Fewer bytes have a length, which 0 is not.
-    let cut = CapturedUdp::parse(&octets[48..65_583]).err();
+    // Fewer bytes have a length that their field can hold, and it is not 0.
+    let cut = CapturedUdp::parse(front(&octets, 65_535)).err();
     same_of("cut", cut, Some(udp::Refusal::Length(0)));
+}
+
+// The same datagram behind the headers of a jumbogram.
+#[test]
+fn a_jumbogram_of_udp() {
+    let mut octets = [0; 65_584];
+    octets[..48].copy_from_slice(START);
+    octets[44..48].copy_from_slice(&[0x00, 0x01, 0x00, 0x08]);
+    octets[48..].copy_from_slice(&udp_datagram(0));
+    let read = match Datagram::parse_v6(&octets) {
+        Ok(datagram) => ports(datagram.payload, &datagram.addresses).is_ok(),
+        Err(_) => false,
+    };
+    same_of("whole", read, true);
 }
