@@ -1,0 +1,4 @@
+pub mod Headers
+pub mod Marks
+pub mod Orders
+pub mod Places

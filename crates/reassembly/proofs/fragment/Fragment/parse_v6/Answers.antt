@@ -1,0 +1,10 @@
+-- Other octets are no fragment.
+use Rattle.reassembly.proofs.Headers.{datagram_no_fragment, refused_no_fragment}
+use Rattle.reassembly.proofs.fragment.Fragment.parse_v6.Goals as goal
+
+pub returns-in_default-clause-complete : goal.returns-in_default-clause-complete
+returns-in_default-clause-complete c none v =
+    refused_no_fragment c.args.octets.now c.in-Err.refusal v c.in-Err.ensures.refuses c.in_default.not-Fragment
+
+pub returns-in-Ok-clause-complete : goal.returns-in-Ok-clause-complete
+returns-in-Ok-clause-complete c none v = datagram_no_fragment c.args.octets.now _ v c.in-Ok.ensures.sound

@@ -1,0 +1,7 @@
+pub mod Answer
+pub mod Arrivals
+pub mod Fragment
+pub mod Partial
+pub mod Piece
+pub mod Reassembly
+pub mod Types

@@ -1,0 +1,128 @@
+//! Fragments that are kept.
+
+ghost use Rattle.std.specs.Prelude.{◌+◌, ◌≤◌, vec_len};
+
+use crate::answer::Fault;
+use crate::fragment::Fragment;
+use std::alloc::Global;
+use wirebase::IpProtocol;
+
+/// The most bytes of a datagram's payload.
+pub const MOST_LEN: usize = 65_535;
+
+/// A fragment that is kept.
+#[derive(Debug, Drop)]
+pub struct Piece {
+    number: u64,
+    protocol: IpProtocol,
+    offset: u16,
+    more: bool,
+    octets: Vec<u8>,
+    ghost within: { offset + vec_len octets ≤ 65535 },
+}
+
+// How a fragment stands to one that is kept.
+#[derive(Debug, PartialEq, Eq, Clone, Copy)]
+pub(crate) enum Standing {
+    // They have no byte in common, and agree on where the datagram ends.
+    Apart,
+    // It is the same again.
+    Same,
+    // They have some bytes in common.
+    Overlapping,
+    // One has bytes past the end that the other tells.
+    PastEnd,
+}
+
+impl Piece {
+    ghost use Rattle.std.specs.Prelude.{◌≡◌, ◌↔◌, IfOk, IsTrue};
+    ghost use Rattle.reassembly.specs.Fragment.{value_of};
+    ghost use Rattle.reassembly.specs.Piece.{piece_of, piece_in, end_of, fragment_end, IsSame, Stands};
+
+    // A fragment that came in the packet of this number.
+    pub(crate) fn new(alloc: Global, number: u64, fragment: &Fragment<'_>) -> Result<Piece, Fault>
+        requires { fragment_end (value_of fragment.now) ≤ 65535 }
+        ensures { IfOk result (λ piece. piece_of piece ≡ piece_in number (value_of fragment.now)) }
+    {
+        match Vec::from_slice(alloc, fragment.payload) {
+            Ok(octets) => Ok(Piece {
+                number,
+                protocol: fragment.protocol,
+                offset: fragment.frag_offset,
+                more: fragment.more_frags,
+                octets,
+            }),
+            Err(_) => Err(Fault::Memory),
+        }
+    }
+
+    /// The number of the packet that it came in.
+    pub fn number(&self) -> u64
+        ensures { result ≡ (piece_of self.now).number }
+    {
+        self.number
+    }
+
+    /// The protocol of the datagram's payload, as this fragment names it.
+    pub fn protocol(&self) -> IpProtocol
+        ensures { result ≡ (piece_of self.now).protocol }
+    {
+        self.protocol
+    }
+
+    /// The offset of its bytes in the datagram's payload, in bytes.
+    pub fn frag_offset(&self) -> u16
+        ensures { result ≡ (piece_of self.now).offset }
+    {
+        self.offset
+    }
+
+    /// Whether more fragments follow.
+    pub fn more_frags(&self) -> bool
+        ensures { result ≡ (piece_of self.now).more }
+    {
+        self.more
+    }
+
+    /// Its bytes of the datagram's payload.
+    pub fn octets(&self) -> &[u8]
+        ensures { result.now ≡ (piece_of self.now).octets }
+    {
+        self.octets.as_slice()
+    }
+
+    // The place after its last byte in the datagram's payload.
+    pub(crate) fn end(&self) -> usize
+        ensures { result ≡ end_of (piece_of self.now) }
+    {
+        self.offset as usize + self.octets.len()
+    }
+
+    // How a fragment stands to it.
+    pub(crate) fn standing(&self, fragment: &Fragment<'_>) -> Standing
+        requires { fragment_end (value_of fragment.now) ≤ 65535 }
+        ensures { Stands (piece_of self.now) (value_of fragment.now) result }
+    {
+        let (start, end) = (self.offset as usize, self.end());
+        if self.is_same(fragment) {
+            return Standing::Same;
+        }
+        if start < fragment.end() && (fragment.frag_offset as usize) < end {
+            return Standing::Overlapping;
+        }
+        if (!self.more && end < fragment.end()) || (!fragment.more_frags && fragment.end() < end) {
+            return Standing::PastEnd;
+        }
+        Standing::Apart
+    }
+
+    // Whether a fragment is the same again.
+    fn is_same(&self, fragment: &Fragment<'_>) -> bool
+        ensures { IsTrue result ↔ IsSame (piece_of self.now) (value_of fragment.now) }
+    {
+        self.protocol == fragment.protocol
+            && self.offset == fragment.frag_offset
+            && self.more == fragment.more_frags
+            && self.octets.as_slice() == fragment.payload
+    }
+}

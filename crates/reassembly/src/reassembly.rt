@@ -1,0 +1,124 @@
+//! The datagrams that are kept until all of their fragments came.
+
+ghost use Rattle.std.specs.Prelude.{◌≡◌, ◌<◌, ◌++◌, [], ◌∷◌, ℕ, IfOk, IfSome, IsNone, OnErr, drop, length, map, suc};
+ghost use Rattle.std.specs.Prelude.{slice_index_or, take};
+ghost use Rattle.reassembly.specs.Answer.{answer_of};
+ghost use Rattle.reassembly.specs.Arrivals.{AnyOrder};
+ghost use Rattle.reassembly.specs.Fragment.{value_of, key_of, IsSound};
+ghost use Rattle.reassembly.specs.Partial.{partial_of};
+ghost use Rattle.reassembly.specs.Reassembly.{state_of, Adds, IsUnknown};
+
+use crate::answer::{Answer, Fault};
+use crate::fragment::Fragment;
+use crate::key::Key;
+use crate::partial::{Partial, Taken};
+use std::alloc::Global;
+
+/// The most datagrams of which fragments are kept.
+pub const MOST_DATAGRAMS: usize = 64;
+
+/// The datagrams of which some fragments came, in the order in which they began: at most `MOST_DATAGRAMS`, with at most
+/// `MOST_PIECES` fragments each, which have at most `MOST_LEN` bytes of their datagram together, and so less than 4 MiB
+/// in all.
+///
+/// No time is kept: a datagram is forgotten where it is whole, and where there is no room for another. A fragment that
+/// is captured twice is kept once. Where one contradicts another of its datagram, the whole datagram is discarded, and
+/// its key is kept in its place so that the other fragments of it are refused too.
+#[derive(Drop)]
+pub struct Reassembly {
+    alloc: Global,
+    datagrams: Vec<Partial>,
+}
+
+impl Reassembly {
+    /// No fragment came yet. Whatever the order in which the fragments of a datagram come to `add`, the last one is
+    /// answered by the same whole datagram.
+    pub fn new(alloc: Global) -> Reassembly
+        ensures state { state_of result ≡ [] }
+        ensures any_order { AnyOrder }
+    {
+        Reassembly {
+            alloc,
+            datagrams: Vec::new(alloc),
+        }
+    }
+
+    /// The datagrams of which some fragments came, but not yet all, and those that are discarded, in the order in which
+    /// they began.
+    pub fn datagrams(&self) -> &[Partial]
+        ensures { map partial_of result.now ≡ state_of self.now }
+    {
+        self.datagrams.as_slice()
+    }
+
+    /// Takes a fragment, which came in the packet of this number. Where there is no memory, nothing changes.
+    pub fn add(&mut self, number: u64, fragment: &Fragment<'_>) -> Result<Answer, Fault>
+        ensures adds { IfOk result (λ answer.
+            Adds (state_of self.old) number (value_of fragment.now) (answer_of answer) (state_of self.new)) }
+        ensures fault { OnErr result (state_of self.new ≡ state_of self.old) }
+    {
+        if let Some(refusal) = fragment.refusal() {
+            return Ok(Answer::Refused(refusal));
+        }
+        match find(self.datagrams.as_slice(), &fragment.key()) {
+            Some(place) => self.join(place, number, fragment),
+            None => self.begin(number, fragment),
+        }
+    }
+
+    // Begins a datagram by a fragment, and drops the one that began first where there are too many.
+    fn begin(&mut self, number: u64, fragment: &Fragment<'_>) -> Result<Answer, Fault>
+        requires sound { IsSound (value_of fragment.now) }
+        requires unknown { IsUnknown (key_of (value_of fragment.now)) (state_of self.old) }
+        ensures adds { IfOk result (λ answer.
+            Adds (state_of self.old) number (value_of fragment.now) (answer_of answer) (state_of self.new)) }
+        ensures fault { OnErr result (state_of self.new ≡ state_of self.old) }
+    {
+        let datagram = Partial::begin(self.alloc, number, fragment)?;
+        let count = self.datagrams.len();
+        if self.datagrams.push(datagram).is_err() {
+            return Err(Fault::Memory);
+        }
+        if count < MOST_DATAGRAMS {
+            return Ok(Answer::Incomplete(None));
+        }
+        Ok(Answer::Incomplete(Some(self.datagrams.remove(0))))
+    }
+
+    // Adds a fragment to the datagram at this place.
+    fn join(&mut self, place: usize, number: u64, fragment: &Fragment<'_>) -> Result<Answer, Fault>
+        requires sound { IsSound (value_of fragment.now) }
+        requires within { place < length self.old.datagrams.items }
+        requires unknown { IsUnknown (key_of (value_of fragment.now)) (map partial_of (take place self.old.datagrams.items)) }
+        requires key { (d : Partial) → (slice_index_or self.old.datagrams.items place d).key ≡ key_of (value_of fragment.now) }
+        ensures adds { IfOk result (λ answer.
+            Adds (state_of self.old) number (value_of fragment.now) (answer_of answer) (state_of self.new)) }
+        ensures fault { OnErr result (state_of self.new ≡ state_of self.old) }
+    {
+        let alloc = self.alloc;
+        match self.datagrams[place].take(alloc, number, fragment) {
+            Ok(Taken::Kept) => Ok(Answer::Incomplete(None)),
+            Ok(Taken::Refused(refusal)) => Ok(Answer::Refused(refusal)),
+            Ok(Taken::Whole(whole)) => {
+                self.datagrams.remove(place);
+                Ok(Answer::Whole(whole))
+            }
+            Err(fault) => Err(fault),
+        }
+    }
+}
+
+// The place of the first datagram with this key.
+fn find(datagrams: &[Partial], key: &Key) -> Option<usize>
+    ensures within { IfSome result (λ i. i < length datagrams.now) }
+    ensures before { IfSome result (λ i. IsUnknown key.now (map partial_of (take i datagrams.now))) }
+    ensures key { IfSome result (λ i. (d : Partial) → (slice_index_or datagrams.now i d).key ≡ key.now) }
+    ensures none { IsNone result → IsUnknown key.now (map partial_of datagrams.now) }
+{
+    for (i, datagram) in datagrams.iter().enumerate() {
+        if datagram.key().is(key) {
+            return Some(i);
+        }
+    }
+    None
+}
