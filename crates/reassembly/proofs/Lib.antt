@@ -1,3 +1,4 @@
+pub mod Bounds
 pub mod Headers
 pub mod Marks
 pub mod Orders

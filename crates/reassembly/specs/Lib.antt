@@ -1,5 +1,6 @@
 pub mod Answer
 pub mod Arrivals
+pub mod Bounds
 pub mod Fragment
 pub mod Partial
 pub mod Piece

@@ -3,6 +3,7 @@ pub use Rattle.frame_wire.specs.declared.datagram.Addresses.{Addresses}
 pub use Rattle.frame_wire.specs.declared.datagram.Head.{Head}
 pub use Rattle.wirebase.specs.declared.ip.IpProtocol.{IpProtocol}
 pub use Rattle.reassembly.specs.declared.answer.Answer.{Answer}
+pub use Rattle.reassembly.specs.declared.answer.Fault.{Fault}
 pub use Rattle.reassembly.specs.declared.answer.Refusal.{Refusal}
 pub use Rattle.reassembly.specs.declared.answer.Whole.{Whole}
 pub use Rattle.reassembly.specs.declared.fragment.Fragment.{Fragment}

@@ -4,6 +4,7 @@ ghost use Rattle.std.specs.Prelude.{◌≡◌, ◌<◌, ◌++◌, [], ◌∷◌,
 ghost use Rattle.std.specs.Prelude.{slice_index_or, take};
 ghost use Rattle.reassembly.specs.Answer.{answer_of};
 ghost use Rattle.reassembly.specs.Arrivals.{AnyOrder};
+ghost use Rattle.reassembly.specs.Bounds.{IsWithinBounds};
 ghost use Rattle.reassembly.specs.Fragment.{value_of, key_of, IsSound};
 ghost use Rattle.reassembly.specs.Partial.{partial_of};
 ghost use Rattle.reassembly.specs.Reassembly.{state_of, Adds, IsUnknown};
@@ -35,6 +36,7 @@ impl Reassembly {
     /// answered by the same whole datagram.
     pub fn new(alloc: Global) -> Reassembly
         ensures state { state_of result ≡ [] }
+        ensures bounds { IsWithinBounds (state_of result) }
         ensures any_order { AnyOrder }
     {
         Reassembly {
@@ -53,6 +55,16 @@ impl Reassembly {
 
     /// Takes a fragment, which came in the packet of this number. Where there is no memory, nothing changes.
     pub fn add(&mut self, number: u64, fragment: &Fragment<'_>) -> Result<Answer, Fault>
+        ensures adds { IfOk result (λ answer.
+            Adds (state_of self.old) number (value_of fragment.now) (answer_of answer) (state_of self.new)) }
+        ensures fault { OnErr result (state_of self.new ≡ state_of self.old) }
+        ensures bounds { IsWithinBounds (state_of self.old) → IsWithinBounds (state_of self.new) }
+    {
+        self.put(number, fragment)
+    }
+
+    // Takes a fragment.
+    fn put(&mut self, number: u64, fragment: &Fragment<'_>) -> Result<Answer, Fault>
         ensures adds { IfOk result (λ answer.
             Adds (state_of self.old) number (value_of fragment.now) (answer_of answer) (state_of self.new)) }
         ensures fault { OnErr result (state_of self.new ≡ state_of self.old) }

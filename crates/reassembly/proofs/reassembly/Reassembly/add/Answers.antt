@@ -1,7 +1,10 @@
--- A malformed fragment changes nothing.
-use Rattle.std.proofs.Common.{refl}
-use Rattle.reassembly.specs.Reassembly.{malformed}
+-- What is kept stays within bounds.
+use Rattle.reassembly.specs.Fragment.{value_of}
+use Rattle.reassembly.specs.Reassembly.{state_of}
+use Rattle.reassembly.proofs.Bounds.{stays_within}
 use Rattle.reassembly.proofs.reassembly.Reassembly.add.Goals as goal
 
-pub returns-in-Some-clause-adds : goal.returns-in-Some-clause-adds
-returns-in-Some-clause-adds c = malformed c.in-Some.refusal c.in-Some.ensures.malformed refl refl
+pub returns-clause-bounds : goal.returns-clause-bounds
+returns-clause-bounds c =
+    stays_within (state_of c.args.self.now) (state_of c.put.new.self) c.args.number (value_of c.args.fragment.now)
+    c.put.result c.put.ensures.adds c.put.ensures.fault
