@@ -44,16 +44,17 @@ impl Piece {
         requires { fragment_end (value_of fragment.now) ≤ 65535 }
         ensures { IfOk result (λ piece. piece_of piece ≡ piece_in number (value_of fragment.now)) }
     {
-        match Vec::from_slice(alloc, fragment.payload) {
-            Ok(octets) => Ok(Piece {
-                number,
-                protocol: fragment.protocol,
-                offset: fragment.frag_offset,
-                more: fragment.more_frags,
-                octets,
-            }),
-            Err(_) => Err(Fault::Memory),
+        let mut octets = Vec::new(alloc);
+        if octets.extend_from_slice(fragment.payload).is_err() {
+            return Err(Fault::Memory);
         }
+        Ok(Piece {
+            number,
+            protocol: fragment.protocol,
+            offset: fragment.frag_offset,
+            more: fragment.more_frags,
+            octets,
+        })
     }
 
     /// The number of the packet that it came in.

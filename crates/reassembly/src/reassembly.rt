@@ -27,7 +27,6 @@ pub const MOST_DATAGRAMS: usize = 64;
 /// its key is kept in its place so that the other fragments of it are refused too.
 #[derive(Drop)]
 pub struct Reassembly {
-    alloc: Global,
     datagrams: Vec<Partial>,
 }
 
@@ -40,7 +39,6 @@ impl Reassembly {
         ensures any_order { AnyOrder }
     {
         Reassembly {
-            alloc,
             datagrams: Vec::new(alloc),
         }
     }
@@ -54,17 +52,22 @@ impl Reassembly {
     }
 
     /// Takes a fragment, which came in the packet of this number. Where there is no memory, nothing changes.
-    pub fn add(&mut self, number: u64, fragment: &Fragment<'_>) -> Result<Answer, Fault>
+    pub fn add(
+        &mut self,
+        alloc: Global,
+        number: u64,
+        fragment: &Fragment<'_>,
+    ) -> Result<Answer, Fault>
         ensures adds { IfOk result (λ answer.
             Adds (state_of self.old) number (value_of fragment.now) (answer_of answer) (state_of self.new)) }
         ensures fault { OnErr result (state_of self.new ≡ state_of self.old) }
         ensures bounds { IsWithinBounds (state_of self.old) → IsWithinBounds (state_of self.new) }
     {
-        self.put(number, fragment)
+        self.put(alloc, number, fragment)
     }
 
     // Takes a fragment.
-    fn put(&mut self, number: u64, fragment: &Fragment<'_>) -> Result<Answer, Fault>
+    fn put(&mut self, alloc: Global, number: u64, fragment: &Fragment<'_>) -> Result<Answer, Fault>
         ensures adds { IfOk result (λ answer.
             Adds (state_of self.old) number (value_of fragment.now) (answer_of answer) (state_of self.new)) }
         ensures fault { OnErr result (state_of self.new ≡ state_of self.old) }
@@ -73,20 +76,25 @@ impl Reassembly {
             return Ok(Answer::Refused(refusal));
         }
         match find(self.datagrams.as_slice(), &fragment.key()) {
-            Some(place) => self.join(place, number, fragment),
-            None => self.begin(number, fragment),
+            Some(place) => self.join(alloc, place, number, fragment),
+            None => self.begin(alloc, number, fragment),
         }
     }
 
     // Begins a datagram by a fragment, and drops the one that began first where there are too many.
-    fn begin(&mut self, number: u64, fragment: &Fragment<'_>) -> Result<Answer, Fault>
+    fn begin(
+        &mut self,
+        alloc: Global,
+        number: u64,
+        fragment: &Fragment<'_>,
+    ) -> Result<Answer, Fault>
         requires sound { IsSound (value_of fragment.now) }
         requires unknown { IsUnknown (key_of (value_of fragment.now)) (state_of self.old) }
         ensures adds { IfOk result (λ answer.
             Adds (state_of self.old) number (value_of fragment.now) (answer_of answer) (state_of self.new)) }
         ensures fault { OnErr result (state_of self.new ≡ state_of self.old) }
     {
-        let datagram = Partial::begin(self.alloc, number, fragment)?;
+        let datagram = Partial::begin(alloc, number, fragment)?;
         let count = self.datagrams.len();
         if self.datagrams.push(datagram).is_err() {
             return Err(Fault::Memory);
@@ -98,7 +106,13 @@ impl Reassembly {
     }
 
     // Adds a fragment to the datagram at this place.
-    fn join(&mut self, place: usize, number: u64, fragment: &Fragment<'_>) -> Result<Answer, Fault>
+    fn join(
+        &mut self,
+        alloc: Global,
+        place: usize,
+        number: u64,
+        fragment: &Fragment<'_>,
+    ) -> Result<Answer, Fault>
         requires sound { IsSound (value_of fragment.now) }
         requires within { place < length self.old.datagrams.items }
         requires unknown { IsUnknown (key_of (value_of fragment.now)) (map partial_of (take place self.old.datagrams.items)) }
@@ -107,7 +121,6 @@ impl Reassembly {
             Adds (state_of self.old) number (value_of fragment.now) (answer_of answer) (state_of self.new)) }
         ensures fault { OnErr result (state_of self.new ≡ state_of self.old) }
     {
-        let alloc = self.alloc;
         match self.datagrams[place].take(alloc, number, fragment) {
             Ok(Taken::Kept) => Ok(Answer::Incomplete(None)),
             Ok(Taken::Refused(refusal)) => Ok(Answer::Refused(refusal)),
