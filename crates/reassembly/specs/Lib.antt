@@ -1,4 +1,5 @@
 pub mod Answer
+pub mod AnswerDisplay
 pub mod Arrivals
 pub mod Bounds
 pub mod Fragment

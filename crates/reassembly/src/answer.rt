@@ -4,6 +4,8 @@ use crate::partial::Partial;
 use frame_wire::Addresses;
 use wirebase::IpProtocol;
 
+mod display;
+
 /// What becomes of a fragment.
 #[derive(Debug, Drop)]
 pub enum Answer {

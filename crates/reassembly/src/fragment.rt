@@ -13,6 +13,22 @@ use frame_wire::{Addresses, Datagram, Head, Refusal as HeaderRefusal};
 use wirebase::{IpProtocol, Ipv4Packet, Ipv6Packet, Octets};
 
 /// A fragment of a datagram, which borrows its payload from the octets of the packet.
+///
+/// ```
+/// use control_wire::IpProtocol;
+/// use reassembly::Fragment;
+///
+/// // The last fragment of a UDP datagram over IPv4: eight bytes at offset 1,480.
+/// let octets = [
+///     0x45, 0, 0, 28, 0x12, 0x34, 0x00, 0xb9, 64, 17, 0, 0, 192, 0, 2, 1, 192, 0, 2, 2, //
+///     1, 2, 3, 4, 5, 6, 7, 8,
+/// ];
+/// let fragment = Fragment::parse_v4(&octets).unwrap();
+/// assert_eq!(fragment.protocol, IpProtocol::Udp);
+/// assert_eq!((fragment.ident, fragment.frag_offset), (0x1234, 1_480));
+/// assert!(!fragment.more_frags);
+/// assert_eq!(fragment.payload, [1, 2, 3, 4, 5, 6, 7, 8]);
+/// ```
 #[derive(Debug, PartialEq, Eq, Clone, Copy)]
 pub struct Fragment<'a> {
     /// The source and the destination; in IPv6 the last destination, as routing headers say.

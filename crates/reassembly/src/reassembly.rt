@@ -18,13 +18,15 @@ use std::alloc::Global;
 /// The most datagrams of which fragments are kept.
 pub const MOST_DATAGRAMS: usize = 64;
 
-/// The datagrams of which some fragments came, in the order in which they began: at most `MOST_DATAGRAMS`, with at most
-/// `MOST_PIECES` fragments each, which have at most `MOST_LEN` bytes of their datagram together, and so less than 4 MiB
-/// in all.
+/// The datagrams of which some fragments came, in the order in which they began: at most `MOST_DATAGRAMS`, of at most
+/// `MOST_PIECES` fragments each, whose bytes are those of their datagram, at most `MOST_LEN`. So less than 4 MiB of
+/// fragments are kept, and the work of one fragment is linear in its length and the number of those of its datagram; the
+/// last one takes the length of the whole datagram.
 ///
-/// No time is kept: a datagram is forgotten where it is whole, and where there is no room for another. A fragment that
-/// is captured twice is kept once. Where one contradicts another of its datagram, the whole datagram is discarded, and
-/// its key is kept in its place so that the other fragments of it are refused too.
+/// No time is kept. A datagram is forgotten where it is whole, or where it began first and there is no room for another
+/// one. A fragment that comes again, as where a packet is captured twice, is kept once, with the number of the first
+/// packet. Where a fragment contradicts another of its datagram, or is one too many, the whole datagram is discarded
+/// (RFC 5722 section 3), and its key stays in its place: other fragments of it are refused for as long.
 #[derive(Drop)]
 pub struct Reassembly {
     datagrams: Vec<Partial>,
@@ -51,7 +53,8 @@ impl Reassembly {
         self.datagrams.as_slice()
     }
 
-    /// Takes a fragment, which came in the packet of this number. Where there is no memory, nothing changes.
+    /// Takes a fragment, which came in the packet of this number; `Answer` says what becomes of it. Where there is no
+    /// memory, nothing changes.
     pub fn add(
         &mut self,
         alloc: Global,

@@ -1,9 +1,10 @@
 mod captured;
 mod limits;
 
-use crate::testing::same_of;
+use crate::testing::{prints, same_of};
 use frame_wire::Addresses;
 use reassembly::{Answer, Fault, Fragment, Reassembly, Refusal};
+use std::alloc::Global;
 use std::process::Abort;
 use wirebase::{IpProtocol, Ipv4Address, Ipv6Address};
 
@@ -61,9 +62,14 @@ const TEXT: &[u8] = b"Fragments may come in any order.";
 const CUTS: &[(u16, usize, bool)] = &[(0, 8, true), (8, 24, true), (24, 32, false)];
 
 // Adds a fragment, and where memory is refused, once more: the refusal changed nothing.
-fn add(reassembly: &mut Reassembly, number: u64, fragment: &Fragment<'_>) -> Result<Answer, Fault> {
-    match reassembly.add(number, fragment) {
-        Err(Fault::Memory) => reassembly.add(number, fragment),
+fn add(
+    reassembly: &mut Reassembly,
+    alloc: Global,
+    number: u64,
+    fragment: &Fragment<'_>,
+) -> Result<Answer, Fault> {
+    match reassembly.add(alloc, number, fragment) {
+        Err(Fault::Memory) => reassembly.add(alloc, number, fragment),
         answer => answer,
     }
 }
@@ -83,7 +89,12 @@ fn fragments_in_any_order(rt: HostRuntime) {
         for (turn, &cut) in order.iter().enumerate() {
             let (start, end, more) = CUTS[cut.min(2)];
             let part = TEXT.get(start as usize..end).unwrap_or(&[]);
-            let answer = add(&mut reassembly, cut as u64, &fragment(7, start, more, part));
+            let answer = add(
+                &mut reassembly,
+                rt.alloc(),
+                cut as u64,
+                &fragment(7, start, more, part),
+            );
             match answer {
                 Ok(Answer::Whole(whole)) => {
                     same_of(&rt, order, turn, 2);
@@ -209,29 +220,23 @@ fn part(start: u16, len: usize) -> &'static [u8] {
     TEXT.get(start..start.saturating_add(len)).unwrap_or(&[])
 }
 
-fn check_rows(rt: &impl Abort, reassembly: &mut Reassembly, more_frags: bool, rows: &[Row]) {
+fn check_rows(rt: &impl Abort, alloc: Global, more_frags: bool, rows: &[Row]) {
     for (i, &(offset, len, more, want, then)) in rows.iter().enumerate() {
-        let ident = i as u32;
-        let first = fragment(ident, 8, more_frags, part(8, 16));
-        same_of(
-            rt,
-            i,
-            told(&add(reassembly, 1, &first)),
-            Outcome::Incomplete,
-        );
-        let second = fragment(ident, offset, more, part(offset, len));
-        same_of(rt, i, told(&add(reassembly, 2, &second)), want);
-        let third = fragment(ident, 0, true, part(0, 8));
-        same_of(rt, i, told(&add(reassembly, 3, &third)), then);
+        let mut reassembly = Reassembly::new(alloc);
+        let first = fragment(7, 8, more_frags, part(8, 16));
+        let answer = add(&mut reassembly, alloc, 1, &first);
+        same_of(rt, i, told(&answer), Outcome::Incomplete);
+        let second = fragment(7, offset, more, part(offset, len));
+        same_of(rt, i, told(&add(&mut reassembly, alloc, 2, &second)), want);
+        let third = fragment(7, 0, true, part(0, 8));
+        same_of(rt, i, told(&add(&mut reassembly, alloc, 3, &third)), then);
     }
 }
 
 #[test]
 fn fragments_after_others(rt: HostRuntime) {
-    let mut reassembly = Reassembly::new(rt.alloc());
-    check_rows(&rt, &mut reassembly, true, AFTER_A_MIDDLE);
-    let mut reassembly = Reassembly::new(rt.alloc());
-    check_rows(&rt, &mut reassembly, false, AFTER_AN_END);
+    check_rows(&rt, rt.alloc(), true, AFTER_A_MIDDLE);
+    check_rows(&rt, rt.alloc(), false, AFTER_AN_END);
 }
 
 // Other bytes at the same place, and the same bytes that another protocol names, are no repetition.
@@ -258,17 +263,22 @@ fn fragments_at_the_same_place(rt: HostRuntime) {
         same_of(
             &rt,
             (),
-            told(&add(&mut reassembly, 1, &first)),
+            told(&add(&mut reassembly, rt.alloc(), 1, &first)),
             Outcome::Incomplete,
         );
         same_of(
             &rt,
             (),
-            told(&add(&mut reassembly, 2, &first)),
+            told(&add(&mut reassembly, rt.alloc(), 2, &first)),
             Outcome::Incomplete,
         );
         let refused = Outcome::Refused(Refusal::Overlap);
-        same_of(&rt, (), told(&add(&mut reassembly, 3, other)), refused);
+        same_of(
+            &rt,
+            (),
+            told(&add(&mut reassembly, rt.alloc(), 3, other)),
+            refused,
+        );
     }
 }
 
@@ -293,21 +303,21 @@ fn fragments_of_other_datagrams(rt: HostRuntime) {
     same_of(
         &rt,
         (),
-        told(&add(&mut reassembly, 1, &first)),
+        told(&add(&mut reassembly, rt.alloc(), 1, &first)),
         Outcome::Incomplete,
     );
     for other in &others {
         same_of(
             &rt,
             (),
-            told(&add(&mut reassembly, 2, other)),
+            told(&add(&mut reassembly, rt.alloc(), 2, other)),
             Outcome::Incomplete,
         );
     }
     same_of(
         &rt,
         (),
-        told(&add(&mut reassembly, 3, &last)),
+        told(&add(&mut reassembly, rt.alloc(), 3, &last)),
         Outcome::Whole(32),
     );
     same_of(&rt, (), reassembly.datagrams().len(), 3);
@@ -316,11 +326,32 @@ fn fragments_of_other_datagrams(rt: HostRuntime) {
         protocol: IpProtocol::Ipv6Opts,
         ..first
     };
-    match add(&mut reassembly, 4, &first) {
+    match add(&mut reassembly, rt.alloc(), 4, &first) {
         Ok(Answer::Whole(whole)) => {
             same_of(&rt, (), whole.protocol, IpProtocol::Ipv6Opts);
             same_of(&rt, (), whole.numbers.as_slice(), &[4, 2]);
         }
         answer => same_of(&rt, (), told(&answer), Outcome::Whole(32)),
     }
+}
+
+#[test]
+fn refusals_and_faults_print(rt: HostRuntime) {
+    const ROWS: &[(Refusal, &str)] = &[
+        (Refusal::Empty, "no payload"),
+        (Refusal::Unfragmented, "a whole datagram"),
+        (
+            Refusal::Length,
+            "a length that is no multiple of 8, and more fragments",
+        ),
+        (Refusal::TooLong, "bytes past the 65535 of a datagram"),
+        (Refusal::Discarded, "a datagram that was discarded"),
+        (Refusal::Overlap, "bytes that another fragment has"),
+        (Refusal::End, "bytes past the end of the datagram"),
+        (Refusal::TooMany, "more fragments than are kept"),
+    ];
+    for (refusal, text) in ROWS {
+        prints(&rt, rt.alloc(), refusal, text);
+    }
+    prints(&rt, rt.alloc(), &Fault::Memory, "no memory");
 }

@@ -2,7 +2,8 @@
 // used, and through a call of these in a sixth of the time. They take the test's runtime, so they can't be in one
 // library for all tests: the gate refuses a public function that may end the process.
 
-use std::fmt::Debug;
+use std::alloc::Global;
+use std::fmt::{Debug, Display};
 use std::process::Abort;
 
 // Ends the test where the two differ, and says what they are of.
@@ -13,4 +14,10 @@ pub(crate) fn same_of<T: PartialEq + Debug + Drop>(
     right: T,
 ) {
     assert!(rt; left == right, "{of:?}: {left:?} is not {right:?}");
+}
+
+// Ends the test where the value prints another text, or where there is no memory for it.
+pub(crate) fn prints(rt: &impl Abort, alloc: Global, value: &impl Display, text: &str) {
+    let printed = value.to_string(alloc).ok();
+    same_of(rt, text, printed.as_deref(), Some(text));
 }

@@ -118,7 +118,7 @@ fn check(rt: &impl Abort, alloc: Global, sent: &Sent) {
             let Some(part) = parse(packets[i].as_slice()) else {
                 return same_of(rt, i, false, true);
             };
-            match add(&mut reassembly, i as u64 + 1, &part) {
+            match add(&mut reassembly, alloc, i as u64 + 1, &part) {
                 Ok(Answer::Whole(whole)) => {
                     same_of(rt, first, i, 1 - first);
                     same_of(rt, first, whole.protocol, sent.protocol);

@@ -14,7 +14,7 @@ fn a_datagram_of_65535_bytes(rt: HostRuntime) {
         same_of(
             &rt,
             i,
-            told(&add(&mut reassembly, 1, &part)),
+            told(&add(&mut reassembly, rt.alloc(), 1, &part)),
             Outcome::Incomplete,
         );
     }
@@ -22,14 +22,14 @@ fn a_datagram_of_65535_bytes(rt: HostRuntime) {
     same_of(
         &rt,
         (),
-        told(&add(&mut reassembly, 2, &more)),
+        told(&add(&mut reassembly, rt.alloc(), 2, &more)),
         Outcome::Refused(Refusal::TooLong),
     );
     let most = fragment(1, 57_344, false, &BYTES[1..]);
     same_of(
         &rt,
         (),
-        told(&add(&mut reassembly, 3, &most)),
+        told(&add(&mut reassembly, rt.alloc(), 3, &most)),
         Outcome::Whole(65_535),
     );
 }
@@ -43,7 +43,7 @@ fn a_datagram_of_256_fragments_and_one_more(rt: HostRuntime) {
             same_of(
                 &rt,
                 i,
-                told(&add(&mut reassembly, 1, &part)),
+                told(&add(&mut reassembly, rt.alloc(), 1, &part)),
                 Outcome::Incomplete,
             );
         }
@@ -52,20 +52,20 @@ fn a_datagram_of_256_fragments_and_one_more(rt: HostRuntime) {
     same_of(
         &rt,
         (),
-        told(&add(&mut reassembly, 2, &again)),
+        told(&add(&mut reassembly, rt.alloc(), 2, &again)),
         Outcome::Incomplete,
     );
     let more = fragment(1, 0, true, &BYTES[..8]);
     same_of(
         &rt,
         (),
-        told(&add(&mut reassembly, 2, &more)),
+        told(&add(&mut reassembly, rt.alloc(), 2, &more)),
         Outcome::Refused(Refusal::TooMany),
     );
     same_of(
         &rt,
         (),
-        told(&add(&mut reassembly, 3, &again)),
+        told(&add(&mut reassembly, rt.alloc(), 3, &again)),
         Outcome::Refused(Refusal::Discarded),
     );
     same_of(&rt, (), reassembly.datagrams().len(), 2);
@@ -80,7 +80,7 @@ fn more_datagrams_than_are_kept(rt: HostRuntime) {
         same_of(
             &rt,
             ident,
-            told(&add(&mut reassembly, ident as u64, &part)),
+            told(&add(&mut reassembly, rt.alloc(), ident as u64, &part)),
             Outcome::Incomplete,
         );
     }
@@ -88,14 +88,14 @@ fn more_datagrams_than_are_kept(rt: HostRuntime) {
     same_of(
         &rt,
         (),
-        told(&add(&mut reassembly, 70, &longer)),
+        told(&add(&mut reassembly, rt.alloc(), 70, &longer)),
         Outcome::Refused(Refusal::Overlap),
     );
     let first = fragment(0, 0, true, &BYTES[..8]);
     same_of(
         &rt,
         (),
-        told(&add(&mut reassembly, 71, &first)),
+        told(&add(&mut reassembly, rt.alloc(), 71, &first)),
         Outcome::Incomplete,
     );
     for (ident, number) in [(64, 71), (65, 0), (66, 2), (67, 3)] {
@@ -103,7 +103,7 @@ fn more_datagrams_than_are_kept(rt: HostRuntime) {
         same_of(
             &rt,
             ident,
-            told(&add(&mut reassembly, 80, &part)),
+            told(&add(&mut reassembly, rt.alloc(), 80, &part)),
             Outcome::Drops(number),
         );
     }
@@ -111,7 +111,7 @@ fn more_datagrams_than_are_kept(rt: HostRuntime) {
     same_of(
         &rt,
         (),
-        told(&add(&mut reassembly, 90, &longer)),
+        told(&add(&mut reassembly, rt.alloc(), 90, &longer)),
         Outcome::Drops(4),
     );
 }

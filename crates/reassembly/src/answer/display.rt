@@ -1,0 +1,36 @@
+//! What refusals and faults print.
+
+ghost use Rattle.std.specs.Prelude.{Some};
+ghost use Rattle.reassembly.specs.AnswerDisplay.{refusal_display, fault_display};
+
+use super::{Fault, Refusal};
+use std::fmt;
+
+/// The reason, as a phrase.
+impl fmt::Display for Refusal {
+    ghost output = { λ refusal. Some (refusal_display refusal) };
+
+    fn fmt<W: fmt::Write>(&self, f: &mut fmt::Formatter<W>) -> fmt::Result {
+        match self {
+            Refusal::Empty => write!(f, "no payload"),
+            Refusal::Unfragmented => write!(f, "a whole datagram"),
+            Refusal::Length => write!(f, "a length that is no multiple of 8, and more fragments"),
+            Refusal::TooLong => write!(f, "bytes past the 65535 of a datagram"),
+            Refusal::Discarded => write!(f, "a datagram that was discarded"),
+            Refusal::Overlap => write!(f, "bytes that another fragment has"),
+            Refusal::End => write!(f, "bytes past the end of the datagram"),
+            Refusal::TooMany => write!(f, "more fragments than are kept"),
+        }
+    }
+}
+
+/// The fault, as a phrase.
+impl fmt::Display for Fault {
+    ghost output = { λ fault. Some (fault_display fault) };
+
+    fn fmt<W: fmt::Write>(&self, f: &mut fmt::Formatter<W>) -> fmt::Result {
+        match self {
+            Fault::Memory => write!(f, "no memory"),
+        }
+    }
+}
