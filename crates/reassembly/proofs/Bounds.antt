@@ -176,7 +176,7 @@ adds_within old new number f given b (joins before behind d changed taken s o u 
 
 -- with an answer or without memory
 pub stays_within : (old new : List PartialValue) (number : ℕ) (f : FragmentValue) (result : Result Answer Fault)
-    → IfOk result (λ answer. Adds old number f (answer_of answer) new) → OnErr result (new ≡ old)
+    → IfOk result (λ answer. Adds old number f (answer_of answer) new) → OnErr result (IsSound f × (new ≡ old))
     → IsWithinBounds old → IsWithinBounds new
 stays_within old new number f (Ok answer) adds fault b = adds_within old new number f (answer_of answer) b adds
-stays_within old new number f (Err e) adds fault b = subst IsWithinBounds (sym fault) b
+stays_within old new number f (Err e) adds fault b = subst IsWithinBounds (sym fault.1) b

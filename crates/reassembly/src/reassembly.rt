@@ -54,7 +54,7 @@ impl Reassembly {
     }
 
     /// Takes a fragment, which came in the packet of this number; `Answer` says what becomes of it. Where there is no
-    /// memory, nothing changes.
+    /// memory for it, nothing changes; to refuse it for itself takes none.
     pub fn add(
         &mut self,
         alloc: Global,
@@ -63,7 +63,7 @@ impl Reassembly {
     ) -> Result<Answer, Fault>
         ensures adds { IfOk result (λ answer.
             Adds (state_of self.old) number (value_of fragment.now) (answer_of answer) (state_of self.new)) }
-        ensures fault { OnErr result (state_of self.new ≡ state_of self.old) }
+        ensures fault { OnErr result (IsSound (value_of fragment.now) × (state_of self.new ≡ state_of self.old)) }
         ensures bounds { IsWithinBounds (state_of self.old) → IsWithinBounds (state_of self.new) }
     {
         self.put(alloc, number, fragment)
@@ -73,7 +73,7 @@ impl Reassembly {
     fn put(&mut self, alloc: Global, number: u64, fragment: &Fragment<'_>) -> Result<Answer, Fault>
         ensures adds { IfOk result (λ answer.
             Adds (state_of self.old) number (value_of fragment.now) (answer_of answer) (state_of self.new)) }
-        ensures fault { OnErr result (state_of self.new ≡ state_of self.old) }
+        ensures fault { OnErr result (IsSound (value_of fragment.now) × (state_of self.new ≡ state_of self.old)) }
     {
         if let Some(refusal) = fragment.refusal() {
             return Ok(Answer::Refused(refusal));
@@ -95,7 +95,7 @@ impl Reassembly {
         requires unknown { IsUnknown (key_of (value_of fragment.now)) (state_of self.old) }
         ensures adds { IfOk result (λ answer.
             Adds (state_of self.old) number (value_of fragment.now) (answer_of answer) (state_of self.new)) }
-        ensures fault { OnErr result (state_of self.new ≡ state_of self.old) }
+        ensures fault { OnErr result (IsSound (value_of fragment.now) × (state_of self.new ≡ state_of self.old)) }
     {
         let datagram = Partial::begin(alloc, number, fragment)?;
         let count = self.datagrams.len();
@@ -122,7 +122,7 @@ impl Reassembly {
         requires key { (d : Partial) → (slice_index_or self.old.datagrams.items place d).key ≡ key_of (value_of fragment.now) }
         ensures adds { IfOk result (λ answer.
             Adds (state_of self.old) number (value_of fragment.now) (answer_of answer) (state_of self.new)) }
-        ensures fault { OnErr result (state_of self.new ≡ state_of self.old) }
+        ensures fault { OnErr result (IsSound (value_of fragment.now) × (state_of self.new ≡ state_of self.old)) }
     {
         match self.datagrams[place].take(alloc, number, fragment) {
             Ok(Taken::Kept) => Ok(Answer::Incomplete(None)),

@@ -91,6 +91,9 @@ fn more_datagrams_than_are_kept(rt: HostRuntime) {
         told(&add(&mut reassembly, rt.alloc(), 70, &longer)),
         Outcome::Refused(Refusal::Overlap),
     );
+    for (i, datagram) in reassembly.datagrams().iter().enumerate() {
+        same_of(&rt, i, datagram.is_discarded(), i == 1);
+    }
     let first = fragment(0, 0, true, &BYTES[..8]);
     same_of(
         &rt,
@@ -107,6 +110,8 @@ fn more_datagrams_than_are_kept(rt: HostRuntime) {
             Outcome::Drops(number),
         );
     }
+    let first = reassembly.datagrams().first();
+    same_of(&rt, (), first.map(|datagram| datagram.key().ident), Some(4));
     same_of(&rt, (), reassembly.datagrams().len(), 64);
     same_of(
         &rt,

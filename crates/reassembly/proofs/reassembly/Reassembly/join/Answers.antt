@@ -8,9 +8,11 @@ use Rattle.reassembly.proofs.Places.{at_its_place, none_at_place, other_at_place
 use Rattle.reassembly.proofs.reassembly.Reassembly.join.Goals as goal
 
 pub returns-in-Err-clause-fault : goal.returns-in-Err-clause-fault
-returns-in-Err-clause-fault c =
-    same_at_place c.args.self.now.datagrams.items c.args.place c.index_mut.result.now c.take.new.self c.requires.within
-    c.index_mut.ensures.value c.in-Err.ensures.fault
+returns-in-Err-clause-fault c = (
+  c.requires.sound,
+  same_at_place c.args.self.now.datagrams.items c.args.place c.index_mut.result.now c.take.new.self c.requires.within
+      c.index_mut.ensures.value c.in-Err.ensures.fault,
+)
 
 pub returns-in-Ok-Kept-clause-adds : goal.returns-in-Ok-Kept-clause-adds
 returns-in-Ok-Kept-clause-adds c =
