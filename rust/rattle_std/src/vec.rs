@@ -18,6 +18,12 @@ impl<T> Vec<T> {
         self.0.push(value);
         Ok(())
     }
+
+    /// Puts an item at a place, before those from there on.
+    pub fn insert(&mut self, place: usize, value: T) -> Result<(), AllocError> {
+        self.0.insert(place, value);
+        Ok(())
+    }
 }
 
 impl<T> Default for Vec<T> {

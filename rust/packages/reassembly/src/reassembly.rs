@@ -1,0 +1,99 @@
+// Made from crates/reassembly/src/reassembly.rt by rust/erase.
+//! The datagrams that are kept until all of their fragments came.
+
+use crate::answer::{Answer, Fault};
+use crate::fragment::Fragment;
+use crate::key::Key;
+use crate::partial::{Partial, Taken};
+#[allow(unused_imports)]
+use rattle_std::prelude::*;
+
+/// The most datagrams of which fragments are kept.
+pub const MOST_DATAGRAMS: usize = 64;
+
+/// The datagrams of which some fragments came, in the order in which they began: at most `MOST_DATAGRAMS`, of at most
+/// `MOST_PIECES` fragments each, whose bytes are those of their datagram, at most `MOST_LEN`. So less than 4 MiB of
+/// fragments are kept, and the work of one fragment is linear in its length and the number of those of its datagram; the
+/// last one takes the length of the whole datagram.
+///
+/// No time is kept. A datagram is forgotten where it is whole, or where it began first and there is no room for another
+/// one. A fragment that comes again, as where a packet is captured twice, is kept once, with the number of the first
+/// packet. Where a fragment contradicts another of its datagram, or is one too many, the whole datagram is discarded
+/// (RFC 5722 section 3), and its key stays in its place: other fragments of it are refused for as long.
+pub struct Reassembly {
+    datagrams: Vec<Partial>,
+}
+
+impl Reassembly {
+    /// No fragment came yet. Whatever the order in which the fragments of a datagram come to `add`, the last one is
+    /// answered by the same whole datagram.
+    pub fn new() -> Reassembly {
+        Reassembly {
+            datagrams: Vec::new(),
+        }
+    }
+
+    /// The datagrams of which some fragments came, but not yet all, and those that are discarded, in the order in which
+    /// they began.
+    pub fn datagrams(&self) -> &[Partial] {
+        self.datagrams.as_slice()
+    }
+
+    /// Takes a fragment, which came in the packet of this number; `Answer` says what becomes of it. Where there is no
+    /// memory for it, nothing changes; to refuse it for itself takes none.
+    pub fn add(&mut self, number: u64, fragment: &Fragment<'_>) -> Result<Answer, Fault> {
+        self.put(number, fragment)
+    }
+
+    // Takes a fragment.
+    fn put(&mut self, number: u64, fragment: &Fragment<'_>) -> Result<Answer, Fault> {
+        if let Some(refusal) = fragment.refusal() {
+            return Ok(Answer::Refused(refusal));
+        }
+        match find(self.datagrams.as_slice(), &fragment.key()) {
+            Some(place) => self.join(place, number, fragment),
+            None => self.begin(number, fragment),
+        }
+    }
+
+    // Begins a datagram by a fragment, and drops the one that began first where there are too many.
+    fn begin(&mut self, number: u64, fragment: &Fragment<'_>) -> Result<Answer, Fault> {
+        let datagram = Partial::begin(number, fragment)?;
+        let count = self.datagrams.len();
+        if self.datagrams.push(datagram).is_err() {
+            return Err(Fault::Memory);
+        }
+        if count < MOST_DATAGRAMS {
+            return Ok(Answer::Incomplete(None));
+        }
+        Ok(Answer::Incomplete(Some(self.datagrams.remove(0))))
+    }
+
+    // Adds a fragment to the datagram at this place.
+    fn join(
+        &mut self,
+        place: usize,
+        number: u64,
+        fragment: &Fragment<'_>,
+    ) -> Result<Answer, Fault> {
+        match self.datagrams[place].take(number, fragment) {
+            Ok(Taken::Kept) => Ok(Answer::Incomplete(None)),
+            Ok(Taken::Refused(refusal)) => Ok(Answer::Refused(refusal)),
+            Ok(Taken::Whole(whole)) => {
+                self.datagrams.remove(place);
+                Ok(Answer::Whole(whole))
+            }
+            Err(fault) => Err(fault),
+        }
+    }
+}
+
+// The place of the first datagram with this key.
+fn find(datagrams: &[Partial], key: &Key) -> Option<usize> {
+    for (i, datagram) in datagrams.iter().enumerate() {
+        if datagram.key().is(key) {
+            return Some(i);
+        }
+    }
+    None
+}
