@@ -12,7 +12,7 @@ ghost use Rattle.packet_fields.specs.declared.form.Form.TheVariants.{Json};
 
 use crate::field::show_member_key;
 use crate::form::Form;
-use crate::value::{Value, put_string};
+use crate::value::{Text, Value, put_string, put_text};
 use std::io;
 use std::io::Write;
 
@@ -40,20 +40,20 @@ pub fn close_list<W: Write>(output: &mut W, form: Form) -> io::Result<()>
 }
 
 /// Prints what an entry begins with: what it is.
-pub fn open_entry<W: Write>(
+pub fn open_entry<L: Text, W: Write>(
     output: &mut W,
     form: Form,
     is_first: bool,
     label_key: &str,
-    label: &str,
+    label: L,
 ) -> io::Result<()>
     ensures { OnOk result (Gains (W.contents output.old) (W.contents output.new)
-        (entry_before form is_first label_key.now label.now)) }
+        (entry_before form is_first label_key.now (L.text_of label))) }
 {
     match form {
         Form::Lines => {
             output.write_all(b"  ")?;
-            output.write_all(label.as_bytes())?;
+            put_text(output, form, label)?;
             output.write_all(b"=")
         }
         Form::Json => {
