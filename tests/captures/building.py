@@ -145,6 +145,28 @@ def cooked2(payload, ethertype=0x0800):
     return struct.pack(">HHIHBB", ethertype, 0, 2, 1, 0, 6) + MAC_A + b"\0\0" + payload
 
 
+def c_hdlc(payload, ethertype=0x0800):
+    return struct.pack(">BBH", 0x0F, 0, ethertype) + payload
+
+
+def ipoib(payload, ethertype=0x0800):
+    return b"\0" * 40 + struct.pack(">HH", ethertype, 0) + payload
+
+
+def ipnet(payload, family=2):
+    return struct.pack(">BBHIIIII", 1, family, 0, len(payload), 2, 0, 0, 0) + payload
+
+
+def attribute(kind, value, order="<", length=None):
+    """An attribute of NFLOG, whose length counts its four octets in front."""
+    head = struct.pack(order + "HH", 4 + len(value) if length is None else length, kind)
+    return head + value + b"\0" * (-len(value) % 4)
+
+
+def nflog(*attributes, family=2, version=0):
+    return struct.pack(">BBH", family, version, 5) + b"".join(attributes)
+
+
 def session(payload, protocol=0x0021):
     """Data of a session of PPPoE."""
     octets = struct.pack(">H", protocol) + payload

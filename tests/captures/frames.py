@@ -5,6 +5,12 @@ ETHERTYPES = {0x0800: 4, 0x86DD: 6}
 PPP_PROTOCOLS = {0x0021: 4, 0x0057: 6}
 # Address families of Linux, NetBSD, FreeBSD and Darwin.
 FAMILIES = {2: 4, 10: 6, 24: 6, 28: 6, 30: 6}
+SOLARIS_FAMILIES = {2: 4, 26: 6}
+LINUX_FAMILIES = {2: 4, 10: 6}
+NLPIDS = {0xCC: 4, 0x8E: 6}
+SNAP = 0x80
+# The attribute of NFLOG that is the packet.
+PACKET = 9
 TAGS = (0x8100, 0x88A8)
 SESSION = 0x8864
 
@@ -76,6 +82,65 @@ def cooked2(octets):
     return typed(be(octets[0:2]), octets[20:])
 
 
+def c_hdlc(octets):
+    need(octets, 4)
+    return typed(be(octets[2:4]), octets[4:])
+
+
+def ipoib(octets):
+    """IP over InfiniBand: behind the EtherType are two reserved octets (RFC 4391 section 6)."""
+    need(octets, 44)
+    return typed(be(octets[40:42]), octets[44:])
+
+
+def ipnet(octets):
+    """IPNET of Solaris: the family is in the second octet."""
+    need(octets, 24)
+    return Frame(SOLARIS_FAMILIES.get(octets[1]), octets[24:])
+
+
+def nflog(octets):
+    """NFLOG: the first attribute that is the packet."""
+    need(octets, 4)
+    if octets[1] != 0:
+        raise Refused("malformed", "NFLOG version %d is not read" % octets[1])
+    # The numbers are in the order of the machine that captured; no type has more than 8 bits.
+    order = "little" if octets[7:8] == b"\0" else "big"
+    version, octets = LINUX_FAMILIES.get(octets[0]), octets[4:]
+    while True:
+        need(octets, 4)
+        length, kind = (int.from_bytes(octets[at:at + 2], order) for at in (0, 2))
+        if length < 4:
+            raise Refused("malformed", "NFLOG attribute length %d is below 4" % length)
+        need(octets, length)
+        if kind == PACKET:
+            return Frame(version, octets[4:length])
+        octets = octets[length + -length % 4:]
+
+
+def frame_relay(octets):
+    """Frame relay (RFC 2427): an address of two to four octets, of which the last alone is odd (Q.922 section 3.3),
+    and unnumbered information, whose control octet may be padded."""
+    need(octets, 2)
+    length = next((at for at, octet in enumerate(octets[:4], 1) if octet % 2), None)
+    if length == 1 or length is None and len(octets) >= 4:
+        raise Refused("malformed", "the frame relay address has the wrong length")
+    need(octets, (length or 4) + 1)
+    control, octets = octets[length], octets[length + 1:]
+    if control != 3:
+        raise Refused("malformed", "frame relay control %d is not read" % control)
+    return nlpid(octets[1:] if octets[:1] == b"\0" else octets)
+
+
+def nlpid(octets):
+    """A protocol of an octet, or that of SNAP, an organization and a protocol of it: that of 0 has EtherTypes."""
+    need(octets, 1)
+    if octets[0] != SNAP:
+        return Frame(NLPIDS.get(octets[0]), octets[1:])
+    need(octets, 6)
+    return Frame(None, octets[1:]) if any(octets[1:4]) else typed(be(octets[4:6]), octets[6:])
+
+
 def ppp(octets):
     """PPP, where the address and the control octet may be left out (RFC 1662 section 3.2)."""
     return protocol(octets[2:] if octets[:2] == b"\xff\x03" else octets)
@@ -115,8 +180,8 @@ def typed(ethertype, octets):
 
 
 LINKS = {
-    0: null, 1: ethernet, 9: ppp, 12: raw, 14: raw, 50: ppp, 51: pppoe, 101: raw, 108: null, 113: cooked,
-    228: raw, 229: raw, 276: cooked2,
+    0: null, 1: ethernet, 9: ppp, 12: raw, 14: raw, 50: ppp, 51: pppoe, 101: raw, 104: c_hdlc, 107: frame_relay,
+    108: null, 113: cooked, 226: ipnet, 228: raw, 229: raw, 239: nflog, 242: ipoib, 276: cooked2,
 }
 
 
@@ -177,17 +242,52 @@ def datagram6(octets):
     need(octets, 40, FIXED)
     if octets[0] >> 4 != 6:
         raise Refused("malformed", "version %d is not read" % (octets[0] >> 4))
-    total_len = 40 + be(octets[4:6])
+    total_len = total_len6(octets)
+    if total_len is None:
+        raise Refused("malformed", JUMBOGRAM)
     need(octets, total_len, "cut short, " + head_text(octets[8:24], octets[24:40], octets[6]))
-    if total_len == 40 and octets[6] == HOP_BY_HOP:
-        raise Refused("malformed", "a jumbogram is not read")
     of = pass_headers(octets, octets[40:total_len])
+    if of is None:
+        raise Refused("malformed", JUMBOGRAM)
     if isinstance(of, Torn):
         raise Refused("malformed", "the extension header %s is cut short" % protocol_name(of.protocol))
     if isinstance(of, Fragment):
         head = head_text(of.source, of.destination, of.protocol, of.ident, of.offset, of.more)
         raise Refused("fragment", "a fragment, " + head)
     return of
+
+
+JUMBOGRAM = "a malformed jumbogram"
+JUMBO_PAYLOAD = 0xC2
+
+
+def is_jumbogram(octets):
+    """Whether the length is not in the fixed header but in a hop-by-hop option (RFC 2675 section 2)."""
+    return octets[4:6] == b"\0\0" and octets[6] == HOP_BY_HOP
+
+
+def total_len6(octets):
+    """The length of a datagram; None of a jumbogram that does not tell it."""
+    if not is_jumbogram(octets):
+        return 40 + be(octets[4:6])
+    length = extension_len(octets[40:])
+    # Where that header is not whole, the datagram is longer than what is there.
+    return 40 + length if len(octets) < 40 + length else jumbo_len(octets[42:40 + length])
+
+
+def extension_len(octets):
+    """The length of a header that extends IPv6, which is 8 octets or more."""
+    return 8 * octets[1] + 8 if len(octets) >= 8 else 8
+
+
+def jumbo_len(options):
+    """The length of a jumbogram by its hop-by-hop options, or None: that of what follows the fixed header is in the
+    first Jumbo Payload option."""
+    while options and options[0] != JUMBO_PAYLOAD:
+        # Pad1 is one octet alone.
+        options = options[1 if options[0] == 0 else 2 + be(options[1:2]):]
+    length = be(options[2:6])
+    return 40 + length if len(options) >= 6 and options[1] == 4 and length > 65535 else None
 
 
 class Torn:
@@ -210,11 +310,14 @@ class Fragment:
 
 
 def pass_headers(octets, payload):
-    """What the headers lead to that extend IPv6, in the octets behind the fixed header."""
+    """What the headers lead to that extend IPv6, in the octets behind the fixed header; None where a jumbogram has the
+    header of a fragment, which none may have (RFC 2675 section 3)."""
     number, destination = octets[6], octets[24:40]
     hop_by_hop, is_first = None, True
     while number in EXTENSIONS + (FRAGMENT,):
-        length = 8 if number == FRAGMENT else 8 * payload[1] + 8 if len(payload) >= 8 else 8
+        if number == FRAGMENT and is_jumbogram(octets):
+            return None
+        length = 8 if number == FRAGMENT else extension_len(payload)
         if len(payload) < length:
             return Torn(number)
         header, payload = payload[:length], payload[length:]
@@ -262,8 +365,10 @@ def known4(octets):
 def known6(octets):
     if len(octets) < 40 or octets[0] >> 4 != 6:
         return None
-    total_len = 40 + be(octets[4:6])
-    of = pass_headers(octets, octets[40:total_len])
+    total_len = total_len6(octets)
+    of = None if total_len is None else pass_headers(octets, octets[40:total_len])
+    if of is None:
+        return None
     if isinstance(of, Torn):
         # What is torn was cut, or contradicts itself.
         return None if len(octets) >= total_len else Datagram(octets[8:24], octets[24:40], octets[6], b"")
@@ -287,6 +392,9 @@ def udp(of):
     if len(octets) < 8:
         raise Refused("short", "fewer than 8 bytes")
     length = be(octets[4:6])
+    # In a jumbogram a length of 0 is that of all (RFC 2675 section 4).
+    if length == 0 and len(octets) > 65535:
+        length = len(octets)
     if length < 8:
         raise Refused("short", "a length of %d is below 8" % length)
     if len(octets) < length:

@@ -2,9 +2,9 @@
 in tables of their own. `captures()` gives them by name."""
 import struct
 
-from building import (HOST6, NOON, SERVER6, TCP, block, cooked, cooked2, enhanced, ethernet, hexed, icmp4, interface,
-                      ip4, ip6_icmp6, obsolete, option, pcap, pcap_header, pcap_record, section, session, simple, udp4,
-                      udp6)
+from building import (HOST6, NOON, SERVER6, TCP, attribute, block, c_hdlc, cooked, cooked2, enhanced, ethernet, hexed,
+                      icmp4, interface, ip4, ip6_icmp6, ipnet, ipoib, nflog, obsolete, option, pcap, pcap_header,
+                      pcap_record, section, session, simple, udp4, udp6)
 from standards_dns import DNS
 from standards_messages import MESSAGES
 
@@ -38,11 +38,61 @@ LINKS = {
     "ipv4_alone": pcap([ECHO4], 228),
     "ipv6_alone": pcap([ECHO6], 229),
     "cooked2_of_both_ips": pcap([cooked2(ECHO4), cooked2(ECHO6, 0x86DD)], 276),
+    "c_hdlc_of_both_ips": pcap([c_hdlc(ECHO4), c_hdlc(ECHO6, 0x86DD)], 104),
+    "c_hdlc_with_a_vlan_of_pppoe": pcap([c_hdlc(hexed("6005 8864") + session(ECHO6, 0x0057), 0x8100)], 104),
+    "c_hdlc_of_no_ip": pcap([c_hdlc(b"\0" * 14, 0x8035), c_hdlc(b"\0\5", 0x8100), b"\x0f\0\x08"], 104),
+    "ipnet_of_both_ips": pcap([ipnet(ECHO4), ipnet(ECHO6, 26)], 226),
+    "ipnet_of_no_ip": pcap([ipnet(ECHO6, 10), ipnet(b""), ipnet(b"")[:23]], 226),
+    "ipoib_of_both_ips": pcap([ipoib(ECHO4), ipoib(ECHO6, 0x86DD)], 242),
+    "ipoib_of_no_ip": pcap([ipoib(b"\0" * 4, 0x0806), ipoib(b"\0\5\x08", 0x8100), ipoib(b"")[:43]], 242),
     "link_that_is_not_read": pcap([b"\1\2\3\4", b"\5"], 147),
     "ethernet_of_ipv4_of_version_5": pcap([ethernet(b"\x55" + ECHO4[1:])]),
     "ethernet_of_ipv6_of_version_7": pcap([ethernet(b"\x70" + ECHO6[1:], 0x86DD)]),
     "frame_that_is_empty": pcap([b""]),
     "frame_whose_vlan_ends": pcap([ethernet(b"\0\5", 0x8100)]),
+}
+
+# What stands before the packet: the header of the hook, an interface, and the prefix.
+BEFORE = ((1, hexed("08000100")), (5, hexed("00000002")), (10, b"drop\0"))
+
+
+def before(order):
+    return b"".join(attribute(*of, order=order) for of in BEFORE)
+
+
+NFLOG = {
+    "nflog_of_lowest_first": pcap([nflog(before("<"), attribute(9, ECHO4)),
+                                   nflog(attribute(9, ECHO6), family=10)], 239),
+    "nflog_of_highest_first": pcap([nflog(before(">"), attribute(9, ECHO4, ">")),
+                                    nflog(attribute(9, ECHO6, ">"), family=10)], 239, ">"),
+    "nflog_of_two_packets": pcap([nflog(attribute(9, ECHO4[:31]), attribute(9, ECHO6))], 239),
+    # A first type of more than 8 bits hides the order, and a later one is of another attribute.
+    "nflog_of_large_types": pcap([nflog(attribute(0x0100, b"", ">"), attribute(9, ECHO4, ">")),
+                                  nflog(attribute(0x0109, b""), attribute(9, ECHO4)),
+                                  nflog(attribute(1, b""), attribute(0x0109, b"abc"), attribute(9, ECHO4))], 239),
+    "nflog_of_no_ip": pcap([nflog(attribute(9, ECHO4), family=7), nflog(attribute(9, ECHO4), version=1),
+                            nflog(attribute(1, b"", length=3)), nflog(attribute(9, b"", ">", length=0))], 239),
+    "nflog_that_ends": pcap([nflog()[:3], nflog(), nflog(hexed("0400 01")), nflog(hexed("0400 0900 040009")),
+                             nflog(attribute(1, b"abcde")), nflog(attribute(9, b"abcd", length=9)),
+                             nflog(attribute(1, b"abcd", length=9)), nflog(hexed("0500 0100 61"))], 239),
+}
+
+# Unnumbered information, behind addresses of two, three and four octets.
+RELAYED, RELAYED3, RELAYED4 = hexed("1841 03"), hexed("1840 21 03"), hexed("1840 2021 03")
+# Addresses of a wrong length and other control octets, and what ends before its headers do.
+RELAYED_WRONGLY = ("1941 03cc 4500", "1941", "1840 2020 03cc", "1841 02cc", "1841 1000")
+RELAYED_SHORT = ("", "19", "18", "1840", "1840 20", "1841", "1840 21", "1841 03", "1841 03 00", "1841 03 80 000000 08",
+                 "1841 03 00 80", "1841 03 80 000000 8100 0005")
+
+FRAME_RELAY = {
+    "frame_relay_of_both_ips": pcap([RELAYED + b"\xcc" + ECHO4, RELAYED + b"\x8e" + ECHO6], 107),
+    "frame_relay_of_long_addresses": pcap([RELAYED3 + b"\xcc" + ECHO4, RELAYED4 + b"\0\x8e" + ECHO6], 107),
+    "frame_relay_of_snap": pcap([RELAYED + hexed("00 80 000000 0800") + ECHO4,
+                                 RELAYED + hexed("80 000000 8100 0007 86dd") + ECHO6], 107),
+    "frame_relay_of_no_ip": pcap([RELAYED + hexed(of) + ECHO4[:4] for of in
+                                  ("00 80 00000c 2000", "80 010000 0800", "00 81", "0000", "80 000000 0806")], 107),
+    "frame_relay_of_another_kind": pcap([hexed(of) for of in RELAYED_WRONGLY], 107),
+    "frame_relay_that_ends": pcap([hexed(of) for of in RELAYED_SHORT], 107),
 }
 
 # ---- pcap
@@ -125,7 +175,7 @@ PCAPNG = {
 def captures():
     """All captures by name."""
     every = {}
-    for table in (LINKS, PCAP, PCAPNG, MESSAGES, DNS):
+    for table in (LINKS, NFLOG, FRAME_RELAY, PCAP, PCAPNG, MESSAGES, DNS):
         for name, octets in table.items():
             assert name not in every and len(octets) <= 700, name
             every[name] = octets

@@ -1,6 +1,7 @@
 """Captures of datagrams and of the messages in them, of raw IP, with the reasons for which they are refused."""
 from building import (GROUP4, HOST4, HOST6, ICMP4, ICMP6, IGMP, LINK_A, LINK_B, MAC_A, SERVER4, SERVER6, TCP, UDP, dhcp,
-                      hexed, icmp, icmp4, icmp6, igmp, ip4, ip6, ip6_icmp6, pcap, udp, udp4, udp6, v4, v6)
+                      hexed, icmp, icmp4, icmp6, igmp, ip4, ip6, ip6_icmp6, pcap, pcap_header, pcap_record, udp, udp4,
+                      udp6, v4, v6)
 
 ECHO = hexed("1234 0001")
 ZERO = b"\0" * 4
@@ -87,6 +88,42 @@ DATAGRAMS6 = {
     "udp_over_ipv6_with_no_checksum": raw(ip6(udp(b"\0" * 12, 40000, 53, seal=False), UDP)),
     "udp_over_ipv6_of_three_octets": raw(ip6(b"\x9c\x40\0", UDP)),
     "udp_over_ipv6_of_dhcp_ports": raw(udp6(b"\0" * 12, 68, 67)),
+}
+
+# ---- jumbograms (RFC 2675)
+
+JUMBO = hexed("c204 00010000")
+
+
+def jumbogram(options, payload=MESSAGE6, following=ICMP6):
+    """A datagram whose length is in its hop-by-hop options, as far as it is there."""
+    return ip6(extension(following, options, (len(options) - 6) // 8) + payload, 0, length=0)
+
+
+def kept(datagram):
+    """A capture that kept the front of a datagram of 65,576 octets."""
+    return pcap_header(101) + pcap_record(datagram, original_len=65576)
+
+
+JUMBOGRAMS = {
+    "jumbogram_of_icmp6": kept(jumbogram(JUMBO)),
+    "jumbogram_of_dns": kept(jumbogram(JUMBO, udp(b"\0" * 12, 40000, 53, length=0, seal=False), UDP)),
+    "jumbogram_of_other_protocols": kept(jumbogram(JUMBO, TCP_SEGMENT, TCP)) + pcap_record(jumbogram(JUMBO, b"", 59)),
+    "jumbogram_behind_other_options": kept(jumbogram(hexed("00 0100 05020001 00 c204 00020000"))),
+    "jumbogram_with_a_route": kept(jumbogram(JUMBO, route(0, 1) + ROUTED, 43)),
+    "jumbogram_longer_than_its_frame": raw(jumbogram(JUMBO), jumbogram(hexed("c204 ffffffff"), MESSAGE6[:3], UDP)),
+    "jumbogram_with_a_fragment": kept(jumbogram(JUMBO, extension(ICMP6, hexed("0000 00000001")) + MESSAGE6, 44)),
+    "jumbogram_with_a_later_fragment": kept(jumbogram(JUMBO, extension(44, hexed("010400000000"))
+                                                      + extension(UDP, hexed("000100000001")), 60)),
+    "jumbogram_that_ends_within_a_fragment": kept(jumbogram(JUMBO, extension(ICMP6, b"\0" * 5), 44)),
+    "jumbogram_that_ends_within_a_header": kept(jumbogram(JUMBO, extension(ICMP6, b"\0" * 6, 1), 60)),
+    "jumbogram_that_ends_within_its_options": kept(ip6(extension(ICMP6, JUMBO, 1), 0, length=0))
+    + pcap_record(jumbogram(JUMBO)[:47]) + pcap_record(jumbogram(JUMBO)[:40]),
+    "jumbogram_of_65535_octets": raw(jumbogram(hexed("c204 0000ffff"))),
+    "jumbogram_of_no_option": raw(ip6(HOP + MESSAGE6, 0, length=0)),
+    "jumbogram_of_wrong_options": raw(*(jumbogram(hexed(options), b"") for options in (
+        "c203 00010000", "c205 00010000", "0100 c204 0001", "0104 00000000", "0105 00000000", "0000000000 c2",
+        "0000000000 01", "c202 0001 c204 00010000 01020000"))),
 }
 
 # ---- ICMPv4
@@ -232,5 +269,5 @@ DHCP = {
 }
 
 MESSAGES = {}
-for _table in (DATAGRAMS4, DATAGRAMS6, ICMP, IGMP_CAPTURES, ERRORS6, LISTENERS, NEIGHBORS, DHCP):
+for _table in (DATAGRAMS4, DATAGRAMS6, JUMBOGRAMS, ICMP, IGMP_CAPTURES, ERRORS6, LISTENERS, NEIGHBORS, DHCP):
     MESSAGES.update(_table)
