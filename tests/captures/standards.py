@@ -1,12 +1,12 @@
 """Small captures by what the standards say of each layer: links and forms of files here, datagrams, messages and names
-in tables of their own. `captures()` gives them by name."""
+in tables of their own. `captures()` gives them by name, and `large()` those that are not small."""
 import struct
 
 from building import (HOST6, NOON, SERVER6, TCP, attribute, block, c_hdlc, cooked, cooked2, enhanced, ethernet, hexed,
                       icmp4, interface, ip4, ip6_icmp6, ipnet, ipoib, nflog, obsolete, option, pcap, pcap_header,
                       pcap_record, section, session, simple, udp4, udp6)
 from standards_dns import DNS
-from standards_messages import MESSAGES
+from standards_messages import MESSAGES, WHOLE_JUMBOGRAMS
 
 ECHO4 = icmp4(8, 0, hexed("1234 0001"), b"abcd")
 ECHO6 = ip6_icmp6(128, 0, hexed("1234 0001"), b"abcd", HOST6, SERVER6)
@@ -180,3 +180,8 @@ def captures():
             assert name not in every and len(octets) <= 700, name
             every[name] = octets
     return every
+
+
+def large():
+    """The captures that are too large for each octet to be damaged, by name."""
+    return WHOLE_JUMBOGRAMS

@@ -1,7 +1,9 @@
 """Captures of datagrams and of the messages in them, of raw IP, with the reasons for which they are refused."""
+import struct
+
 from building import (GROUP4, HOST4, HOST6, ICMP4, ICMP6, IGMP, LINK_A, LINK_B, MAC_A, SERVER4, SERVER6, TCP, UDP, dhcp,
-                      hexed, icmp, icmp4, icmp6, igmp, ip4, ip6, ip6_icmp6, pcap, pcap_header, pcap_record, udp, udp4,
-                      udp6, v4, v6)
+                      hexed, icmp, icmp4, icmp6, igmp, ip4, ip6, ip6_icmp6, message, name, pcap, pcap_header,
+                      pcap_record, question, udp, udp4, udp6, v4, v6)
 
 ECHO = hexed("1234 0001")
 ZERO = b"\0" * 4
@@ -124,6 +126,22 @@ JUMBOGRAMS = {
     "jumbogram_of_wrong_options": raw(*(jumbogram(hexed(options), b"") for options in (
         "c203 00010000", "c205 00010000", "0100 c204 0001", "0104 00000000", "0105 00000000", "0000000000 c2",
         "0000000000 01", "c202 0001 c204 00010000 01020000"))),
+}
+
+
+
+def whole(payload, following):
+    """A capture of a whole jumbogram, and of octets behind it."""
+    return raw(jumbogram(hexed("c204") + struct.pack(">I", 8 + len(payload)), payload, following) + b"\5")
+
+
+LONG = b"ab" * 32768
+QUESTION = message(0x0100, [question(name("example.com."), 1)])
+
+WHOLE_JUMBOGRAMS = {
+    "whole_jumbogram_of_icmp6": whole(icmp6(128, 0, ECHO, LONG, HOST6, SERVER6), ICMP6),
+    "whole_jumbogram_of_dns": whole(udp(QUESTION + LONG, 40000, 53, HOST6, SERVER6, length=0), UDP),
+    "whole_jumbogram_of_a_datagram_alone": whole(extension(ICMP6, hexed("0000 00000001")) + LONG, 44),
 }
 
 # ---- ICMPv4
