@@ -7,3 +7,4 @@ pub mod Partial
 pub mod Piece
 pub mod Reassembly
 pub mod Types
+pub mod private

@@ -3,7 +3,7 @@ use Rattle.std.specs.Prelude.{◌≡◌, ◌<◌, ◌≤◌, Bool, List, [], fal
 use Rattle.reassembly.specs.Fragment.{FragmentValue}
 use Rattle.reassembly.specs.Piece.{PieceValue, piece_in, piece_of, StandsToAll, Tiles, placed, payload_of, numbers_of}
 use Rattle.reassembly.specs.Piece.{protocol_of_first}
-use Rattle.reassembly.specs.Types.{Addresses, IpProtocol, Key, Partial, Refusal, Standing, Taken, Whole}
+use Rattle.reassembly.specs.Types.{Addresses, IpProtocol, Key, Partial, Refusal, Standing, Whole}
 
 -- a datagram by its content: its fragments in the order of their offsets, none where it is discarded
 pub record PartialValue : Type 0 where
@@ -57,11 +57,6 @@ pub data TakenValue : Type 0 where
   kept : TakenValue
   whole : WholeValue → TakenValue
   refused : Refusal → TakenValue
-
-abbrev pub taken_of : Taken → TakenValue
-taken_of Taken.Kept = kept
-taken_of (Taken.Whole w) = whole (whole_of w)
-taken_of (Taken.Refused refusal) = refused refusal
 
 -- What becomes of a datagram where a fragment comes. One that is discarded takes no more. A fragment that is there
 -- already changes nothing. One that contradicts those that came before discards the datagram, and so does one too many.

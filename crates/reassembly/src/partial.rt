@@ -3,7 +3,8 @@
 ghost use Rattle.std.specs.Prelude.{◌≡◌, ◌↔◌, ◌<◌, ◌≤◌, ℕ, IfOk, IsTrue, OnErr, false, length, map, vec_len};
 ghost use Rattle.std.specs.List.{insert};
 ghost use Rattle.reassembly.specs.Fragment.{value_of, key_of, IsSound};
-ghost use Rattle.reassembly.specs.Partial.{partial_of, whole_of, taken_of, joined, discarded_of, with_fragment, Takes};
+ghost use Rattle.reassembly.specs.Partial.{partial_of, whole_of, joined, discarded_of, with_fragment, Takes};
+ghost use Rattle.reassembly.specs.private.Parts.{taken_of};
 ghost use Rattle.reassembly.specs.Piece.{piece_of, piece_in, fragment_end, StandsToAll, Tiles, placed, payload_of};
 ghost use Rattle.reassembly.specs.Piece.{numbers_of, protocol_of_first};
 ghost use Rattle.reassembly.specs.Reassembly.{begun};

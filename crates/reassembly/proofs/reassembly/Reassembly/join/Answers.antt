@@ -1,7 +1,8 @@
 -- A fragment is added to its datagram.
 use Rattle.std.proofs.Common.{◌∙◌, ap, drop, map, refl, subst, suc, take}
 use Rattle.reassembly.specs.Fragment.{value_of}
-use Rattle.reassembly.specs.Partial.{Takes, kept, partial_of, refused, taken_of, whole, whole_of}
+use Rattle.reassembly.specs.Partial.{Takes, kept, partial_of, refused, whole, whole_of}
+use Rattle.reassembly.specs.private.Parts.{taken_of}
 use Rattle.reassembly.specs.Reassembly.{joins}
 use Rattle.reassembly.specs.Types.{Partial}
 use Rattle.reassembly.proofs.Places.{at_its_place, none_at_place, other_at_place, same_at_place}
