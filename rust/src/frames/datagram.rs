@@ -170,14 +170,27 @@ impl<'a> Datagram<'a> {
         if packet.version() != 6 {
             return Err(Refusal::Version(packet.version()));
         }
-        let Some(len) = len_v6(octets) else {
-            return Err(endless_v6(octets));
-        };
+        if is_jumbogram(octets) {
+            return parse_jumbogram(octets);
+        }
+        let len = packet.payload_len() as usize;
         if octets.len() - IPV6_HEADER_LEN < len {
             return Err(Refusal::Cut(head_v6(octets)));
         }
-        read_v6(octets, behind_v6(octets, len))
+        read_unbroken(octets, behind_v6(octets, len))
     }
+}
+
+// The jumbogram at the start of the octets. Never inlined: what is none would pay for it.
+#[inline(never)]
+fn parse_jumbogram(octets: &[u8]) -> Result<Datagram<'_>, Refusal> {
+    let Some(len) = len_v6(octets) else {
+        return Err(endless_v6(octets));
+    };
+    if octets.len() - IPV6_HEADER_LEN < len {
+        return Err(Refusal::Cut(head_v6(octets)));
+    }
+    read_v6(octets, behind_v6(octets, len))
 }
 
 // Which length or version of an IPv4 header is wrong.

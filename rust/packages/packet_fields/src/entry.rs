@@ -3,7 +3,7 @@
 
 use crate::field::show_member_key;
 use crate::form::Form;
-use crate::value::{Value, put_string};
+use crate::value::{Text, Value, put_string, put_text};
 use rattle_std::io;
 use rattle_std::io::Write;
 
@@ -27,17 +27,17 @@ pub fn close_list<W: Write>(output: &mut W, form: Form) -> io::Result<()> {
 }
 
 /// Prints what an entry begins with: what it is.
-pub fn open_entry<W: Write>(
+pub fn open_entry<L: Text, W: Write>(
     output: &mut W,
     form: Form,
     is_first: bool,
     label_key: &str,
-    label: &str,
+    label: L,
 ) -> io::Result<()> {
     match form {
         Form::Lines => {
             output.write_all(b"  ")?;
-            output.write_all(label.as_bytes())?;
+            put_text(output, form, label)?;
             output.write_all(b"=")
         }
         Form::Json => {
