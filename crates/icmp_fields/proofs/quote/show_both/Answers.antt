@@ -1,0 +1,7 @@
+-- The ports, one after the other.
+use Rattle.packet_fields.proofs.Fields.{prints_last}
+use Rattle.icmp_fields.proofs.quote.show_both.Goals as goal
+
+pub returns : goal.returns
+returns g c =
+    prints_last _ _ _ c.in_ok-field.ensures c.field-2.ensures

@@ -1,0 +1,8 @@
+-- The fields, one after another; the ports are those of what is quoted.
+use Rattle.packet_fields.proofs.Fields.{◌and◌, prints_last}
+use Rattle.icmp_fields.proofs.quote.show_ipv6_quote.Goals as goal
+
+pub returns : goal.returns
+returns g c =
+    let ports = rw c.ports_of.ensures at c.in_ok-show_ports.ensures in
+    prints_last _ _ _ (c.in_ok-show_flow.ensures and c.in_ok-show_ipv6_path.ensures and ports) c.field.ensures

@@ -1,0 +1,65 @@
+-- ICMPv4 messages (RFC 792), as fields.
+use Rattle.std.specs.Prelude.{◌≡◌, ◌/◌, ◌^◌, ◌∷◌, ◌++◌, [], List, ℕ, codes, decimal, drop, length, nat_lt}
+use Rattle.std.specs.Prelude.{if◌then◌else◌}
+use Rattle.std.specs.List.{join_by}
+use Rattle.wirebase.specs.Bytes.{byte_of}
+use Rattle.wirebase.specs.ByteWriter.{be32}
+use Rattle.wirebase.specs.Icmp.{code_field, type_field}
+use Rattle.icmp4_wire.specs.Icmpv4.{MessageValue, echo_request, echo_reply, unreachable, time_exceeded}
+use Rattle.quote_wire.specs.Error.{ErrorValue}
+use Rattle.quote_wire.specs.Icmpv4Error.{kind_number, next_hop_mtu_in}
+use Rattle.quote_wire.specs.Quote.{IsIpv4Quote}
+use Rattle.quote_wire.specs.declared.icmpv4_error.Kind.{Kind}
+use Rattle.quote_wire.specs.declared.quote.Ipv4Quote.{Ipv4Quote}
+use Rattle.packet_fields.specs.Fields.{Item, field, number, text, leaf_or_missing}
+use Rattle.icmp_fields.specs.Icmp.{named_head, echo_items as told_items, rest_items}
+use Rattle.icmp_fields.specs.IcmpNames.{icmp4_types, icmp4_code_name}
+use Rattle.icmp_fields.specs.Names.{name_in}
+use Rattle.icmp_fields.specs.Quote.{ipv4_quote_items}
+
+-- a type and a code
+abbrev pub head_items : ℕ → ℕ → List Item
+head_items t code = named_head t (name_in icmp4_types t) code (icmp4_code_name t code)
+
+-- ---- echoes, and what is not read
+
+-- an echo of this type, whose code is 0
+abbrev pub echo_items : ℕ → ℕ → ℕ → List ℕ → List Item
+echo_items t ident seq_no d = head_items t 0 ++ told_items ident seq_no d
+
+-- any message by its type, its code and the octets behind its checksum; what is shorter than these by its octets
+abbrev pub typed_items : List ℕ → List Item
+typed_items bytes = head_items (byte_of type_field bytes) (byte_of code_field bytes) ++ rest_items (drop 4 bytes)
+
+abbrev pub unread_items : List ℕ → List Item
+unread_items bytes = if nat_lt (length bytes) 4 then rest_items bytes else typed_items bytes
+
+-- a message that was read in these octets: an echo, or another by its octets
+abbrev pub message_items : MessageValue → List ℕ → List Item
+message_items (echo_request ident seq_no d) bytes = echo_items 8 ident seq_no d
+message_items (echo_reply ident seq_no d) bytes = echo_items 0 ident seq_no d
+message_items (unreachable reason quoted d) bytes = unread_items bytes
+message_items (time_exceeded reason quoted d) bytes = unread_items bytes
+
+-- ---- errors
+
+-- a gateway by the number of its address: the octets, the highest first, with dots between them
+abbrev pub gateway_items : ℕ → List Item
+gateway_items n = field (codes "gateway") (text (join_by decimal (codes ".") (be32 n))) ∷ []
+
+-- What the four bytes after the checksum say (RFC 792): in the last two the MTU of the next link, in all four the
+-- address of a gateway, in the first the place of what is wrong; of the other types nothing.
+abbrev pub told_in_rest : Kind → ErrorValue Kind → List Item
+told_in_rest Kind.DstUnreachable v = field (codes "next_hop_mtu") (leaf_or_missing number (next_hop_mtu_in v)) ∷ []
+told_in_rest Kind.SourceQuench v = []
+told_in_rest Kind.Redirect v = gateway_items v.rest
+told_in_rest Kind.TimeExceeded v = []
+told_in_rest Kind.ParamProblem v = field (codes "pointer") (number (v.rest / 2 ^ 24)) ∷ []
+
+-- an error, and this that it quotes
+abbrev pub error_items : ErrorValue Kind → Ipv4Quote → List Item
+error_items v q = head_items (kind_number v.kind) v.code ++ told_in_rest v.kind v ++ ipv4_quote_items q
+
+-- an error, with the fields of what it quotes
+abbrev pub AreErrorItems : ErrorValue Kind → List Item → Type 0
+AreErrorItems v items = (q : Ipv4Quote) × IsIpv4Quote v.quoted q × (items ≡ error_items v q)

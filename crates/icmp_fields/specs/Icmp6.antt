@@ -1,0 +1,62 @@
+-- ICMPv6 messages (RFC 4443), as fields.
+use Rattle.std.specs.Prelude.{◌≡◌, ◌∷◌, ◌++◌, [], List, ℕ, codes, drop, if◌then◌else◌, length, nat_lt}
+use Rattle.wirebase.specs.Bytes.{byte_of}
+use Rattle.wirebase.specs.Icmp.{code_field, type_field}
+use Rattle.icmp6_wire.specs.Icmpv6.{MessageValue, echo_request, echo_reply, unreachable, too_big, time_exceeded}
+use Rattle.icmp6_wire.specs.Icmpv6.{param_problem, mld, ndisc}
+use Rattle.quote_wire.specs.Error.{ErrorValue}
+use Rattle.quote_wire.specs.Icmpv6Error.{kind_number}
+use Rattle.quote_wire.specs.Quote.{IsIpv6Quote}
+use Rattle.quote_wire.specs.declared.icmpv6_error.Kind.{Kind}
+use Rattle.quote_wire.specs.declared.quote.Ipv6Quote.{Ipv6Quote}
+use Rattle.packet_fields.specs.Fields.{Item, field, number}
+use Rattle.icmp_fields.specs.Icmp.{named_head, echo_items as told_items, rest_items}
+use Rattle.icmp_fields.specs.IcmpNames.{icmp6_types, icmp6_code_name}
+use Rattle.icmp_fields.specs.Names.{name_in}
+use Rattle.icmp_fields.specs.Quote.{ipv6_quote_items}
+
+-- a type and a code
+abbrev pub head_items : ℕ → ℕ → List Item
+head_items t code = named_head t (name_in icmp6_types t) code (icmp6_code_name t code)
+
+-- ---- echoes, and what is not read
+
+-- an echo of this type, whose code is 0
+abbrev pub echo_items : ℕ → ℕ → ℕ → List ℕ → List Item
+echo_items t ident seq_no d = head_items t 0 ++ told_items ident seq_no d
+
+-- any message by its type, its code and the octets behind its checksum; what is shorter than these by its octets
+abbrev pub typed_items : List ℕ → List Item
+typed_items bytes = head_items (byte_of type_field bytes) (byte_of code_field bytes) ++ rest_items (drop 4 bytes)
+
+abbrev pub unread_items : List ℕ → List Item
+unread_items bytes = if nat_lt (length bytes) 4 then rest_items bytes else typed_items bytes
+
+-- a message that was read in these octets: an echo, or another by its octets
+abbrev pub message_items : MessageValue → List ℕ → List Item
+message_items (echo_request ident seq_no d) bytes = echo_items 128 ident seq_no d
+message_items (echo_reply ident seq_no d) bytes = echo_items 129 ident seq_no d
+message_items (unreachable reason quoted d) bytes = unread_items bytes
+message_items (too_big mtu quoted d) bytes = unread_items bytes
+message_items (time_exceeded reason quoted d) bytes = unread_items bytes
+message_items (param_problem reason pointer quoted d) bytes = unread_items bytes
+message_items (ndisc message) bytes = unread_items bytes
+message_items (mld message) bytes = unread_items bytes
+
+-- ---- errors
+
+-- What the four bytes after the checksum say (RFC 4443 section 3): the MTU of the next link, or the place of what is
+-- wrong; of the other types nothing.
+abbrev pub told_in_rest : Kind → ErrorValue Kind → List Item
+told_in_rest Kind.DstUnreachable v = []
+told_in_rest Kind.PktTooBig v = field (codes "mtu") (number v.rest) ∷ []
+told_in_rest Kind.TimeExceeded v = []
+told_in_rest Kind.ParamProblem v = field (codes "pointer") (number v.rest) ∷ []
+
+-- an error, and this that it quotes
+abbrev pub error_items : ErrorValue Kind → Ipv6Quote → List Item
+error_items v q = head_items (kind_number v.kind) v.code ++ told_in_rest v.kind v ++ ipv6_quote_items q
+
+-- an error, with the fields of what it quotes
+abbrev pub AreErrorItems : ErrorValue Kind → List Item → Type 0
+AreErrorItems v items = (q : Ipv6Quote) × IsIpv6Quote v.quoted q × (items ≡ error_items v q)

@@ -1,0 +1,9 @@
+//! The tests of `icmp_fields`, over its public calls.
+#![tactic(auto)]
+
+#[cfg(test)]
+mod icmp4;
+#[cfg(test)]
+mod icmp6;
+#[cfg(test)]
+mod testing;
