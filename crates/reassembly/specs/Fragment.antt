@@ -3,7 +3,9 @@ use Rattle.std.specs.Prelude.{◌≡◌, ◌≢◌, ◌≤◌, ◌<◌, ◌+◌,
 use Rattle.wirebase.specs.Bytes.{bytes_of}
 use Rattle.wirebase.specs.Ip.{protocol_of}
 use Rattle.wirebase.specs.Ipv4 as ipv4
-use Rattle.frame_wire.specs.Datagram.{EndsAt, HasAtomic, Refuses4, Refuses6, behind6, next_header_in}
+use Rattle.wirebase.specs.Ipv6 as ipv6
+use Rattle.frame_wire.specs.Datagram.{Refuses4, Refuses6, next_header_in}
+use Rattle.frame_wire.specs.DatagramHeaders.{EndsAt, HasAtomic}
 use Rattle.frame_wire.specs.declared.datagram.Refusal.{Refusal as HeaderRefusal}
 use Rattle.reassembly.specs.Types.{Addresses, Fragment, Head, IpProtocol, Key, Refusal}
 
@@ -61,13 +63,14 @@ pub data LeadsToFragment : IpProtocol → List ℕ → List ℕ → Type 0 where
       → LeadsToFragment (protocol_of (slice_index bytes 0)) (drop end bytes) header → LeadsToFragment p bytes header
 
 -- IPv6: the bytes begin with a whole fragment by its own length, as `Datagram::parse_v6` refuses it, and its payload is
--- what follows the header of the fragment, which has eight bytes.
+-- what follows the header of the fragment, which has eight bytes. A jumbogram has no fragments, so that the length is
+-- the payload length of the fixed header.
 pub record IsFragment6 (bytes : List ℕ) (v : FragmentValue) : Type 0 where
   pub head : Head
   pub header : List ℕ
   pub fragment : Refuses6 bytes (HeaderRefusal.Fragment head)
   pub told : HasHead head v
-  pub leads : LeadsToFragment (next_header_in bytes) (behind6 bytes) header
+  pub leads : LeadsToFragment (next_header_in bytes) (bytes_of (ipv6.payload_field bytes) bytes) header
   pub payload : v.payload ≡ drop 8 header
 
 -- ---- by itself

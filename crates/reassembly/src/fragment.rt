@@ -4,7 +4,7 @@ ghost use Rattle.std.specs.Prelude.{◌≡◌, ◌≤◌, ◌↔◌, List, ℕ, 
 ghost use Rattle.reassembly.specs.Fragment.{value_of, FragmentValue, HasHead, IsFragment4, IsFragment6, LeadsToFragment};
 ghost use Rattle.reassembly.specs.Fragment.{key_of, IsMalformed, IsSound};
 ghost use Rattle.reassembly.specs.Piece.{fragment_end};
-ghost use Rattle.frame_wire.specs.Datagram.{EndsAt, IsExtension, HasAtomic};
+ghost use Rattle.frame_wire.specs.DatagramHeaders.{EndsAt, IsExtension, HasAtomic};
 
 use crate::answer::Refusal;
 use crate::key::Key;
