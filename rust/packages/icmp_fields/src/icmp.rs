@@ -1,0 +1,46 @@
+// Made from crates/icmp_fields/src/icmp.rt by rust/erase.
+//! What messages of ICMPv4 and of ICMPv6 have in common.
+
+use control_wire::Field;
+use packet_fields::Form;
+use packet_fields::field::{field, named};
+use rattle_std::io;
+use rattle_std::io::Write;
+
+// The fields that every message has, and where they end; their picture is in the specs of `wirebase`.
+pub(crate) const TYPE: Field = 0..1;
+
+pub(crate) const CODE: Field = 1..2;
+
+pub(crate) const CHECKSUM_END: usize = 4;
+
+// Prints a type and a code, each with its name where it has one.
+pub(crate) fn show_named_head<W: Write>(
+    output: &mut W,
+    form: Form,
+    type_: u8,
+    type_name: Option<&str>,
+    code: u8,
+    code_name: Option<&str>,
+) -> io::Result<()> {
+    named(output, form, "type", u64::from(type_), type_name)?;
+    named(output, form, "code", u64::from(code), code_name)
+}
+
+// Prints what an echo holds behind its checksum.
+pub(crate) fn show_echo<W: Write>(
+    output: &mut W,
+    form: Form,
+    ident: u16,
+    seq_no: u16,
+    data: &[u8],
+) -> io::Result<()> {
+    field(output, form, "ident", ident)?;
+    field(output, form, "seq_no", seq_no)?;
+    field(output, form, "data", data)
+}
+
+// Prints octets that are not told apart.
+pub(crate) fn show_rest<W: Write>(output: &mut W, form: Form, octets: &[u8]) -> io::Result<()> {
+    field(output, form, "rest", octets)
+}

@@ -1,0 +1,107 @@
+// Made from crates/icmp_fields/src/quote.rt by rust/erase.
+//! What ICMP errors quote of a datagram.
+
+use crate::protocol_names::protocol_name;
+use control_wire::IpProtocol;
+use control_wire::quotes::quote::{Ipv4Quote, Ipv6Quote};
+use listing::ports::ports_of;
+use packet_fields::Form;
+use packet_fields::field::{field, named};
+use rattle_std::io;
+use rattle_std::io::Write;
+
+/// Prints what an ICMPv4 error quotes (RFC 792): the fields of the datagram's header, and all that follows it.
+pub fn show_ipv4_quote<W: Write>(
+    output: &mut W,
+    form: Form,
+    quote: &Ipv4Quote<'_>,
+) -> io::Result<()> {
+    show_fragment(output, form, quote)?;
+    show_ipv4_path(output, form, quote)?;
+    field(output, form, "quoted_options", quote.options)?;
+    show_ports(output, form, ipv4_ports_of(quote))?;
+    field(output, form, "quoted_payload", quote.payload)
+}
+
+fn show_fragment<W: Write>(output: &mut W, form: Form, quote: &Ipv4Quote<'_>) -> io::Result<()> {
+    field(
+        output,
+        form,
+        "quoted_type_of_service",
+        quote.type_of_service,
+    )?;
+    field(output, form, "quoted_total_len", quote.total_len)?;
+    field(output, form, "quoted_ident", quote.ident)?;
+    field(output, form, "quoted_dont_frag", quote.dont_frag)?;
+    field(output, form, "quoted_more_frags", quote.more_frags)?;
+    field(output, form, "quoted_frag_offset", quote.frag_offset)
+}
+
+fn show_ipv4_path<W: Write>(output: &mut W, form: Form, quote: &Ipv4Quote<'_>) -> io::Result<()> {
+    field(output, form, "quoted_hop_limit", quote.hop_limit)?;
+    show_protocol(output, form, quote.next_header)?;
+    field(output, form, "quoted_src_addr", quote.src_addr)?;
+    field(output, form, "quoted_dst_addr", quote.dst_addr)
+}
+
+// The ports in a quote; a fragment that is not the first begins with no header.
+fn ipv4_ports_of(quote: &Ipv4Quote<'_>) -> Option<(u16, u16)> {
+    if quote.frag_offset == 0 {
+        ports_of(quote.next_header, quote.payload)
+    } else {
+        None
+    }
+}
+
+/// Prints what an ICMPv6 error quotes (RFC 4443 section 3): the fields of the packet's header, and all that follows it.
+pub fn show_ipv6_quote<W: Write>(
+    output: &mut W,
+    form: Form,
+    quote: &Ipv6Quote<'_>,
+) -> io::Result<()> {
+    show_flow(output, form, quote)?;
+    show_ipv6_path(output, form, quote)?;
+    show_ports(output, form, ports_of(quote.next_header, quote.payload))?;
+    field(output, form, "quoted_payload", quote.payload)
+}
+
+fn show_flow<W: Write>(output: &mut W, form: Form, quote: &Ipv6Quote<'_>) -> io::Result<()> {
+    field(output, form, "quoted_traffic_class", quote.traffic_class)?;
+    field(output, form, "quoted_flow_label", quote.flow_label)?;
+    field(output, form, "quoted_payload_len", quote.payload_len)
+}
+
+fn show_ipv6_path<W: Write>(output: &mut W, form: Form, quote: &Ipv6Quote<'_>) -> io::Result<()> {
+    field(output, form, "quoted_hop_limit", quote.hop_limit)?;
+    show_protocol(output, form, quote.next_header)?;
+    field(output, form, "quoted_src_addr", quote.src_addr)?;
+    field(output, form, "quoted_dst_addr", quote.dst_addr)
+}
+
+fn show_protocol<W: Write>(output: &mut W, form: Form, protocol: IpProtocol) -> io::Result<()> {
+    let number = u8::from(protocol);
+    named(
+        output,
+        form,
+        "quoted_next_header",
+        u64::from(number),
+        protocol_name(protocol),
+    )
+}
+
+fn show_ports<W: Write>(output: &mut W, form: Form, ports: Option<(u16, u16)>) -> io::Result<()> {
+    match ports {
+        Some((source, destination)) => show_both(output, form, Some(source), Some(destination)),
+        None => show_both(output, form, None, None),
+    }
+}
+
+fn show_both<W: Write>(
+    output: &mut W,
+    form: Form,
+    source: Option<u16>,
+    destination: Option<u16>,
+) -> io::Result<()> {
+    field(output, form, "quoted_src_port", source)?;
+    field(output, form, "quoted_dst_port", destination)
+}

@@ -1,0 +1,170 @@
+// Made from crates/tests_icmp_fields/src/icmp4.rt by rust/erase.
+//! Messages of ICMPv4 by the pictures of RFC 792, with a checksum of zero, which is not looked at.
+
+use crate::testing::{holds_of, same_of};
+use control_wire::ChecksumCapabilities;
+use control_wire::quotes::message::Icmpv4Message;
+use icmp_fields::icmp4::{show_error, show_message, show_unread};
+use packet_fields::Form;
+#[allow(unused_imports)]
+use rattle_std::prelude::*;
+
+const ECHO_REQUEST: &[u8] = &[0x08, 0x00, 0x00, 0x00, 0x30, 0x39, 0x00, 0x02, 0x68, 0x69];
+
+const ECHO_REQUEST_LINES: &str = "  type=8 (echo_request)
+  code=0
+  ident=12345
+  seq_no=2
+  data=6869
+";
+
+const ECHO_REQUEST_JSON: &str = ",\"type\":8,\"type_name\":\"echo_request\",\"code\":0,\
+    \"ident\":12345,\"seq_no\":2,\"data\":\"6869\"";
+
+// A query of DNS that was too long for a link of 1,400 bytes.
+const TOO_LONG: &[u8] = &[
+    0x03, 0x04, 0x00, 0x00, 0x00, 0x00, 0x05, 0x78, 0x45, 0x00, 0x05, 0xdc, 0x12, 0x34, 0x40, 0x00,
+    0x3f, 0x11, 0x00, 0x00, 0xc0, 0x00, 0x02, 0x01, 0xc0, 0x00, 0x02, 0x02, 0x9c, 0x40, 0x00, 0x35,
+    0x05, 0xc8, 0x00, 0x00,
+];
+
+const TOO_LONG_LINES: &str = "  type=3 (destination_unreachable)
+  code=4 (fragmentation_needed)
+  next_hop_mtu=1400
+  quoted_type_of_service=0
+  quoted_total_len=1500
+  quoted_ident=4660
+  quoted_dont_frag=true
+  quoted_more_frags=false
+  quoted_frag_offset=0
+  quoted_hop_limit=63
+  quoted_next_header=17 (udp)
+  quoted_src_addr=192.0.2.1
+  quoted_dst_addr=192.0.2.2
+  quoted_options=-
+  quoted_src_port=40000
+  quoted_dst_port=53
+  quoted_payload=9c40003505c80000
+";
+
+const TOO_LONG_JSON: &str = ",\"type\":3,\"type_name\":\"destination_unreachable\",\"code\":4,\
+    \"code_name\":\"fragmentation_needed\",\"next_hop_mtu\":1400,\"quoted_type_of_service\":0,\
+    \"quoted_total_len\":1500,\"quoted_ident\":4660,\"quoted_dont_frag\":true,\
+    \"quoted_more_frags\":false,\"quoted_frag_offset\":0,\"quoted_hop_limit\":63,\
+    \"quoted_next_header\":17,\"quoted_next_header_name\":\"udp\",\
+    \"quoted_src_addr\":\"192.0.2.1\",\"quoted_dst_addr\":\"192.0.2.2\",\"quoted_options\":\"\",\
+    \"quoted_src_port\":40000,\"quoted_dst_port\":53,\"quoted_payload\":\"9c40003505c80000\"";
+
+// A later fragment of a datagram of UDP, 1,480 bytes from the first.
+const LATER_FRAGMENT: &[u8] = &[
+    0x0b, 0x00, 0x00, 0x00, 0x00, 0x00, 0x00, 0x00, 0x45, 0x00, 0x05, 0xdc, 0x00, 0x01, 0x20, 0xb9,
+    0x00, 0x11, 0x00, 0x00, 0xc0, 0x00, 0x02, 0x01, 0xc0, 0x00, 0x02, 0x02, 0x61, 0x62, 0x63, 0x64,
+    0x65, 0x66, 0x67, 0x68,
+];
+
+const LATER_FRAGMENT_LINES: &str = "  type=11 (time_exceeded)
+  code=0 (time_to_live_exceeded_in_transit)
+  quoted_type_of_service=0
+  quoted_total_len=1500
+  quoted_ident=1
+  quoted_dont_frag=false
+  quoted_more_frags=true
+  quoted_frag_offset=1480
+  quoted_hop_limit=0
+  quoted_next_header=17 (udp)
+  quoted_src_addr=192.0.2.1
+  quoted_dst_addr=192.0.2.2
+  quoted_options=-
+  quoted_src_port=none
+  quoted_dst_port=none
+  quoted_payload=6162636465666768
+";
+
+const LATER_FRAGMENT_JSON: &str = ",\"type\":11,\"type_name\":\"time_exceeded\",\"code\":0,\
+    \"code_name\":\"time_to_live_exceeded_in_transit\",\"quoted_type_of_service\":0,\
+    \"quoted_total_len\":1500,\"quoted_ident\":1,\"quoted_dont_frag\":false,\
+    \"quoted_more_frags\":true,\"quoted_frag_offset\":1480,\"quoted_hop_limit\":0,\
+    \"quoted_next_header\":17,\"quoted_next_header_name\":\"udp\",\
+    \"quoted_src_addr\":\"192.0.2.1\",\"quoted_dst_addr\":\"192.0.2.2\",\"quoted_options\":\"\",\
+    \"quoted_src_port\":null,\"quoted_dst_port\":null,\"quoted_payload\":\"6162636465666768\"";
+
+// The fields of a message in either form; empty where the octets are none.
+fn listing(form: Form, octets: &[u8]) -> Vec<u8> {
+    let mut output = Vec::new();
+    match Icmpv4Message::parse(octets, &ChecksumCapabilities::ignored()) {
+        Ok(Icmpv4Message::Error(error)) => {
+            holds_of(octets, show_error(&mut output, form, &error).is_ok());
+        }
+        Ok(Icmpv4Message::Message(message)) => {
+            let shown = show_message(&mut output, form, &message, octets);
+            holds_of(octets, shown.is_ok());
+        }
+        Err(_) => (),
+    }
+    output
+}
+
+#[test]
+fn echoes_and_errors() {
+    let rows: &[(&[u8], &str, &str)] = &[
+        (ECHO_REQUEST, ECHO_REQUEST_LINES, ECHO_REQUEST_JSON),
+        (TOO_LONG, TOO_LONG_LINES, TOO_LONG_JSON),
+        (LATER_FRAGMENT, LATER_FRAGMENT_LINES, LATER_FRAGMENT_JSON),
+    ];
+    for &(octets, lines, json) in rows {
+        let fields = listing(Form::Lines, octets);
+        same_of(lines, fields.as_slice(), lines.as_bytes());
+        let fields = listing(Form::Json, octets);
+        same_of(json, fields.as_slice(), json.as_bytes());
+    }
+}
+
+#[test]
+fn gateway_and_pointer_of_errors() {
+    let rows: &[(u8, u8, &[u8])] = &[
+        (
+            5,
+            1,
+            b"  type=5 (redirect)\n  code=1 (host)\n  gateway=20.51.100.254\n",
+        ),
+        (
+            12,
+            0,
+            b"  type=12 (parameter_problem)\n  code=0 (pointer_indicates_the_error)\n  pointer=20\n",
+        ),
+        (
+            3,
+            16,
+            b"  type=3 (destination_unreachable)\n  code=16\n  next_hop_mtu=none\n",
+        ),
+    ];
+    let mut octets = [0; 36];
+    octets.copy_from_slice(TOO_LONG);
+    octets[4..8].copy_from_slice(&[20, 51, 100, 254]);
+    for &(kind, code, want) in rows {
+        octets[0] = kind;
+        octets[1] = code;
+        let fields = listing(Form::Lines, &octets);
+        holds_of((kind, code), fields.as_slice().starts_with(want));
+    }
+}
+
+#[test]
+fn messages_of_other_types_by_their_octets() {
+    let rows: &[(&[u8], &str)] = &[
+        (
+            &[13, 0, 0, 0, 0, 7, 0, 1, 0x01, 0x02, 0x03, 0x04],
+            "  type=13 (timestamp)\n  code=0\n  rest=0007000101020304\n",
+        ),
+        (&[253, 9, 0, 0], "  type=253\n  code=9\n  rest=-\n"),
+        (&[3, 1, 0], "  rest=030100\n"),
+    ];
+    for &(octets, want) in rows {
+        let mut output = Vec::new();
+        holds_of(
+            octets,
+            show_unread(&mut output, Form::Lines, octets).is_ok(),
+        );
+        same_of(want, output.as_slice(), want.as_bytes());
+    }
+}
