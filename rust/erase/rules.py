@@ -90,7 +90,8 @@ def drop(file, i):
     file.refuse(i, "Drop in another place than a derive or a bound")
 
 
-# Types of `record_wire` that contracts of other crates name, and no public call: in Rust the crate alone sees them.
+# Types of `record_wire` that contracts of other crates name, and no public call: in Rust the crate alone sees them. The
+# `Form` of `packet_fields` is another.
 HIDDEN = {"Layout", "Form", "FrontForm", "RestForm"}
 
 
@@ -99,7 +100,7 @@ def hidden(file, i):
     """A type that only contracts name is not public."""
     if file.text(i) != "pub" or file.text(i + 1) not in ("enum", "struct") or file.text(i + 2) not in HIDDEN:
         return None
-    if file.path.parts[1] != "record_wire":
+    if "packet_fields" in file.path.parts:
         return None
     return file.replace(i, i + 1, "pub(crate)")
 
