@@ -1,8 +1,8 @@
 //! Messages of ICMPv4 by the pictures of RFC 792, with a checksum of zero, which is not looked at.
 
 use crate::testing::{holds_of, same_of};
-use packet_fields::Form;
 use icmp_fields::icmp4::{show_error, show_message, show_unread};
+use packet_fields::Form;
 use quote_wire::message::Icmpv4Message;
 use std::alloc::Global;
 use std::process::Abort;

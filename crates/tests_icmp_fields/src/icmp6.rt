@@ -1,8 +1,8 @@
 //! Messages of ICMPv6 by the pictures of RFC 4443 and RFC 8200, with a checksum of zero, which is not looked at.
 
 use crate::testing::{holds_of, same_of};
-use packet_fields::Form;
 use icmp_fields::icmp6::{show_error, show_message, show_unread};
+use packet_fields::Form;
 use quote_wire::message::Icmpv6Message;
 use std::alloc::Global;
 use std::process::Abort;

@@ -8,9 +8,9 @@ ghost use Rattle.listing.specs.ListingRecord.{QuestionPrints, RecordPrints, line
 ghost use Rattle.packet_fields.specs.Output.{Gains, GainsSome};
 
 use crate::message::Unread;
-use packet_fields::output::ToWriter;
 use dns_wire::dns::Packet;
 use dns_wire::octets::octets_of;
+use packet_fields::output::ToWriter;
 use record_wire::line::{Before, put_question, put_record};
 use record_wire::{Question, Record, Section, multicast};
 use std::io;
