@@ -186,7 +186,9 @@ def enum_of(file, i):
             if at is not None:
                 path[:0] = [file.text(step) for step in range(k + 1, at) if file.text(step + 1) == "::"]
                 break
-    return None if len(path) < 2 or path[0] in ("crate", "super", "self") else (path[-2], path[-1])
+    # The enums of packet_fields and of those above it are not published.
+    is_closed = len(path) < 2 or path[0] in ("crate", "super", "self") or path[0].endswith("_fields")
+    return None if is_closed else (path[-2], path[-1])
 
 
 def arms(file, open_):

@@ -1,37 +1,43 @@
 #!/usr/bin/env python3
 """Compares what pcapdump prints of captures with what tshark has of them: `compare.py [--all] PCAPDUMP CAPTURE..`.
 
-Beside each capture is the table that fields.py made of it. Of each packet that is a difference it prints both; then
+Beside each capture is the table that fields.py made of it. The objects of `pcapdump --json` are compared with it, and
+the lines that pcapdump prints with the values of the objects. Of each packet that is a difference it prints both; then
 the kinds of packets that both programs see but read differently, with their numbers; and last 'N passed, M failed', of
 packets and of the counts of each capture. With --all the captures are all that are kept, and have to have each kind of
 packet that is wanted of them."""
 
 import collections
 import datetime
+import json
 import os
 import re
 import shutil
 import subprocess
 import sys
 
+import contents
+import datagrams
 import expected
 import fields
 import names
 from messages import KINDS, REASONS
 
-DHCP_OPTIONS = {0, 1, 3, 6, 50, 51, 53, 54, 55, 57, 58, 59, 61, 255}
+
+def once(members):
+    """An object, none of whose members is there twice."""
+    found = dict(members)
+    if len(found) != len(members):
+        raise ValueError(f"a member is there twice in {members}")
+    return found
 
 
 def printed(text):
-    """The packets that were printed: of each number its heading behind the number, and its lines."""
-    found, number = {}, None
-    for line in text.splitlines():
-        if line.startswith("  ") and number is not None:
-            found[number][1].append(line[2:])
-        else:
-            number, _, heading = line.partition(" ")
-            # A number that is there twice has a heading that no packet has.
-            found[number] = (heading if number not in found else "twice", [])
+    """The objects that were printed, by their numbers."""
+    objects = [json.loads(line, object_pairs_hook=once) for line in text.splitlines()]
+    found = {str(it["number"]): it for it in objects}
+    if len(found) != len(objects):
+        raise ValueError("a packet is there twice")
     return found
 
 
@@ -41,9 +47,43 @@ def time(packet):
     return start.strftime("%Y-%m-%dT%H:%M:%S") + "." + fraction + "Z"
 
 
+# ---- objects
+
+def mistakes(wanted, found, place=""):
+    """Where what was found is not what is wanted, and both."""
+    if isinstance(wanted, dict) and isinstance(found, dict):
+        its_keys = list(keys(found, wanted))
+        wanted_keys = [key for key in wanted if key != contents.MORE]
+        is_same = its_keys[:len(wanted_keys)] == wanted_keys if contents.MORE in wanted else its_keys == wanted_keys
+        if not is_same:
+            yield f"{place}: members {wanted_keys}, and not {its_keys}"
+        for key in wanted_keys:
+            yield from mistakes(wanted[key], found.get(key), f"{place}.{key}")
+    elif isinstance(wanted, list) and isinstance(found, list) and len(wanted) == len(found):
+        for at, (one, other) in enumerate(zip(wanted, found)):
+            yield from mistakes(one, other, f"{place}[{at}]")
+    elif not agrees(wanted, found):
+        yield f"{place}: {wanted}, and not {json.dumps(found)}"
+
+
+def keys(found, wanted):
+    """The keys of an object, without those of the names of numbers."""
+    for key in found:
+        if key in wanted or not (key.endswith("_name") and isinstance(found.get(key[:-5]), int)):
+            yield key
+
+
+def agrees(wanted, found):
+    if hasattr(wanted, "agrees"):
+        return isinstance(found, str) and wanted.agrees(found)
+    if isinstance(wanted, re.Pattern):
+        return isinstance(found, str) and wanted.fullmatch(found) is not None
+    return type(wanted) is type(found) and wanted == found
+
+
 def difference(packet, found):
     """What is wrong with what was printed of a packet, or None; and its kind and reason where it is one of ours."""
-    kind, of_tshark = expected.kind(packet), expected.kind_of_tshark(packet)
+    kind, of_tshark = datagrams.kind(packet), datagrams.kind_of_tshark(packet)
     if kind is None:
         wrong = "nothing is expected" if found else f"tshark has {of_tshark}" if of_tshark else None
         return wrong, None, None
@@ -52,18 +92,77 @@ def difference(packet, found):
         return f"tshark has {of_tshark}", kind, reason
     if found is None:
         return f'{kind} is expected, {reason or "listed"}', kind, reason
-    heading, lines = found
-    wanted = f'{time(packet)} {expected.heading(packet, kind, reason not in ("cut", "fragment"))}'
-    if heading != wanted:
-        return f"heading {wanted}", kind, reason
-    patterns = expected.listing(packet, kind, reason)
-    if kind in ("dns", "mdns"):
-        lines = [names.unescaped(line, kind) for line in lines]
-    for pattern, line in zip(patterns, lines):
-        if not re.fullmatch(pattern, line):
-            return f"line {pattern}", kind, reason
-    return (None if len(patterns) == len(lines) else f"{len(patterns)} lines"), kind, reason
+    found = dict(found)
+    if found.pop("time", None) != time(packet) or not isinstance(found.pop("link", None), int):
+        return f"time {time(packet)}, and a link", kind, reason
+    found.pop("link_name", None)
+    wrong = list(mistakes(expected.members(packet, kind, reason), found))
+    return "; ".join(wrong) or None, kind, reason
 
+
+# ---- lines
+
+def texts(value, name=None):
+    """How a line may have a value: octets are `-` where there are none, and times are in seconds."""
+    if value is None:
+        return ["none"]
+    if isinstance(value, bool):
+        return ["true" if value else "false"]
+    if isinstance(value, int):
+        part = ".%03d" % (value % 1000) if value % 1000 else ""
+        return ["%d" % value + ("" if name is None else " (%s)" % name), "%d%ss" % (value // 1000, part)]
+    if isinstance(value, list):
+        return [",".join(str(it) for it in value) or "-"]
+    return [value] if value else ["", "-"]
+
+
+def entry_lines(entry):
+    """How a line may have an entry: a number of its type is left out, and each value may have its key."""
+    (label, first), *rest = [(key, value) for key, value in entry.items() if not (
+        key == "type" and isinstance(value, int))]
+    lines = ["%s=" % first]
+    for at, (key, value) in enumerate(rest):
+        words = [form % text for text in texts(value) for form in (("%s",) if at == 0 else (" %s", f" {key}=%s"))]
+        lines = [line + word for line in lines for word in words]
+    return lines
+
+
+def listing(found):
+    """The lines of an object, each with the forms that it may have."""
+    members = list(found.items())
+    start = [key for key, _ in members].index("kind") + 1
+    for key, value in members[start:]:
+        if isinstance(value, list) and (key in LISTS or any(isinstance(it, dict) for it in value)):
+            yield from map(entry_lines, value)
+        elif not (key == "checksum" and value != "bad" or key.endswith("_name") and key[:-5] in found):
+            yield [f"{key}={text}" for text in texts(value, found.get(key + "_name"))]
+
+
+LISTS = ("hop_by_hop", "options", "records", "entries")
+
+
+def heading(found):
+    both = [found["src_addr"], found["dst_addr"]]
+    if found["src_port"] is not None:
+        form = "[%s]:%d" if ":" in both[0] else "%s:%d"
+        both = [form % pair for pair in zip(both, (found["src_port"], found["dst_port"]))]
+    words = [str(found["number"]), found["time"] or "-"] + ([both[0], ">", both[1]] if both[0] else [])
+    words += ["vlan=%d" % vlan for vlan in found["vlans"]] + (["hbh"] if "hop_by_hop" in found else [])
+    return " ".join(words + [found["kind"]])
+
+
+def same(objects, text):
+    """What of the lines has not the values of the objects, or None."""
+    wanted = [line for found in objects for line in [[heading(found)]] + [["  " + form for form in forms]
+                                                                          for forms in listing(found)]]
+    lines = text.splitlines()
+    for line, forms in zip(lines, wanted):
+        if line not in forms:
+            return f"the line {line!r} is none of {forms}"
+    return None if len(lines) == len(wanted) else f"{len(lines)} lines, and not {len(wanted)}"
+
+
+# ---- what is known
 
 def known_differences(packet, kind, reason):
     """The kinds of a packet that tshark reads in another way, in words."""
@@ -73,47 +172,30 @@ def known_differences(packet, kind, reason):
             yield f"{inner[0]} over {'tcp' if 'tcp' in packet.protocols else 'udp'}: of another protocol"
     elif reason is not None:
         yield from known_refusals(packet, kind, reason)
-    elif kind in ("dns", "mdns"):
+    elif kind in ("dns", "mdns", "llmnr"):
         yield from known_of_names(packet)
-    else:
-        yield from known_of_messages(packet, kind)
+    elif kind == "icmp4" and packet.has("icmp.ext.version"):
+        yield "icmp4: extensions of an error: part of what it quotes"
+    elif kind == "icmp6" and packet.number("icmpv6.type") in range(133, 138):
+        for number in sorted({*packet.numbers("icmpv6.opt.type")} - {1, 2, 3, 4, 5}):
+            yield f"icmp6: option {number} of neighbor discovery: its octets"
+    elif kind == "dhcp":
+        for number in sorted({*packet.numbers("dhcp.option.type")} - {0, 255, *contents.DHCP_OPTIONS}):
+            yield f"dhcp: option {number}: its octets"
 
 
 def known_refusals(packet, kind, reason):
     field = {"icmp4": "icmp", "icmp6": "icmpv6", "igmp": "igmp"}.get(kind, "udp") + ".type"
     if reason == "type":
-        yield f"{kind} of type {packet.number(field)}: refused as type"
-    elif reason == "short" and kind == "icmp6":
-        yield "icmp6 of type 130 and 24 bytes (a query of MLD version 1): refused as short"
+        yield f"{kind} of type {packet.number(field)}: its octets"
     elif reason == "fragment" and kind == "frame":
         yield "frame: a fragment whose protocol or ports its first header has not: refused as fragment"
     elif reason == "fragment":
         yield f"{kind}: a fragment: refused as fragment, where tshark can put it together"
-    elif reason == "cut":
-        yield "cut by the capture: refused as cut, where tshark shows what is left"
-    elif reason == "checksum":
-        yield f"{kind} with a wrong checksum: refused as checksum, where tshark shows it"
+    elif reason == "cut" and packet.has(field) and packet.number(field) not in (0, 8, 128, 129):
+        yield f"{kind} that the capture cut: its first members are compared"
     elif kind == "dhcp":
-        yield "dhcp without a message type (BOOTP): refused as malformed"
-
-
-def known_of_messages(packet, kind):
-    if kind == "igmp" and packet.number("igmp.type") == 0x11 and packet.text("igmp.version") == "3":
-        yield "igmp: a query of version 3: listed by its first eight bytes"
-    if kind == "dhcp":
-        if len(packet.all("dhcp.option.router")) > 1:
-            yield "dhcp: several routers: left out"
-        if len(packet.all("dhcp.option.domain_name_server")) > 5:
-            yield "dhcp: DNS servers behind the fifth: left out"
-        for number in sorted({*packet.numbers("dhcp.option.type")} - DHCP_OPTIONS):
-            yield f"dhcp: option {number}: left out"
-    if kind == "icmp4" and packet.has("icmp.ext.version"):
-        yield "icmp4: extensions of an error: part of what it quotes"
-    if kind == "icmp6" and packet.number("icmpv6.type") == 134:
-        if packet.number("icmpv6.nd.ra.flag") & 0x3f:
-            yield "icmp6: flags of a router besides M and O: left out"
-        for number in sorted({*packet.numbers("icmpv6.opt.type")} - {1, 2, 3, 4, 5}):
-            yield f"icmp6: option {number} of neighbor discovery: left out"
+        yield "dhcp without the magic cookie (BOOTP): refused as malformed"
 
 
 def known_of_names(packet):
@@ -130,7 +212,8 @@ WANTED = {
     "icmpv6.type": {1, 2, 3, 4, 128, 129, 130, 131, 132, 133, 134, 135, 136, 137, 143},
     "dhcp.option.dhcp": {1, 2, 3, 5, 7}, "dns.qry.type": {1, 2, 5, 6, 12, 13, 15, 16, 28, 33, 35, 255, 257},
     "dns.resp.type": {1, 2, 5, 6, 12, 13, 15, 16, 28, 33, 35, 41, 44, 47, 52, 65, 257, 65280},
-    "udp.checksum.status": {0, 1, 3}, "vlan.id": {1, 7}, "ieee8021ad.id": {4094}, "ipv6.routing.type": {4},
+    "nbns.type": {10, 32, 33}, "udp.checksum.status": {0, 1, 3}, "vlan.id": {1, 7}, "ieee8021ad.id": {4094},
+    "ipv6.routing.type": {4},
 }
 
 
@@ -150,45 +233,56 @@ def counts_of(text):
     return {line.split("\t")[0]: line.split("\t")[1:] for line in text.splitlines()[1:]}
 
 
+def objects_of(program, capture):
+    """What the program prints in JSON, by the numbers of the packets; its status; and what of that does not read."""
+    ran = run(program, "--json", capture)
+    try:
+        return printed(ran.stdout), ran.returncode, None
+    except (ValueError, KeyError, TypeError) as error:
+        return {}, ran.returncode, f"{error}"
+
+
+def read_by_jq(program, capture):
+    """What jq reads otherwise of the objects, or None."""
+    ran = run(program, "--json", capture)
+    asked = subprocess.run(["jq", "--compact-output", "."], input=ran.stdout, capture_output=True, text=True)
+    return None if (asked.returncode, asked.stdout) == (0, ran.stdout) else asked.stderr or "it prints something else"
+
+
 def compare(program, capture, known, seen):
     """Compares a capture; gives the numbers of what agrees and of what differs."""
     with open(capture + ".fields", encoding="utf-8") as table:
-        packets = [expected.Packet(values) for values in fields.packets(table.read())]
-    ran = run(program, capture)
-    found, agree, differ = printed(ran.stdout), 0, 0
+        packets = [datagrams.Packet(values) for values in fields.packets(table.read())]
+    found, status, unread = objects_of(program, capture)
+    objects, left, agree, differ = list(found.values()), dict(found), 0, 0
     counts = {kind: collections.Counter() for kind in KINDS}
     for packet in packets:
         number = packet.text("frame.number")
         for name in WANTED:
             seen[name].update(packet.numbers(name))
-        wrong, kind, reason = difference(packet, found.pop(number, None) if number in found else None)
+        wrong, kind, reason = difference(packet, left.pop(number, None))
         if kind is not None:
             counts[kind][reason or "listed"] += 1
             counts[kind]["octets"] += packet.number("frame.cap_len")
         known.update(known_differences(packet, kind, reason))
         agree, differ = agree + (wrong is None), differ + (wrong is not None)
         if wrong is not None:
-            print(f"{capture}: packet {number}: {wrong}, but:")
-            print("".join("    " + line + "\n" for line in shown(ran.stdout, number)), end="")
+            print(f"{capture}: packet {number}: {wrong}, but:\n    {json.dumps(found.get(number))}")
     table = {kind: [str(counts[kind][column]) for column in ("listed",) + REASONS + ("octets",)] for kind in KINDS}
-    for text, holds in ((f"packets {list(found)} are printed, and not in the capture", not found),
-                        (f"the status is {ran.returncode}", ran.returncode == 0),
-                        (f"the counts are not {table}", counts_of(run(program, "--count", capture).stdout) == table)):
+    printed_table = counts_of(run(program, "--count", capture).stdout)
+    lines = same(objects, run(program, capture).stdout)
+    by_jq = read_by_jq(program, capture) if shutil.which("jq") else None
+    for text, holds in ((f"packets {list(left)} are printed, and not in the capture", not left),
+                        (f"the status is {status}", status == 0), (f"no JSON: {unread}", unread is None),
+                        (f"jq reads something else: {by_jq}", by_jq is None),
+                        (f"{lines}", lines is None),
+                        (f"the counts are not {table}, but {printed_table}", printed_table == table)):
         agree, differ = agree + holds, differ + (not holds)
         if not holds:
             print(f"{capture}: {text}")
     ours = sum(sum(count.values()) - count["octets"] for count in counts.values())
     print(f"{capture}: {len(packets)} packets, {ours} of control protocols, {differ} differences")
     return agree, differ
-
-
-def shown(text, number):
-    """What was printed of a packet."""
-    is_it = False
-    for line in text.splitlines():
-        is_it = line.split(" ")[0] == number if not line.startswith("  ") else is_it
-        if is_it:
-            yield line
 
 
 def main(words):
@@ -215,6 +309,8 @@ def main(words):
     print("What both programs see and read differently:")
     for text, count in sorted(known.items()):
         print(f"{count:6} {text}")
+    if not shutil.which("jq"):
+        print("There is no jq: that it reads each line of --json was not checked.")
     print(f"{passed} passed, {failed} failed")
     return 1 if failed else 0
 

@@ -1,349 +1,209 @@
-"""Listings of whole messages of DNS and of multicast DNS."""
-import base64
+"""Whole messages of DNS, multicast DNS, LLMNR and the NetBIOS name service, as items."""
+import struct
 
+import netbios
 from frames import Refused
-from text import be, colons, dotted, field, hexadecimal
+from items import BARE, KEYED, Cell, Entries, Entry, Field, named
+from text import be
+from zones import OPT, TOP, Part, class_text, generic_text, label, name, name_end, record_data, type_text
 
-FLAGS = ((0x8000, "qr"), (0x0400, "aa"), (0x0200, "tc"), (0x0100, "rd"), (0x0080, "ra"), (0x0020, "ad"), (0x0010, "cd"))
-CLASSES = {1: "IN", 3: "CH", 4: "HS", 254: "NONE", 255: "ANY"}
-TYPES = {
-    1: "A", 2: "NS", 3: "MD", 4: "MF", 5: "CNAME", 6: "SOA", 7: "MB", 8: "MG", 9: "MR", 12: "PTR", 13: "HINFO",
-    14: "MINFO", 15: "MX", 16: "TXT", 17: "RP", 18: "AFSDB", 21: "RT", 24: "SIG", 26: "PX", 28: "AAAA", 30: "NXT",
-    33: "SRV", 35: "NAPTR", 36: "KX", 39: "DNAME", 41: "OPT", 43: "DS", 44: "SSHFP", 46: "RRSIG", 47: "NSEC",
-    48: "DNSKEY", 50: "NSEC3", 52: "TLSA", 64: "SVCB", 65: "HTTPS", 99: "SPF", 251: "IXFR", 252: "AXFR", 255: "ANY",
-    257: "CAA",
+FLAGS = {0x8000: "qr", 0x0400: "aa", 0x0200: "tc", 0x0100: "rd", 0x0080: "ra", 0x0040: "z", 0x0020: "ad", 0x0010: "cd"}
+# Those of LLMNR (RFC 4795 section 2.1.1).
+LLMNR_FLAGS = {0x8000: "qr", 0x0400: "c", 0x0200: "tc", 0x0100: "t", 0x0080: "z1", 0x0040: "z2", 0x0020: "z3",
+               0x0010: "z4"}
+OPCODES = {0: "QUERY", 1: "IQUERY", 2: "STATUS", 4: "NOTIFY", 5: "UPDATE", 6: "DSO"}
+RCODES = {
+    0: "NOERROR", 1: "FORMERR", 2: "SERVFAIL", 3: "NXDOMAIN", 4: "NOTIMP", 5: "REFUSED", 6: "YXDOMAIN", 7: "YXRRSET",
+    8: "NXRRSET", 9: "NOTAUTH", 10: "NOTZONE", 11: "DSOTYPENI",
 }
-A, SOA, MX, TXT, AAAA, SRV, OPT = 1, 6, 15, 16, 28, 33, 41
-# The types whose data are a name: NS, MD, MF, CNAME, MB, MG, MR, PTR and DNAME.
-NAMED = (2, 3, 4, 5, 7, 8, 9, 12, 39)
-INTERNET = 1
-# The classes of records without data in an update (RFC 2136 section 2.5).
-UPDATED = (254, 255)
-# The bit of a class that multicast DNS takes for itself.
-TOP = 0x8000
+# What headers of other kinds have.
+HEADERS = {"llmnr": (LLMNR_FLAGS, OPCODES, RCODES), "nbns": (netbios.FLAGS, netbios.OPCODES, netbios.RCODES)}
+# The options of EDNS.
+EXTENSIONS = {
+    3: "nsid", 5: "dau", 6: "dhu", 7: "n3u", 8: "client-subnet", 9: "expire", 10: "cookie", 11: "tcp-keepalive",
+    12: "padding", 13: "chain", 14: "key-tag", 15: "extended-error", 18: "report-channel", 19: "zone-version",
+}
+# A query for what has the data of its answer (RFC 1035 section 6.4).
+INVERSE = 1
+ENTRY, ASKED_NAME, OWNER = Part("malformed"), Part("name"), Part("name", "the owner: ")
+OPTIONS = Part("malformed", "the options: ")
 
 
-class Part:
-    """A part of a message: the reason under which a check of it that fails is counted, and the words that stand before
-    the phrase of that check."""
-
-    def __init__(self, reason, words):
-        self.reason = reason
-        self.words = words
-
-    def accept(self, is_so, phrase):
-        if not is_so:
-            raise Refused(self.reason, "%s: %s" % (self.words, phrase))
-
-
-ASKED_NAME, OWNER = Part("name", "question"), Part("name", "the owner")
-DATA, NAME_IN_DATA = Part("malformed", "the data"), Part("name", "a name in the data")
-BEHIND_FIRST_NAME = Part("malformed", "the data: behind the first name")
-OPTIONS = Part("malformed", "the options")
-
-
-def listing(octets, is_multicast, lines):
-    """Appends the lines of a message, as far as it reads."""
+def message(octets, kind):
+    """The items of a message, and why the first of it is refused that is, or None."""
     if len(octets) < 12:
-        raise Refused("short", "fewer than 12 bytes")
+        why = "fewer than 12 bytes"
+        return [Field("refused", why), Field("octets", octets)], Refused("short", why)
+    found, at, refusals = [], 12, []
+    try:
+        for section, place in (("question", 4), ("answer", 6), ("authority", 8), ("additional", 10)):
+            for _ in range(be(octets[place:place + 2])):
+                at = entry(octets, at, section, kind, found, refusals)
+    except Refused as refused:
+        found.append(refused_entry(section, refused, Cell("octets", octets[at:])))
+        refusals.append(refused)
+    return header(octets, kind) + [Entries("entries", found)], refusals[0] if refusals else None
+
+
+def header(octets, kind):
     word = be(octets[2:4])
-    lines += [
-        field("transaction_id", be(octets[0:2])),
-        field("flags", ",".join(name for bit, name in FLAGS if word & bit) or "-"),
-        field("opcode", word >> 11 & 15), field("rcode", word & 15),
+    flags, opcodes, rcodes = HEADERS.get(kind, (FLAGS, OPCODES, RCODES))
+    return [
+        Field("transaction_id", be(octets[0:2])), Field("flags", [name for bit, name in flags.items() if word & bit]),
+        named("opcode", word >> 11 & 15, opcodes), named("rcode", word & 15, rcodes),
     ]
-    at = 12
-    for section, place in (("question", 4), ("answer", 6), ("authority", 8), ("additional", 10)):
-        for _ in range(be(octets[place:place + 2])):
-            if section == "question":
-                at, text = question(octets, at, is_multicast)
-                lines.append(field(section, text))
-            else:
-                at, of = record(octets, at, section)
-                if of.kind == OPT:
-                    extensions(octets, of, lines)
-                else:
-                    lines.append(field(section, record_text(octets, of, is_multicast)))
 
 
-# ---- names
-
-def label_end(octets, at, end, part):
-    """Where the label ends that begins there. The zero octet that ends a name counts as one, and so does a pointer."""
-    part.accept(at < end, "the name is cut")
-    length = octets[at]
-    part.accept(length < 64 or length >= 192, "a label that begins with byte %d is not read" % length)
-    behind = at + (2 if length >= 192 else 1 + length)
-    part.accept(behind <= end, "the name is cut")
-    return behind
-
-
-def name_end(octets, at, end, part):
-    """Where a name ends in its own place: behind whole labels and a zero octet or a pointer, which is not followed."""
-    while True:
-        behind = label_end(octets, at, end, part)
-        if octets[at] == 0 or octets[at] >= 192:
-            return behind
-        at = behind
+def entry(octets, at, section, kind, found, refusals):
+    """Adds the entry of the question or record at a place, and why it is refused, where it is; gives the place behind
+    it."""
+    of = record(octets, at, kind) if section != "question" else question(octets, at, kind)
+    try:
+        found.append(of.entry(octets, section))
+    except Refused as refused:
+        refusals.append(refused)
+        found.append(refused_entry(section, refused, *of.known(octets)))
+    else:
+        refusals += of.refusals
+    return of.end
 
 
-def labels(octets, at, end, part):
-    """The labels of a name. A pointer leads to what stands before the place that the last one led to, and the first one
-    anywhere in the message; what is read there ends before that place too."""
-    found, size, below, pointers = [], 1, len(octets), 0
-    while True:
-        behind = label_end(octets, at, end, part)
-        length = octets[at]
-        if length == 0:
-            break
-        if length >= 192:
-            place = be(octets[at:behind]) % 0x4000
-            part.accept(place < below, "a pointer to place %d leads nowhere or round" % place)
-            pointers += 1
-            part.accept(pointers <= 127, "the name follows more than 127 pointers")
-            at, end, below = place, below, place
-            continue
-        found.append(octets[at + 1:behind])
-        size += 1 + length
-        # The limit of RFC 1035 section 2.3.4.
-        part.accept(size <= 255, "the name has more than 255 octets")
-        at = behind
-    return found
-
-
-def character(octet):
-    if chr(octet) in '"$().;@\\':
-        return "\\" + chr(octet)
-    return chr(octet) if 33 <= octet <= 126 else "\\%03d" % octet
-
-
-def name(octets, at, end, part):
-    return "".join("".join(map(character, label)) + "." for label in labels(octets, at, end, part)) or "."
+def refused_entry(section, refused, *cells):
+    return Entry(("section", section), ("status", "refused"), Cell("why", refused.phrase), *cells)
 
 
 # ---- questions and records
 
-def class_text(number):
-    return CLASSES.get(number, "CLASS%d" % number)
-
-
-def type_text(number):
-    return TYPES.get(number, "TYPE%d" % number)
-
-
-def fields_end(octets, at, length, entry):
+def fields_end(octets, at, length):
     """Where the name of a question or record ends, and so many octets of fields behind it."""
-    end = name_end(octets, at, len(octets), entry)
-    entry.accept(len(octets) >= end + length, "the fields behind the name are cut")
+    end = name_end(octets, at, len(octets), ENTRY)
+    ENTRY.accept(len(octets) >= end + length, "the fields behind the name are cut")
     return end, end + length
 
 
-def question(octets, at, is_multicast):
-    end, behind_fields = fields_end(octets, at, 4, Part("malformed", "question"))
-    kind, of_class = be(octets[end:end + 2]), be(octets[end + 2:end + 4])
-    owner = name(octets, at, end, ASKED_NAME)
-    behind = " ; unicast-response" if is_multicast and of_class & TOP else ""
-    if is_multicast:
-        of_class %= TOP
-    return behind_fields, "%s %s %s%s" % (owner, class_text(of_class), type_text(kind), behind)
+class Question:
+    """A question: of which kind of message it is, where its name stands in that, its numbers, and where it ends."""
 
-
-class Record:
-    """A record: its owner's name as text, its numbers, and where its data stand in the message."""
-
-    def __init__(self, owner, kind, of_class, ttl, start, end):
-        self.owner = owner
+    def __init__(self, message_kind, place, kind, of_class, end):
+        self.is_multicast = message_kind == "mdns"
+        self.is_netbios = message_kind == "nbns"
+        self.place = place
         self.kind = kind
         self.of_class = of_class
+        self.end = end
+        self.refusals = []
+
+    def name(self, octets, part):
+        """The text of the name."""
+        return name(octets, *self.place, part, netbios.name if self.is_netbios else None)
+
+    def has_mark(self):
+        return self.is_multicast and self.of_class & TOP
+
+    def class_number(self):
+        return self.of_class % TOP if self.is_multicast else self.of_class
+
+    def class_cell(self, shown):
+        return Cell("class", class_text(self.class_number()), shown)
+
+    def type_cell(self, shown):
+        of_netbios = netbios.TYPES.get(self.kind) if self.is_netbios else None
+        return Cell("type", of_netbios or type_text(self.kind), shown)
+
+    def marks(self):
+        return [Cell("unicast_response", True)] if self.has_mark() else []
+
+    def entry(self, octets, section):
+        return Entry(("section", section), ("name", self.name(octets, ASKED_NAME)), self.class_cell(BARE),
+                     self.type_cell(BARE), *self.marks())
+
+    def known(self, octets):
+        """What is told of one whose name does not read."""
+        return [Cell("name_octets", octets[slice(*self.place)]), self.class_cell(KEYED), self.type_cell(KEYED),
+                *self.marks()]
+
+
+def question(octets, at, message_kind):
+    end, behind = fields_end(octets, at, 4)
+    return Question(message_kind, (at, end), be(octets[end:end + 2]), be(octets[end + 2:behind]), behind)
+
+
+class Record(Question):
+    """A record: also its time to live in seconds, and where its data begin, which end it."""
+
+    def __init__(self, message_kind, place, kind, of_class, end, ttl, start):
+        super().__init__(message_kind, place, kind, of_class, end)
         self.ttl = ttl
         self.start = start
-        self.end = end
+        # The class of OPT is a size, of all bits.
+        self.is_multicast = self.is_multicast and kind != OPT
+
+    def marks(self):
+        return [Cell("cache_flush", True)] if self.has_mark() else []
+
+    def entry(self, octets, section):
+        owner, own = self.name(octets, OWNER), octets[self.start:self.end]
+        if self.kind == OPT and not self.is_netbios:
+            return Entry(("section", section), ("name", owner), self.type_cell(BARE), *self.extensions(own))
+        return Entry(("section", section), ("name", owner), Cell("ttl", self.ttl, BARE), self.class_cell(BARE),
+                     self.type_cell(BARE), *self.data(octets, section, own), *self.marks())
+
+    def data(self, octets, section, own):
+        """The cells of the data, which are cut where they tell why."""
+        word = be(octets[2:4])
+        opcode = word >> 11 & 15
+        if self.is_netbios:
+            cells, why = netbios.data(self.kind, opcode, own, label) or ([generic(own)], None)
+            return cells + self.cut(own, why)
+        if section == "answer" and opcode == INVERSE and not word & TOP and not own:
+            return [generic(own)]
+        return [Cell("data", record_data(octets, self, self.class_number()), BARE)]
+
+    def cut(self, own, why):
+        """Why data are cut, where they are, and their octets."""
+        if why is None:
+            return []
+        self.refusals.append(Refused("malformed", why))
+        return [Cell("why", why), Cell("octets", own)]
+
+    def known(self, octets):
+        try:
+            owner = Cell("name", self.name(octets, OWNER))
+        except Refused:
+            owner = Cell("name_octets", octets[slice(*self.place)])
+        return [owner, Cell("ttl", self.ttl), self.class_cell(KEYED), self.type_cell(KEYED),
+                Cell("octets", octets[self.start:self.end]), *self.marks()]
+
+    def extensions(self, own):
+        """What OPT says of its sender, and its options (RFC 6891 section 6.1), those before one that is cut too."""
+        flags, left, texts, why = self.ttl & 65535, own, [], None
+        try:
+            while left:
+                text, left = extension(left)
+                texts.append(text)
+        except Refused as refused:
+            why = refused.phrase
+        reserved = [Cell("reserved_flags", flags % TOP)] if flags % TOP else []
+        return [Cell("udp_size", self.of_class), Cell("extended_rcode", self.ttl >> 24),
+                Cell("version", self.ttl >> 16 & 255), Cell("flags", ["do"] if flags & TOP else []),
+                Cell("options", texts)] + reserved + self.cut(own, why)
 
 
-def record(octets, at, section):
-    entry = Part("malformed", section)
-    end, start = fields_end(octets, at, 10, entry)
-    data_end = start + be(octets[end + 8:start])
-    entry.accept(len(octets) >= data_end, "the data is cut")
-    of = Record(name(octets, at, end, OWNER), be(octets[end:end + 2]), be(octets[end + 2:end + 4]),
-                be(octets[end + 4:end + 8]), start, data_end)
-    return of.end, of
+def extension(data):
+    """The option at the front of the data, and what stands behind it."""
+    OPTIONS.accept(len(data) >= 4, "the code and the length are cut")
+    code, end = be(data[0:2]), 4 + be(data[2:4])
+    OPTIONS.accept(len(data) >= end, "the data of the option is cut")
+    return "%s:%s" % (EXTENSIONS.get(code, code), data[4:end].hex()), data[end:]
 
 
-def record_text(octets, of, is_multicast):
-    behind = " ; cache-flush" if is_multicast and of.of_class & TOP else ""
-    of_class = of.of_class % TOP if is_multicast else of.of_class
-    data = record_data(octets, of, of_class)
-    return "%s %d %s %s %s%s" % (of.owner, of.ttl, class_text(of_class), type_text(of.kind), data, behind)
+def record(octets, at, message_kind):
+    end, start = fields_end(octets, at, 10)
+    kind, of_class, ttl, length = struct.unpack(">HHIH", octets[end:start])
+    ENTRY.accept(len(octets) >= start + length, "the data is cut")
+    return Record(message_kind, (at, end), kind, of_class, start + length, ttl, start)
 
 
-def record_data(octets, of, of_class):
-    """The data of a record in a zone file (RFC 1035 section 5.1)."""
-    start, end = of.start, of.end
-    data = octets[start:end]
-    if not data and of_class in UPDATED:
-        return "\\# 0"
-    if of.kind == A and of_class == INTERNET:
-        DATA.accept(len(data) == 4, "the address has other than 4 bytes")
-        return dotted(data)
-    if of.kind == AAAA and of_class == INTERNET:
-        DATA.accept(len(data) == 16, "the address has other than 16 bytes")
-        return colons(data)
-    if of.kind in NAMED:
-        return last_name(octets, start, end)
-    if of.kind in (MX, SRV):
-        count = 1 if of.kind == MX else 3
-        DATA.accept(len(data) >= 2 * count, "the numbers in front of the name are cut")
-        numbers = [str(be(data[2 * i:2 * i + 2])) for i in range(count)]
-        return " ".join(numbers + [last_name(octets, start + 2 * count, end)])
-    if of.kind == SOA:
-        return authority(octets, start, end)
-    if of.kind == TXT:
-        return " ".join(strings(data))
-    if of.kind in FORMS:
-        return fields(octets, start, end, *FORMS[of.kind])
-    return " ".join(["\\#", str(len(data))] + ([data.hex()] if data else []))
-
-
-def last_name(octets, start, end):
-    """A name that fills the data."""
-    DATA.accept(name_end(octets, start, end, DATA) == end, "bytes stand behind the name")
-    return name(octets, start, end, NAME_IN_DATA)
-
-
-def authority(octets, start, end):
-    """Two names, and five numbers (RFC 1035 section 3.3.13). No pointer is followed before all three stand there."""
-    second = name_end(octets, start, end, DATA)
-    numbers = name_end(octets, second, end, BEHIND_FIRST_NAME)
-    DATA.accept(end - numbers == 20, "the numbers behind the names have other than 20 bytes")
-    both = [name(octets, start, second, NAME_IN_DATA), name(octets, second, numbers, NAME_IN_DATA)]
-    return " ".join(both + [str(be(octets[numbers + at:numbers + at + 4])) for at in range(0, 20, 4)])
-
-
-def strings(data):
-    """Strings in quotes, one at least (RFC 1035 section 3.3.14)."""
-    DATA.accept(data, "there is no string")
-    found = []
-    while data:
-        text, data = first_string(data)
-        found.append(text)
-    return found
-
-
-def first_string(data):
-    """The string at the front of the data, in quotes, and what stands behind it."""
-    DATA.accept(data and len(data) >= 1 + data[0], "a string is cut")
-    return '"%s"' % "".join(map(string_character, data[1:1 + data[0]])), data[1 + data[0]:]
-
-
-def string_character(octet):
-    if chr(octet) in '"\\':
-        return "\\" + chr(octet)
-    return chr(octet) if 32 <= octet <= 126 else "\\%03d" % octet
-
-
-# ---- data with fields in front of one name or two and behind them
-
-def no_numbers(data):
-    return [], data
-
-
-def take_numbers(data, *sizes):
-    """Numbers of so many octets each at the front of the data, and what stands behind them."""
-    DATA.accept(len(data) >= sum(sizes), "the numbers in front of the name are cut")
-    found = []
-    for size in sizes:
-        found.append(be(data[:size]))
-        data = data[size:]
-    return found, data
-
-
-def one_number(data):
-    found, data = take_numbers(data, 2)
-    return [str(found[0])], data
-
-
-def rule(data):
-    """An order, a preference, the flags, the services and the regular expression (RFC 3403 section 4.1)."""
-    found, data = take_numbers(data, 2, 2)
-    words = [str(number) for number in found]
-    for _ in range(3):
-        text, data = first_string(data)
-        words.append(text)
-    return words, data
-
-
-def signed(data):
-    """What a signature is of (RFC 2535 section 4.1); times are seconds since 1970 (RFC 4034 section 3.2)."""
-    (covered, *others), data = take_numbers(data, 2, 1, 1, 4, 4, 4, 2)
-    return [type_text(covered)] + [str(number) for number in others], data
-
-
-def nothing(data):
-    DATA.accept(not data, "bytes stand behind the name")
-    return []
-
-
-def signature(data):
-    return [base64.b64encode(data).decode()]
-
-
-def one_map(data):
-    """The types of a map of the first 128 of them. The bit of type 0 tells of another form (RFC 2535 section 5.2)."""
-    DATA.accept(len(data) <= 16 and not (data and data[0] & 0x80), "the type bit maps are malformed")
-    return types_of_map(0, data)
-
-
-def all_maps(data):
-    """The types of maps, each behind the upper octet of its types and its length (RFC 4034 section 4.1.2)."""
-    found = []
-    while data:
-        is_whole = len(data) >= 2 and 1 <= data[1] <= 32 and len(data) >= 2 + data[1]
-        DATA.accept(is_whole, "the type bit maps are malformed")
-        found += types_of_map(256 * data[0], data[2:2 + data[1]])
-        data = data[2 + data[1]:]
-    return found
-
-
-def types_of_map(first, octets):
-    return [type_text(first + at) for at in range(8 * len(octets)) if octets[at // 8] & 0x80 >> at % 8]
-
-
-# Of each type what stands in front of the names, how many names there are, and what stands behind them.
-FORMS = {
-    14: (no_numbers, 2, nothing),  # MINFO (RFC 1035 section 3.3.7)
-    17: (no_numbers, 2, nothing),  # RP (RFC 1183 section 2.2)
-    18: (one_number, 1, nothing),  # AFSDB (RFC 1183 section 1)
-    21: (one_number, 1, nothing),  # RT (RFC 1183 section 3.3)
-    24: (signed, 1, signature),  # SIG (RFC 2535 section 4.1)
-    26: (one_number, 2, nothing),  # PX (RFC 2163 section 4)
-    30: (no_numbers, 1, one_map),  # NXT (RFC 2535 section 5.2)
-    35: (rule, 1, nothing),  # NAPTR (RFC 3403 section 4.1)
-    36: (one_number, 1, nothing),  # KX (RFC 2230 section 3)
-    47: (no_numbers, 1, all_maps),  # NSEC (RFC 4034 section 4.1)
-}
-
-
-def fields(octets, start, end, front, count, behind):
-    """Data of such a form. No pointer is followed before all of it stands there."""
-    words, left = front(octets[start:end])
-    ends = [end - len(left)]
-    for part in (DATA, BEHIND_FIRST_NAME)[:count]:
-        ends.append(name_end(octets, ends[-1], end, part))
-    last = behind(octets[ends[-1]:end])
-    return " ".join(words + [name(octets, *place, NAME_IN_DATA) for place in zip(ends, ends[1:])] + last)
-
-
-def extensions(octets, of, lines):
-    """Adds the lines of OPT (RFC 6891 section 6.1), those before an option that is cut too."""
-    lines += [
-        field("opt.udp_size", of.of_class), field("opt.extended_rcode", of.ttl >> 24),
-        field("opt.version", of.ttl >> 16 & 255), field("opt.flags", of.ttl & 65535),
-    ]
-    data = octets[of.start:of.end]
-    while data:
-        OPTIONS.accept(len(data) >= 4, "the code and the length are cut")
-        code, length = be(data[0:2]), be(data[2:4])
-        OPTIONS.accept(len(data) >= 4 + length, "the data of the option is cut")
-        lines.append(field("opt.option", "%d %s" % (code, hexadecimal(data[4:4 + length]))))
-        data = data[4 + length:]
+def generic(data):
+    """Data of no known layout (RFC 3597 section 5)."""
+    return Cell("data", generic_text(data), BARE)

@@ -1,5 +1,6 @@
-"""Frames of links, datagrams of IP, and UDP: what their headers say, and what is told of those that are refused."""
-from text import address, be, is_good, pseudo_sum
+"""Frames of links and datagrams of IP: what their headers say, and what is told of those that are refused."""
+from items import Field
+from text import address, be
 
 ETHERTYPES = {0x0800: 4, 0x86DD: 6}
 PPP_PROTOCOLS = {0x0021: 4, 0x0057: 6}
@@ -14,7 +15,7 @@ PACKET = 9
 TAGS = (0x8100, 0x88A8)
 SESSION = 0x8864
 
-ICMP4, IGMP, UDP, ICMP6 = 1, 2, 17, 58
+ICMP4, IGMP, TCP, UDP, ICMP6 = 1, 2, 6, 17, 58
 HOP_BY_HOP, ROUTE, FRAGMENT, DESTINATION_OPTIONS = 0, 43, 44, 60
 EXTENSIONS = (HOP_BY_HOP, ROUTE, DESTINATION_OPTIONS)
 
@@ -34,6 +35,10 @@ class Refused(Exception):
         super().__init__(phrase)
         self.reason = reason
         self.phrase = phrase
+
+    def fields(self):
+        """The item that tells the phrase, where there is one."""
+        return [Field("refused", self.phrase)] if self.phrase else []
 
 
 # ---- links
@@ -188,8 +193,8 @@ LINKS = {
 # ---- datagrams
 
 class Datagram:
-    """A datagram: its addresses, the protocol of its payload, and the octets of hop-by-hop options or None. What is
-    known of a refused one has None for what is not."""
+    """A datagram: its addresses, the protocol of its payload, the octets of hop-by-hop options or None; and how many
+    octets are missing of a refused one whose headers are there, but not all of its payload."""
 
     def __init__(self, source, destination, protocol_number, payload, hop_by_hop=None):
         self.source = source
@@ -197,6 +202,7 @@ class Datagram:
         self.protocol = protocol_number
         self.payload = payload
         self.hop_by_hop = hop_by_hop
+        self.missing = 0
 
 
 FIXED = "fewer bytes than the fixed header has"
@@ -358,8 +364,11 @@ def known4(octets):
     # A total length of 0 is that of a datagram whose segmentation was left to a network card.
     if header_len < 20 or 0 < total_len < header_len:
         return None
-    later = be(octets[6:8]) & 0x1FFF
-    return Datagram(octets[12:16], octets[16:20], octets[9], b"" if later else octets[header_len:])
+    fragment = be(octets[6:8]) & 0x3FFF
+    of = Datagram(octets[12:16], octets[16:20], octets[9], b"" if fragment & 0x1FFF else octets[header_len:])
+    if total_len and not fragment and len(octets) >= header_len:
+        of.missing = total_len - len(octets)
+    return of
 
 
 def known6(octets):
@@ -374,7 +383,8 @@ def known6(octets):
         return None if len(octets) >= total_len else Datagram(octets[8:24], octets[24:40], octets[6], b"")
     if isinstance(of, Fragment):
         return Datagram(of.source, of.destination, of.protocol, b"")
-    return Datagram(of.source, of.destination, of.protocol, of.payload)
+    of.missing = total_len - len(octets)
+    return of
 
 
 # ---- UDP
@@ -386,24 +396,14 @@ def ports(payload):
     return be(payload[0:2]), be(payload[2:4])
 
 
-def udp(of):
-    """The data of a datagram of UDP (RFC 768)."""
-    octets = of.payload
+def udp_length(octets):
+    """The length that a datagram of UDP states (RFC 768)."""
     if len(octets) < 8:
         raise Refused("short", "fewer than 8 bytes")
     length = be(octets[4:6])
     # In a jumbogram a length of 0 is that of all (RFC 2675 section 4).
     if length == 0 and len(octets) > 65535:
-        length = len(octets)
+        return len(octets)
     if length < 8:
         raise Refused("short", "a length of %d is below 8" % length)
-    if len(octets) < length:
-        raise Refused("short", "fewer than its %d bytes" % length)
-    if be(octets[2:4]) == 0:
-        raise Refused("malformed", "the destination port is 0")
-    if octets[6:8] == b"\0\0":
-        if len(of.source) != 4:
-            raise Refused("checksum", "no checksum over IPv6")
-    elif not is_good(octets[:length], pseudo_sum(of.source, of.destination, UDP, length)):
-        raise Refused("checksum", "the checksum does not hold")
-    return octets[8:length]
+    return length

@@ -1,10 +1,10 @@
-"""What wiredump prints of a line: its manual and the RFCs again, by the listings that pcapdump has too."""
+"""What wiredump prints of a line: its manual and the RFCs again."""
 import re
 
-import dns
-from frames import ICMP6, Datagram, Refused
-from messages import (ERRORS4, ERRORS6, HEADERS6, LISTENERS, dhcp, hop_by_hop, icmp4, icmp6, igmp, neighbor_options,
-                      number, packet6, prefix, unknown)
+import zones
+from frames import Refused
+from listings import (ERRORS4, ERRORS6, HEADERS6, LISTENERS, dhcp, hop_by_hop, icmp4, icmp6, igmp, neighbor_options,
+                      number, packet6, prefix, refuse, unknown)
 from text import be, dotted, field, hexadecimal
 
 # A word of more octets makes a bad line.
@@ -43,7 +43,7 @@ def listing(words):
             raise Bad
         return name(packet, int(offset[1]))
     if len(words) == 4 and words[0] == b"icmp6":
-        return icmp6(Datagram(octets(words[1], ADDRESS), octets(words[2], ADDRESS), ICMP6, packet), error6)
+        return icmp6(octets(words[1], ADDRESS), octets(words[2], ADDRESS), packet, error6)
     raise Bad
 
 
@@ -51,11 +51,6 @@ def octets(word, form):
     if not form.fullmatch(word):
         raise Bad
     return bytes.fromhex(word.decode().strip("-"))
-
-
-def refuse(is_so):
-    if is_so:
-        raise Refused("malformed", "")
 
 
 def error4(kind, message):
@@ -100,13 +95,13 @@ def neighbor_option(packet):
     return [number("Mtu", block, 4, 4)] if kind == 5 else unknown(block)
 
 
-NAME = dns.Part("name", "the name")
+NAME = zones.Part("name")
 
 
 def question(packet):
     """A question of the Internet's class (RFC 1035 section 4.1.2)."""
-    end = dns.name_end(packet, 0, len(packet), NAME)
-    refuse(len(packet) < end + 4 or be(packet[end + 2:end + 4]) != dns.INTERNET)
+    end = zones.name_end(packet, 0, len(packet), NAME)
+    refuse(len(packet) < end + 4 or be(packet[end + 2:end + 4]) != zones.INTERNET)
     return [field("name", packet[:end].hex()), number("type_", packet, end, 2), field("rest", len(packet) - end - 4)]
 
 
@@ -116,7 +111,7 @@ def name(message, at):
     lines, steps, end, below, ending = [], 0, len(message), len(message), "error"
     try:
         while ending == "error":
-            behind = dns.label_end(message, at, end, NAME)
+            behind = zones.label_end(message, at, end, NAME)
             if message[at] == 0:
                 ending = "end"
             elif message[at] < 64:
@@ -131,11 +126,7 @@ def name(message, at):
     return lines + ["%s steps=%d" % (ending, steps)]
 
 
-def of_payload(show, *more):
-    return lambda packet: show(Datagram(None, None, None, packet), *more)
-
-
 COMMANDS = {
-    b"hbh": hop_by_hop, b"icmp4": of_payload(icmp4, error4), b"igmp": of_payload(igmp), b"mld": mld,
+    b"hbh": hop_by_hop, b"icmp4": lambda packet: icmp4(packet, error4), b"igmp": igmp, b"mld": mld,
     b"ndopt": neighbor_option, b"dhcp": dhcp, b"question": question,
 }

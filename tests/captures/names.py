@@ -1,6 +1,8 @@
-"""What pcapdump is to print of a message of DNS, told by the fields that tshark has of it; see expected.py."""
+"""What pcapdump --json is to print of a message of DNS, multicast DNS, LLMNR or the NetBIOS name service, told by the
+fields that tshark has of it; see expected.py."""
 
 import re
+import socket
 
 TYPES = {1: "A", 2: "NS", 3: "MD", 4: "MF", 5: "CNAME", 6: "SOA", 7: "MB", 8: "MG", 9: "MR", 12: "PTR", 13: "HINFO",
          14: "MINFO", 15: "MX", 16: "TXT", 17: "RP", 18: "AFSDB", 21: "RT", 24: "SIG", 26: "PX", 28: "AAAA",
@@ -8,7 +10,10 @@ TYPES = {1: "A", 2: "NS", 3: "MD", 4: "MF", 5: "CNAME", 6: "SOA", 7: "MB", 8: "M
          48: "DNSKEY", 50: "NSEC3", 52: "TLSA", 64: "SVCB", 65: "HTTPS", 99: "SPF", 251: "IXFR", 252: "AXFR",
          255: "ANY", 257: "CAA"}
 CLASSES = {1: "IN", 3: "CH", 4: "HS", 254: "NONE", 255: "ANY"}
-FLAGS = ((0x8000, "qr"), (0x0400, "aa"), (0x0200, "tc"), (0x0100, "rd"), (0x0080, "ra"), (0x0020, "ad"), (0x0010, "cd"))
+FLAGS = ((0x8000, "qr"), (0x0400, "aa"), (0x0200, "tc"), (0x0100, "rd"), (0x0080, "ra"), (0x0040, "z"), (0x0020, "ad"),
+         (0x0010, "cd"))
+LLMNR_FLAGS = ((0x8000, "qr"), (0x0400, "c"), (0x0200, "tc"), (0x0100, "t"), (0x0080, "z1"), (0x0040, "z2"),
+               (0x0020, "z3"), (0x0010, "z4"))
 OPT, NSEC = 41, 47
 
 # The classes of records without data in an update (RFC 2136 section 2.5).
@@ -30,9 +35,6 @@ SHAPES = {
     35: f"{A_NUMBER} {A_NUMBER}( {A_STRING}){{3}} {A_NAME}",
 }
 
-# The types whose data `unescaped` leaves as they are; so it does those of NSEC outside of multicast DNS.
-KEPT = [TYPES[number] for number in (16, *SHAPES)]
-
 # The types whose data pcapdump tells, and OPT, which is no record of the zone.
 TOLD = (1, 2, 5, 6, 12, 15, 16, 28, 33, OPT, NSEC, *SHAPES)
 
@@ -42,21 +44,42 @@ SECTIONS = (("answer", "answers", "prerequisites"), ("authority", "auth_rr", "up
 # Why there is no name: no label begins with a byte of 64 to 191.
 NO_NAME = r"the name is cut|a label that begins with byte (6[4-9]|[7-9]\d|1[0-8]\d|19[01]) is not read"
 # Why there is no question or record where one should begin; of a question no data are cut.
-NO_QUESTION = NO_NAME + "|the fields behind the name are cut"
-NO_RECORD = NO_QUESTION + "|the data is cut"
-# Why data are not laid out as the type of their record has it.
-NO_LAYOUT = "|".join((
-    NO_NAME, f"behind the first name: ({NO_NAME})", "bytes stand behind the name",
-    "the numbers in front of the name are cut", "the numbers behind the names have other than 20 bytes",
-    "the address has other than (4|16) bytes", "there is no string", "a string is cut",
-    "the type bit maps are malformed"))
-# Why the data of a record that is there do not read.
-NO_DATA = f"the data: ({NO_LAYOUT})|the options: (the code and the length are cut|the data of the option is cut)"
+NO_RECORD = NO_NAME + "|the fields behind the name are cut|the data is cut"
+OCTETS = re.compile("([0-9a-f]{2})*")
+
+
+class Name(str):
+    """A name that is compared as its characters are, without the backslashes of a zone file."""
+
+    def agrees(self, found):
+        return re.sub(r"\\(\d{3}|.)", character, found) == self
+
+
+def character(escape):
+    return chr(int(escape[1])) if escape[1].isdigit() else escape[1]
+
+
+class Data:
+    """Data of a record as a pattern, of the text as it is or without the backslashes of names."""
+
+    def __init__(self, pattern):
+        self.pattern = pattern
+
+    def agrees(self, found):
+        plain = re.sub(r"\\(\d{3}|.)", character, found) if not found.startswith("\\#") else found
+        return any(re.fullmatch(self.pattern, text) for text in (found, plain))
+
+    def __repr__(self):
+        return repr(self.pattern)
 
 
 def name(text):
-    """A name as it stands behind `unescaped`: tshark writes a label's characters as they are, and no last dot."""
-    return "." if text == "<Root>" else text + "."
+    """A name: tshark writes a label's characters as they are, and no last dot."""
+    return Name("." if text == "<Root>" else text + ".")
+
+
+def hexadecimal(address):
+    return socket.inet_pton(socket.AF_INET6, address).hex()
 
 
 def type_name(number):
@@ -65,19 +88,6 @@ def type_name(number):
 
 def class_name(number):
     return CLASSES.get(number, f"CLASS{number}")
-
-
-def unescaped(line, kind):
-    """A line of pcapdump with the characters of its names as they are, so that it can be compared. Strings of TXT stay
-    as they are written, and so do data that are compared by their shape, of which a name is one word."""
-    words = line.split(" ")
-    is_kept = len(words) > 4 and words[3] in (KEPT if kind == "mdns" else KEPT + [type_name(NSEC)])
-    return " ".join(word if word == "\\#" or is_kept and at > 0 else re.sub(r"\\(\d{3}|.)", character, word)
-                    for at, word in enumerate(words))
-
-
-def character(escape):
-    return chr(int(escape[1])) if escape[1].isdigit() else escape[1]
 
 
 def string(text):
@@ -145,50 +155,51 @@ class Records:
         return re.escape(f"\\# {length}") + (" [0-9a-f]{%d}" % (2 * length) if length else "")
 
     def options(self, length):
-        """The lines of a record of type OPT."""
-        flags = int(self.next("resp.z"), 0)
-        lines = [f'opt.udp_size={int(self.next("rr.udp_payload_size"), 0)}',
-                 f'opt.extended_rcode={int(self.next("resp.ext_rcode"), 0)}',
-                 f'opt.version={self.next("resp.edns0_version")}', f"opt.flags={flags}"]
+        """What an OPT record says."""
+        bits = int(self.next("resp.z"), 0)
+        told = {"udp_size": int(self.next("rr.udp_payload_size"), 0),
+                "extended_rcode": int(self.next("resp.ext_rcode"), 0),
+                "version": int(self.next("resp.edns0_version")), "flags": ["do"] if bits & 0x8000 else [],
+                "options": []}
         while length > 0:
             code, count, data = self.next("opt.code"), int(self.next("opt.len")), self.next("opt.data")
-            lines.append(f'opt.option={code} {data if count else "-"}')
+            told["options"].append(re.compile(f"({code}|[a-z][a-z0-9-]+):{data if count else ''}"))
             length -= 4 + count
-        return [re.escape(line) for line in lines]
+        return {**told, "reserved_flags": bits % 0x8000} if bits % 0x8000 else told
 
-    def lines(self, section):
-        """The lines of the next record."""
+    def entry(self, section):
+        """The next record."""
         number, length = self.type(), int(self.next("resp.len"))
         owner = self.owner(number)
         types = self.types_of_data() if number == NSEC else []
+        front = {"section": section, "name": owner}
         if number == OPT:
-            return self.options(length)
+            return {**front, "type": "OPT", **self.options(length)}
         is_multicast = "dns.resp.cache_flush" in self.lists
         is_flushed = is_multicast and self.next("resp.cache_flush") == "1"
-        its_class, ttl = int(self.next("resp.class"), 0), self.next("resp.ttl")
-        front = f"{section}={owner} {ttl} {class_name(its_class)} {type_name(number)} "
+        its_class, ttl = int(self.next("resp.class"), 0), int(self.next("resp.ttl"))
         if number == NSEC and length > 0:
             # In multicast DNS the next name is the record's own (RFC 6762 section 6.1).
             data = re.escape(owner) if is_multicast else A_NAME
             data += re.escape("".join(" " + type_name(its_type) for its_type in types))
         else:
             data = self.data(number, its_class, length)
-        return [re.escape(front) + data + (" ; cache-flush" if is_flushed else "")]
+        told = {**front, "ttl": ttl, "class": class_name(its_class), "type": type_name(number), "data": Data(data)}
+        return {**told, "cache_flush": True} if is_flushed else told
 
 
 def questions(packet):
     bits = packet.all("dns.qry.qu") or ["0"] * len(packet.all("dns.qry.name"))
     for text, number, its_class, bit in zip(packet.all("dns.qry.name"), packet.numbers("dns.qry.type"),
                                             packet.numbers("dns.qry.class"), bits):
-        yield re.escape(f"question={name(text)} {class_name(its_class)} {type_name(number)}") + (
-            " ; unicast-response" if bit == "1" else "")
+        told = {"section": "question", "name": name(text), "class": class_name(its_class), "type": type_name(number)}
+        yield {**told, "unicast_response": True} if bit == "1" else told
 
 
-def header(packet):
-    flags = packet.number("dns.flags")
-    told = ",".join(text for bit, text in FLAGS if flags & bit) or "-"
-    return [re.escape(line) for line in (f"transaction_id={packet.number('dns.id')}", f"flags={told}",
-                                         f"opcode={flags >> 11 & 15}", f"rcode={flags & 15}")]
+def header(packet, protocol, flags):
+    word = packet.number(protocol + ".flags")
+    return {"transaction_id": packet.number(protocol + ".id"), "flags": [text for bit, text in flags if word & bit],
+            "opcode": word >> 11 & 15, "rcode": word & 15}
 
 
 def total(packet, names_of):
@@ -201,26 +212,75 @@ def sections(packet):
     return [section for section, *names_of in SECTIONS for _ in range(total(packet, names_of))]
 
 
-def message(packet):
-    """The patterns of the lines of a message."""
-    lines, records = header(packet) + list(questions(packet)), Records(packet)
-    for section in sections(packet):
-        lines += records.lines(section)
-    return lines
+def broken(section):
+    """Where a question or record does not begin: the last entry."""
+    return {"section": section, "status": "refused", "why": re.compile(NO_RECORD), "octets": OCTETS}
 
 
-def front(packet):
-    """The patterns of the lines of a message that ends too early, and of the line that tells why behind them: tshark
-    has no lengths of the data behind the end."""
-    lines, records = header(packet) + list(questions(packet)), Records(packet)
-    if len(packet.all("dns.qry.name")) < total(packet, ("queries", "zones")):
-        return lines + [f"refused=question: ({NO_QUESTION})"]
+def message(packet, missing):
+    """The members of a message. One that ends too early has a last entry that says so; behind it tshark tells
+    nothing."""
+    if packet.number("udp.length") - 8 - missing < 12:
+        return {"refused": "fewer than 12 bytes", "octets": OCTETS}
+    flags = LLMNR_FLAGS if "llmnr" in packet.protocols else FLAGS
+    entries, records = list(questions(packet)), Records(packet)
+    told = {**header(packet, "dns", flags), "entries": entries}
+    if len(entries) < total(packet, ("queries", "zones")):
+        entries.append(broken("question"))
+        return told
     for section in sections(packet):
-        why = f"refused=({section}: ({NO_RECORD})|{NO_DATA})"
-        if not records.lists.get("dns.resp.type") or not records.lists.get("dns.resp.len"):
-            return lines + [why]
         try:
-            lines += records.lines(section)
+            entries.append(records.entry(section))
         except LookupError:
-            return lines + [why]
-    return lines + [f"refused=({NO_DATA})"]
+            # The data of the last one may be there in part, or there is none.
+            entries.append(broken(section))
+            break
+    return told
+
+
+# ---- the NetBIOS name service (RFC 1002)
+
+NETBIOS_FLAGS = ((0x8000, "qr"), (0x0400, "aa"), (0x0200, "tc"), (0x0100, "rd"), (0x0080, "ra"), (0x0040, "z1"),
+                 (0x0020, "z2"), (0x0010, "b"))
+NETBIOS_TYPES = {10: "NULL", 32: "NB", 33: "NBSTAT"}
+NODES = ("b-node", "p-node", "m-node", "h-node")
+STATES = ((0x1000, " deregister"), (0x0800, " conflict"), (0x0400, " active"), (0x0200, " permanent"))
+
+
+def netbios_name(text):
+    """A name: tshark has an octet of zero as the last one, and what it is of in words behind it."""
+    front, last, scope = re.fullmatch(r"(.*)<([0-9a-f]{2})>(\..*)?", text.split(" (")[0]).groups()
+    return Name("%s<%s>%s" % (front.replace("<00>", "\0").rstrip(" "), last, scope or ""))
+
+
+def node(word):
+    return ("group " if word & 0x8000 else "unique ") + NODES[word >> 13 & 3]
+
+
+def netbios(packet, missing):
+    """The members of a message of the NetBIOS name service."""
+    told = {**header(packet, "nbns", NETBIOS_FLAGS), "entries": []}
+    names, types, classes = packet.all("nbns.name"), packet.numbers("nbns.type"), packet.numbers("nbns.class")
+    ttls, words, addresses = (list(packet.all("nbns." + key)) for key in ("ttl", "nb_flags", "addr"))
+    counts = [packet.number("nbns.count." + key) for key in ("queries", "answers", "auth_rr", "add_rr")]
+    kinds = [section for section, count in zip(("question", "answer", "authority", "additional"), counts)
+             for _ in range(count)]
+    for section, name_of, number, its_class in zip(kinds, names, types, classes):
+        front = {"section": section, "name": netbios_name(name_of)}
+        its = {"class": class_name(its_class), "type": NETBIOS_TYPES.get(number, type_name(number))}
+        if section == "question":
+            told["entries"].append({**front, **its})
+            continue
+        record = {**front, "ttl": int(ttls.pop(0)), **its}
+        if number == 32:
+            record["data"] = [f"{node(int(words.pop(0), 0))} {addresses.pop(0)}"]
+        elif number == 33:
+            # Of these names tshark leaves out what they are of.
+            record["data"] = [re.compile(re.escape(text.rstrip(" ")) + "<[0-9a-f]{2}> " + node(int(word, 0)) + "".join(
+                state for bit, state in STATES if int(word, 0) & bit))
+                for text, word in zip(packet.all("nbns.netbios_name"), packet.all("nbns.name_flags"))]
+            record["statistics"] = re.compile(packet.text("nbns.unit_id").replace(":", "") + "([0-9a-f]{2})*")
+        else:
+            record["data"] = re.compile(r"\\# \d+( ([0-9a-f]{2})+)?")
+        told["entries"].append(record)
+    return told

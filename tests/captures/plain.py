@@ -1,7 +1,7 @@
 #!/usr/bin/env python3
 """Prints the control packets of capture files as pcapdump does, written from its manual and from the RFCs:
 
-    plain.py [--only KIND,..] [--count] [FILE..]
+    plain.py [--only KIND,..] [--count] [--json] [--strict] [FILE..]
 
 As a module: `dump(octets)` gives the text, the status and the counts of a capture."""
 import os
@@ -11,13 +11,20 @@ sys.dont_write_bytecode = True
 sys.path.insert(0, os.path.dirname(os.path.abspath(__file__)))
 
 import frames  # noqa: E402
+import items  # noqa: E402
 import messages  # noqa: E402
 import reading  # noqa: E402
 from frames import Refused  # noqa: E402
+from items import Field, Named  # noqa: E402
 from messages import KINDS, REASONS, kind_of  # noqa: E402
-from text import endpoint, time  # noqa: E402
+from neighbors import hop_by_hop  # noqa: E402
+from registries import LINKS  # noqa: E402
+from text import address, endpoint, time  # noqa: E402
 
-FILTERS = KINDS + ("hbh",)
+# What --only takes besides kinds: a word for both of ICMP, and one for packets of any kind.
+FAMILIES = {"icmp": ("icmp4", "icmp6"), "hbh": ("hbh",)}
+# Options of tcpdump that change nothing.
+HABITS = ("-n", "-r")
 
 # The status of each ending of a capture, and what is told of it.
 ENDINGS = {
@@ -27,85 +34,104 @@ ENDINGS = {
 }
 
 
-class Printed:
-    """What a packet prints: its kind, where it is one of those that are printed; the reason under which a refused one
-    is counted, and the phrase that it prints, or None; what stands in its heading, and its listing. `unread` is the
+class Options:
+    """What is printed of captures: the kinds that are let through, or None for all; objects of JSON, and messages whose
+    checksum is wrong."""
+
+    def __init__(self, only=None, is_json=False, is_strict=False):
+        self.only = only
+        self.is_json = is_json
+        self.is_strict = is_strict
+
+    def passes(self, shown):
+        return self.only is None or shown.kind in self.only or shown.has_options and "hbh" in self.only
+
+
+class Shown:
+    """What a packet prints: its kind, where it is one of those that are printed; the reason under which it is counted,
+    or None where all of it is in order; its datagram as far as it is known, its VLANs and its items. `unread` is the
     number of a link that is not read."""
 
     def __init__(self):
         self.kind = None
         self.reason = None
-        self.phrase = None
-        self.words = []
-        self.lines = []
+        self.datagram = None
+        self.ports = (None, None)
+        self.vlans = []
+        self.items = []
         self.has_options = False
         self.unread = None
 
     def text(self, number, packet):
-        when = "-" if packet.nanoseconds is None else time(packet.nanoseconds)
-        heading = " ".join([str(number), when] + self.words + [self.kind])
-        lines = self.lines + (["refused=" + self.phrase] if self.reason else [])
-        return heading + "\n" + "".join("  %s\n" % line for line in lines)
+        """A line of what the headers tell, and below it a line of each item."""
+        words = [str(number), "-" if packet.nanoseconds is None else time(packet.nanoseconds)]
+        of = self.datagram
+        if of is not None:
+            words += [endpoint(of.source, self.ports[0]), ">", endpoint(of.destination, self.ports[1])]
+        words += ["vlan=%d" % vlan for vlan in self.vlans] + (["hbh"] if self.has_options else []) + [self.kind]
+        return " ".join(words) + "\n" + "".join("  %s\n" % line for line in items.lines(self.items))
+
+    def json(self, number, packet):
+        """The same as an object of JSON."""
+        of = self.datagram
+        return items.json_line([
+            Field("number", number), Field("time", None if packet.nanoseconds is None else time(packet.nanoseconds)),
+            Named("link", packet.link_type, LINKS.get(packet.link_type)), Field("length", len(packet.octets)),
+            Field("original_length", packet.original_len), Field("vlans", self.vlans),
+            Field("src_addr", of and address(of.source)), Field("dst_addr", of and address(of.destination)),
+            Field("src_port", self.ports[0]), Field("dst_port", self.ports[1]), Field("kind", self.kind),
+        ] + self.items) + "\n"
 
 
-def show(packet):
+def show(packet, is_strict=False):
     """What a packet prints."""
-    shown = Printed()
+    shown = Shown()
     if packet.link_type not in frames.LINKS:
         shown.unread = packet.link_type
         return shown
     try:
         frame = frames.LINKS[packet.link_type](packet.octets)
-        if frame.version is None:
-            return shown
-        vlans = ["vlan=%d" % vlan for vlan in frame.vlans]
-        shown.words = vlans
-        show_datagram(shown, frame, vlans)
+        if frame.version is not None:
+            shown.vlans = frame.vlans
+            show_datagram(shown, frame, is_strict)
     except Refused as refused:
-        is_cut = len(packet.octets) < packet.original_len
-        shown.phrase = refused.phrase
-        shown.reason = refused.reason if refused.reason != "ended" else "cut" if is_cut else "short"
+        shown.items += refused.fields()
+        shown.reason = refused.reason
         # Where the header of the link does not read, no kind is known.
-        if shown.kind is None:
-            shown.kind = "frame"
+        shown.kind = shown.kind or "frame"
+    if shown.reason == "ended":
+        shown.reason = "cut" if len(packet.octets) < packet.original_len else "short"
     return shown
 
 
-def show_datagram(shown, frame, vlans):
+def show_datagram(shown, frame, is_strict):
+    refused = None
     try:
-        datagram = frames.datagram(frame.version, frame.payload)
-    except Refused:
-        head(shown, frame.version, frames.known(frame.version, frame.payload), vlans)
-        if shown.kind is not None:
-            raise
-        return
-    head(shown, frame.version, datagram, vlans)
+        of = frames.datagram(frame.version, frame.payload)
+    except Refused as why:
+        refused, of = why, frames.known(frame.version, frame.payload)
+    head(shown, frame.version, of)
     if shown.kind is None:
         return
-    if datagram.hop_by_hop is not None:
+    if of is not None and of.hop_by_hop is not None:
         shown.has_options = True
-        shown.words.append("hbh")
-        shown.lines += hop_by_hop(datagram.hop_by_hop)
-    messages.show(shown.kind, datagram, shown.lines)
+        shown.items += hop_by_hop(of.hop_by_hop)
+    # Of one that is cut the message is told as far as it is there.
+    if refused and (shown.kind == "frame" or not of.missing):
+        raise refused
+    if shown.kind == "frame":
+        raise Refused("short", "fewer than 8 bytes")
+    found, shown.reason = messages.read(shown.kind, of, is_strict)
+    shown.items += found
 
 
-def hop_by_hop(options):
-    """The lines of hop-by-hop options; where they do not read, the message is listed all the same."""
-    try:
-        return messages.hop_by_hop(options)
-    except Refused:
-        return ["refused"]
-
-
-def head(shown, version, datagram, vlans):
-    """Puts the kind and the words of a heading, as far as they are known."""
-    if datagram is None:
-        shown.kind, shown.words = "frame", list(vlans)
-        return
-    shown.kind = kind_of(version, datagram.protocol, datagram.payload)
-    ports = frames.ports(datagram.payload) if datagram.protocol == frames.UDP else None
-    source, destination = ports or (None, None)
-    shown.words = [endpoint(datagram.source, source), ">", endpoint(datagram.destination, destination)] + list(vlans)
+def head(shown, version, of):
+    """Puts the kind and the addresses, as far as they are known."""
+    shown.datagram, shown.kind = of, "frame"
+    if of is not None:
+        shown.kind = kind_of(version, of.protocol, of.payload)
+        if of.protocol == frames.UDP:
+            shown.ports = frames.ports(of.payload) or (None, None)
 
 
 class Counts:
@@ -119,13 +145,13 @@ class Counts:
         self.passed = 0
         self.links = {}
 
-    def add(self, shown, octets, only=None):
+    def add(self, shown, octets, options):
         self.packets += 1
         if shown.unread is not None:
             self.links[shown.unread] = self.links.get(shown.unread, 0) + 1
         elif shown.kind is None:
             self.others += 1
-        elif not passes(shown, only):
+        elif not options.passes(shown):
             self.passed += 1
         else:
             row = self.kinds[shown.kind]
@@ -174,44 +200,48 @@ class Dumped:
         return "".join("pcapdump: %s: %s\n" % (name, line) for line in lines)
 
 
-def dump(octets, only=None, total=None):
-    """What the octets of a capture print. `only` has the kinds that are let through, or is None for all; `total` counts
-    the packets of several captures."""
+def dump(octets, options=Options(), total=None):
+    """What the octets of a capture print. `total` counts the packets of several captures."""
     counts = Counts()
     capture = reading.Capture(octets)
     texts = []
     for number, packet in enumerate(capture, 1):
-        shown = show(packet)
-        counts.add(shown, packet.octets, only)
+        shown = show(packet, options.is_strict)
+        counts.add(shown, packet.octets, options)
         if total is not None:
-            total.add(shown, packet.octets, only)
-        if shown.kind is not None and passes(shown, only):
-            texts.append(shown.text(number, packet))
+            total.add(shown, packet.octets, options)
+        if shown.kind is not None and options.passes(shown):
+            texts.append((shown.json if options.is_json else shown.text)(number, packet))
     return Dumped("".join(texts), capture.ending, counts)
 
 
-def passes(shown, only):
-    return only is None or shown.kind in only or shown.has_options and "hbh" in only
-
-
 def arguments(words):
-    """The kinds, whether to count, and the files of a command line."""
-    only, count, files = None, False, []
+    """The options, whether to count, and the files of a command line."""
+    options, count, files = Options(), False, []
     while words:
         word = words.pop(0)
         if word == "--only" and words:
-            only = words.pop(0).split(",")
+            options.only = chosen(words.pop(0))
         elif word.startswith("--only="):
-            only = word[7:].split(",")
+            options.only = chosen(word[7:])
         elif word == "--count":
             count = True
-        elif word.startswith("-") and word != "-":
+        elif word == "--json":
+            options.is_json = True
+        elif word == "--strict":
+            options.is_strict = True
+        elif word.startswith("-") and word not in HABITS + ("-",):
             return None
-        else:
+        elif word not in HABITS:
             files.append(word)
-    if only is not None and not all(kind in FILTERS for kind in only):
+    if options.only is not None and not all(kind in KINDS + ("hbh",) for kind in options.only):
         return None
-    return only, count, files or ["-"]
+    return options, count, files or ["-"]
+
+
+def chosen(words):
+    """The kinds of a list."""
+    return [kind for word in words.split(",") for kind in FAMILIES.get(word, (word,))]
 
 
 def read(name):
@@ -224,9 +254,9 @@ def read(name):
 def main(words):
     asked = arguments(words)
     if asked is None:
-        print("usage: plain.py [--only KIND,..] [--count] [FILE..]", file=sys.stderr)
+        print("usage: plain.py [--only KIND,..] [--count] [--json] [--strict] [FILE..]", file=sys.stderr)
         return 2
-    only, count, files = asked
+    options, count, files = asked
     status, total = 0, Counts()
     for name in files:
         try:
@@ -235,16 +265,16 @@ def main(words):
             print("pcapdump: %s: %s" % (name, error.strerror), file=sys.stderr)
             status = max(status, 2)
             continue
-        dumped = dump(octets, only, total)
+        dumped = dump(octets, options, total)
         status = max(status, dumped.status)
         if not count:
-            if len(files) > 1:
+            if len(files) > 1 and not options.is_json:
                 sys.stdout.write(name + ":\n")
             sys.stdout.write(dumped.text)
         sys.stdout.flush()
         sys.stderr.write(dumped.said(name, count))
     if count:
-        sys.stdout.write(total.table(only))
+        sys.stdout.write(total.table(options.only))
         sys.stdout.flush()
         name = "%s: " % files[0] if len(files) == 1 else ""
         print("pcapdump: %s%s" % (name, total.summary()), file=sys.stderr)

@@ -169,6 +169,32 @@ scene_multicast_names() {
     stop_recording
 }
 
+# Names of NetBIOS: the neighbour tells its own, and is asked for them.
+scene_netbios_names() {
+    local side
+    for side in host neighbour; do
+        mkdir -- "$room/$side"
+        printf '%s\n' '[global]' "netbios name = cw-$side" 'workgroup = example' 'bind interfaces only = yes' \
+            'interfaces = eth' 'disable netbios = no' 'wins support = yes' "state directory = $room/$side" \
+            "lock directory = $room/$side" "pid directory = $room/$side" "cache directory = $room/$side" \
+            "private dir = $room/$side" 'nmbd bind explicit broadcast = no' >"$room/$side/smb.conf"
+    done
+    record netbios-names.pcap host eth udp port 137
+    start neighbour nmbd --foreground --no-process-group --configfile="$room/neighbour/smb.conf" >"$room/nmbd" 2>&1
+    local nmbd=$!
+    sleep 7
+    look_up() { quietly in_ host nmblookup --configfile="$room/host/smb.conf" "$@"; }
+    look_up --broadcast=192.0.2.255 cw-neighbour
+    look_up --broadcast=192.0.2.255 'example#1e'
+    look_up --broadcast=192.0.2.255 absent
+    look_up --lookup-by-ip 192.0.2.9
+    look_up --unicast=192.0.2.9 --recursion 'cw-neighbour#20'
+    look_up --unicast=192.0.2.9 --recursion absent
+    kill "$nmbd"
+    wait "$nmbd" 2>/dev/null
+    stop_recording
+}
+
 # Packets on a route through the router's segment, and back.
 scene_routes() {
     set_kernel host ipv6.conf.all.seg6_enabled=1 ipv6.conf.eth.seg6_enabled=1

@@ -6,7 +6,7 @@ from building import (HOST6, NOON, SERVER6, TCP, attribute, block, c_hdlc, cooke
                       icmp4, interface, ip4, ip6_icmp6, ipnet, ipoib, nflog, obsolete, option, pcap, pcap_header,
                       pcap_record, section, session, simple, udp4, udp6)
 from standards_dns import DNS
-from standards_messages import MESSAGES, WHOLE_JUMBOGRAMS
+from standards_messages import LONG_PARTS, MESSAGES, WHOLE_JUMBOGRAMS
 
 ECHO4 = icmp4(8, 0, hexed("1234 0001"), b"abcd")
 ECHO6 = ip6_icmp6(128, 0, hexed("1234 0001"), b"abcd", HOST6, SERVER6)
@@ -184,4 +184,4 @@ def captures():
 
 def large():
     """The captures that are too large for each octet to be damaged, by name."""
-    return WHOLE_JUMBOGRAMS
+    return {**WHOLE_JUMBOGRAMS, **LONG_PARTS}

@@ -1,7 +1,7 @@
 """Captures of messages of DNS and of multicast DNS, of raw IP."""
 import struct
 
-from building import (HOST4, HOST6, SERVER4, SERVER6, UDP, hexed, ip4, message, name, pcap, pointer, question, record,
+from building import (HOST4, HOST6, SERVER4, UDP, hexed, ip4, message, name, pcap, pointer, question, record,
                       udp, udp4, udp6, v4, v6)
 
 QUERY, ANSWER, MULTICAST, UPDATE = 0x0100, 0x8180, 0x8400, 0x2800
@@ -281,7 +281,54 @@ UNSEALED = {
         record(OWNER, NXT, OWNER + hexed("6001")), record(OWNER, NSEC, OWNER + hexed("0002 4001 0101 40"))])),
 }
 
+# ---- LLMNR (RFC 4795) and the NetBIOS name service (RFC 1002 section 4.2)
+
+LINK_LOCAL_NAMES = {
+    "llmnr_query": pcap([udp4(message(0, [question(name("host"), ANY)]), 40000, 5355, HOST4, v4("224.0.0.252"))], 101),
+    "llmnr_answer": pcap([udp6(message(0x8500, [question(name("host"), AAAA)], [record(OWNER, AAAA, HOST6, 30)]), 5355,
+                               40000)], 101),
+    "llmnr_of_every_flag": pcap([udp4(message(0x87F0), 5355, 5355)], 101),
+    "llmnr_to_the_port_of_nbns": pcap([udp4(message(0, [question(name("host"), A)]), 137, 5355)], 101),
+}
+
+NB, NBSTAT = 32, 33
+
+
+def netbios(text, suffix=0x20, scope=b"\0", fill=b" "):
+    """A name of 15 characters and a suffix, of which each half octet is a letter (RFC 1001 section 14.1)."""
+    octets = text.encode().ljust(15, fill) + bytes([suffix])
+    return b"\x20" + bytes(65 + half for octet in octets for half in (octet >> 4, octet & 15)) + scope
+
+
+def names(octets, source=HOST4, destination=v4("192.0.2.255")):
+    return pcap([udp4(octets, 137, 137, source, destination)], 101)
+
+
+FRED = netbios("FRED")
+ADDRESS = hexed("6000") + HOST4
+STATUS = b"\x02" + b"FRED".ljust(15) + hexed("00 0400") + b"WORK".ljust(15) + hexed("00 8400") + b"\1" * 46
+NETBIOS = {
+    "nbns_query": names(message(0x0110, [question(FRED, NB)])),
+    "nbns_answer": names(message(0x8580, (), [record(FRED, NB, ADDRESS, 300000)])),
+    "nbns_registration": names(message(0x2910, [question(netbios("WORK", 0, b"\7example\0"), NB)], (), (), [
+        record(OWNER, NB, hexed("e000") + HOST4)])),
+    "nbns_refused": names(message(0xAD86, (), [record(FRED, NB, ADDRESS, 0)])),
+    "nbns_of_two_addresses": names(message(0x8500, (), [record(FRED, NB, ADDRESS + hexed("0000") + SERVER4)])),
+    "nbns_of_seven_octets": names(message(0x8500, (), [record(FRED, NB, ADDRESS + b"\0")])),
+    "nbns_status_query": names(message(0, [question(netbios("*", 0, fill=b"\0"), NBSTAT)])),
+    "nbns_status": names(message(0x8400, (), [record(FRED, NBSTAT, STATUS, 0)])),
+    "nbns_status_that_is_cut": names(message(0x8400, (), [record(FRED, NBSTAT, STATUS[:30], 0)])),
+    "nbns_of_every_flag": names(message(0xFFFF)),
+    "nbns_of_other_names": names(message(0x0110, [question(name(text), NB) for text in (
+        "short", "A" * 31, "a" * 32, "Q" * 32, "EGFCEFEECACACACACACACACACACACAAA.EGFCEFEECACACACACACACACACACACAAA")])),
+    "nbns_over_ipv6": pcap([udp6(message(0x0110, [question(FRED, NB)]), 137, 137)], 101),
+    "nbns_release": names(message(0x3010, [question(FRED, NB)], (), (), [record(OWNER, NB, ADDRESS, 0)])),
+    "nbns_wait": names(message(0xBC00, (), [record(FRED, 10, hexed("2910"), 30)])),
+    "nbns_that_leads_round": names(message(0x0110, [question(b"\x20" + b"CA" * 16 + pointer(12), NB)])),
+}
+
 DNS = {}
-for _table in (RECORDS, UPDATES, EXTENSIONS, NAMES, MULTICAST_NAMES, LAYOUTS, FIELDS, ENTRIES, UNREAD_NAMES, UNSEALED):
+for _table in (RECORDS, UPDATES, EXTENSIONS, NAMES, MULTICAST_NAMES, LAYOUTS, FIELDS, ENTRIES, UNREAD_NAMES, UNSEALED,
+               LINK_LOCAL_NAMES, NETBIOS):
     assert not DNS.keys() & _table.keys()
     DNS.update(_table)

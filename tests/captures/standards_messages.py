@@ -1,7 +1,7 @@
 """Captures of datagrams and of the messages in them, of raw IP, with the reasons for which they are refused."""
 import struct
 
-from building import (GROUP4, HOST4, HOST6, ICMP4, ICMP6, IGMP, LINK_A, LINK_B, MAC_A, SERVER4, SERVER6, TCP, UDP, dhcp,
+from building import (GROUP4, HOST4, HOST6, ICMP4, ICMP6, IGMP, LINK_A, MAC_A, SERVER4, SERVER6, TCP, UDP, dhcp,
                       hexed, icmp, icmp4, icmp6, igmp, ip4, ip6, ip6_icmp6, message, name, pcap, pcap_header,
                       pcap_record, question, udp, udp4, udp6, v4, v6)
 
@@ -183,6 +183,17 @@ IGMP_CAPTURES = {
     "igmp_of_a_host": raw(igmp(0x16, 0, HOST4)),
     "igmp_with_a_wrong_checksum": raw(broken(igmp(0x16, 0, GROUP4), 22)),
     "igmp_of_seven_octets": raw(ip4(b"\x16" + b"\0" * 6, IGMP)),
+    "igmp_of_pim": raw(igmp(0x14, 1, ZERO + b"\1\2", destination=v4("224.0.0.2"))),
+    "igmp_of_no_known_type": raw(igmp(0x99, 3, ZERO)),
+    "igmp_report_with_octets_behind": raw(igmp(0x16, 0, GROUP4 + b"\1\2")),
+    "igmp_query_of_version_3": raw(igmp(0x11, 0x8A, GROUP4 + hexed("0a8c 0002") + HOST4 + SERVER4 + b"\7")),
+    "igmp_query_of_ten_octets": raw(igmp(0x11, 0x8A, GROUP4 + hexed("0a8c"))),
+    "igmp_query_of_too_few_sources": raw(igmp(0x11, 0x64, HOST4 + hexed("027d 0002") + HOST4 + b"\xc0\0")),
+    "igmp_report_of_records": raw(igmp(0x22, 0, hexed("0000 0004 0100 0002") + GROUP4 + HOST4 + SERVER4
+                                       + hexed("0401 0000") + GROUP4 + hexed("deadbeef 0600 0001") + GROUP4 + HOST4
+                                       + hexed("0900 0000") + GROUP4 + b"\1", destination=v4("224.0.0.22"))),
+    "igmp_report_of_a_cut_record": raw(igmp(0x22, 0, hexed("0000 0003 0300 0001") + GROUP4 + HOST4[:3])),
+    "igmp_report_of_missing_records": raw(igmp(0x22, 0, hexed("0000 0003 0300 0000") + GROUP4)),
 }
 
 # ---- ICMPv6
@@ -223,6 +234,16 @@ LISTENERS = {
     "mld_query_of_code_1": raw(listener(130, QUERY[:4], QUERY[4:], 1)),
     "mld_report": raw(listener(143, *REPORT)),
     "mld_report_of_version_1": raw(listener(131, ZERO, GROUP6)),
+    "mld_done": raw(listener(132, ZERO, GROUP6 + b"\1\2")),
+    "mld_report_of_23_octets": raw(listener(131, ZERO, GROUP6[:15])),
+    "mld_query_of_an_exponent": raw(listener(130, hexed("9abc 0000"), GROUP6 + hexed("027d 0000 0102"))),
+    "mld_query_of_too_few_sources": raw(listener(130, QUERY[:4], GROUP6 + hexed("0a12 0003") + SERVER6 + b"\1")),
+    "mld_query_of_27_octets": raw(listener(130, QUERY[:4], QUERY[4:27])),
+    "mld_report_of_records": raw(listener(143, hexed("0000 0003"), hexed("0100 0002") + GROUP6 + HOST6 + SERVER6
+                                          + hexed("0601 0000") + GROUP6 + hexed("00010203 0200 0001") + GROUP6
+                                          + HOST6 + b"\7")),
+    "mld_report_of_a_cut_record": raw(listener(143, hexed("0000 0002"), hexed("0500 0001") + GROUP6)),
+    "mld_report_of_missing_records": raw(listener(143, hexed("0000 0002"), hexed("0500 0000") + GROUP6)),
 }
 
 # ---- neighbor discovery
@@ -256,6 +277,11 @@ NEIGHBORS = {
     "neighbor_option_of_no_units": raw(ip6_icmp6(135, 0, ZERO, TARGET + b"\1\0" + MAC_A)),
     "neighbor_option_past_the_end": raw(ip6_icmp6(135, 0, ZERO, TARGET + b"\1\2" + MAC_A)),
     "neighbor_options_with_an_octet_behind": raw(ip6_icmp6(135, 0, ZERO, TARGET + SOURCE_LINK + b"\0")),
+    "router_advertisement_of_every_flag": raw(ip6_icmp6(134, 0, hexed("40ff ffff"), b"\xff" * 8 + hexed(
+        "0304 80ff ffffffff ffffffff 00000000") + v6("2001:db8::") + hexed("1801 0008 00000e10"))),
+    "router_advertisement_of_servers": raw(ip6_icmp6(134, 0, hexed("4008 0708"), b"\0" * 8 + hexed(
+        "1903 0000 00000e10") + SERVER6 + hexed("fd01 010203040506 0e01 a1b2c3d4e5f6"))),
+    "redirect_of_a_short_header": raw(ip6_icmp6(137, 0, ZERO, TARGET + HOST6 + b"\4\1" + b"\0" * 6)),
 }
 
 # ---- DHCP
@@ -271,6 +297,11 @@ def asks(data):
     return raw(udp4(data, 68, 67, ZERO, EVERYONE))
 
 
+def with_field(octets, at, field):
+    """A packet with these octets in one of its fields."""
+    return octets[:at] + field + octets[at + len(field):]
+
+
 DHCP = {
     "dhcp_discover": asks(dhcp(1, DISCOVER)),
     "dhcp_offer": raw(udp4(dhcp(2, OFFER, flags=0, addresses=ADDRESSES), 67, 68, v4("192.0.2.1"), EVERYONE)),
@@ -284,6 +315,25 @@ DHCP = {
     "dhcp_of_token_ring": asks(dhcp(1, hexed("350101ff"), hardware=b"\6\6\0")),
     "dhcp_with_no_cookie": asks(dhcp(1, hexed("350101ff"))[:236] + b"\x63\x82\x53\x64" + hexed("350101ff")),
     "dhcp_of_239_octets": asks(dhcp(1, b"")[:239]),
+    "dhcp_of_43_octets": asks(dhcp(1, b"")[:43]),
+    "dhcp_with_names": asks(with_field(with_field(
+        dhcp(2, hexed("350105ff"), flags=0x7FFF), 44, b'a"\\\x7f'), 108, b"boot")),
+    "dhcp_with_overloaded_fields": asks(with_field(with_field(
+        dhcp(2, hexed("340105 340103 350102 0c0161 ff")), 44, hexed("0c0162 ff")), 108, hexed("0c0163 1a02 05dc ff"))),
+    "dhcp_with_an_overloaded_file_that_is_cut": asks(with_field(
+        dhcp(2, hexed("350102 340101 ff")), 108, b"\x0c\xff" + b"x" * 126)),
+    "dhcp_of_each_form": asks(dhcp(1, hexed(
+        "350101 0101ff 02040000 0e10 0300 060cc0000201c0000202c0000203 0c0368 226f 1a0205dc 170140 5100 "
+        "2a05c000020100 3404ffffffff 3703010206 77036162ff fc02cafe 6c0400000384 ff"))),
+    "dhcp_with_options_in_parts": asks(dhcp(1, hexed("350101 0c0261 62 0f0163 0c0164 3301 00 3303000e10 ff"))),
+    "dhcp_of_infiniband": asks(dhcp(1, hexed("350101ff"), hardware=hexed("201405"))),
+}
+
+# An option of this many octets in parts, of which 1500 are joined.
+LONG_PARTS = {
+    "dhcp_with_parts_of_%d_octets" % size: asks(dhcp(1, b"".join(
+        b"\x2b%c%s" % (len(part), part) for part in (bytes(size)[at:at + 255] for at in range(0, size, 255)))
+        + hexed("350101 ff"))) for size in (1500, 1501)
 }
 
 MESSAGES = {}

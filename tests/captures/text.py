@@ -42,8 +42,13 @@ def colons(octets):
 
 
 def address(octets):
-    """An address of a heading, of either version."""
-    return dotted(octets) if len(octets) == 4 else colons(octets)
+    """An address of either version; one that is cut by its octets."""
+    return dotted(octets) if len(octets) == 4 else colons(octets) if len(octets) == 16 else octets.hex()
+
+
+def mac(octets):
+    """A link-layer address."""
+    return ":".join("%02x" % octet for octet in octets)
 
 
 def endpoint(octets, port):

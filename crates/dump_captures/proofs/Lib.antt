@@ -8,3 +8,4 @@ pub mod Summaries
 pub mod Tallies
 pub mod Times
 pub mod Words
+pub mod Vlans

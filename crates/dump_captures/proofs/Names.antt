@@ -1,6 +1,6 @@
 -- Names that are read in a loop.
 use Rattle.std.proofs.Common.{◌≡◌, ℕ, ◌+◌, ◌<◌, true, false, List, [], ◌∷◌, ◌++◌, length, take, drop, get_or, None}
-use Rattle.std.proofs.Common.{Some, Ok, Err, codes, slice_set, refl, ap, sym, ◌∙◌}
+use Rattle.std.proofs.Common.{arith, Some, Ok, Err, codes, slice_set, refl, ap, sym, ◌∙◌}
 use Rattle.std.proofs.lemmas.List.{take-append-drop, take_more}
 use Rattle.std.proofs.lemmas.List.Sums.{fold-append, fold_push}
 use Rattle.std.specs.List.{fold}
@@ -10,7 +10,8 @@ use Rattle.dump_captures.specs.Arguments.{chooses_none, kind_named, then_name, w
 use Rattle.dump_captures.specs.Kinds.{kind_place}
 use Rattle.dump_captures.specs.declared.kind.Kind.{Kind}
 use Rattle.dump_captures.specs.declared.options.Only.{Only}
-use Rattle.dump_captures.proofs.Tallies.{changed_at-set}
+use Rattle.dump_captures.specs.Tally.{changed_at}
+use Rattle.dump_captures.proofs.Tallies.{changed_at-length, changed_at-set}
 
 -- ---- the kind of a name
 
@@ -18,10 +19,26 @@ use Rattle.dump_captures.proofs.Tallies.{changed_at-set}
 
 -- the packets of the kind that it names are chosen too
 pub with_name-kind : (name : List ℕ) (only : Only) (kind : Kind) (place : ℕ)
-    → bytes_eq name (codes "hbh") ≡ false → kind_named name ≡ Some kind → place ≡ kind_place kind
+    → bytes_eq name (codes "hbh") ≡ false → bytes_eq name (codes "icmp") ≡ false → kind_named name ≡ Some kind
+    → place ≡ kind_place kind
     → place < length only.kinds → Some (record only { kinds = slice_set only.kinds place true }) ≡ with_name name only
-with_name-kind name only kind place other named at within =
-    rw (other, named, changed_at-set only.kinds place (λ _. true) false within, at) refl
+with_name-kind name only kind place other one named at within =
+    rw (other, one, named, changed_at-set only.kinds place (λ _. true) false within, at) refl
+
+-- those of both ICMPs
+pub with_name-icmp : (name : List ℕ) (only : Only) (p q : ℕ) → bytes_eq name (codes "hbh") ≡ false
+    → bytes_eq name (codes "icmp") ≡ true → p ≡ 0 → q ≡ 2 → p < length only.kinds → q < length only.kinds
+    → Some (record only { kinds = slice_set (slice_set only.kinds p true) q true }) ≡ with_name name only
+with_name-icmp name only p q other named first second p_within q_within =
+    let one = changed_at p (λ _. true) only.kinds in
+    rw (
+      other,
+      named,
+      changed_at-set only.kinds p (λ _. true) false p_within,
+      changed_at-set one q (λ _. true) false (omega (arith, changed_at-length p (λ _. true) only.kinds)),
+      first,
+      second,
+    ) refl
 
 -- ---- all names
 

@@ -1,77 +1,53 @@
--- What an output gains where a packet is listed or refused.
-use Rattle.std.proofs.Common.{◌≡◌, ℕ, List, [], ◌++◌, Option, None, Some, Result, Ok, Err, IfOk, false, refl}
-use Rattle.listing.specs.Indented.{indented}
+-- What an output gains where a packet is printed.
+use Rattle.std.proofs.Common.{◌≡◌, ◌∙◌, ◌<◌, ◌^◌, sym, [], ◌++◌, Err, IfOk, List, Ok, Option, Result, append_assoc, codes, flat_map, refl, subst, ℕ}
+use Rattle.std.proofs.lemmas.Grind.{flat_map-append}
+use Rattle.capture.specs.Packet.{PacketValue}
+use Rattle.packet_fields.specs.Fields.{Item, number}
+unfoldable use Rattle.packet_fields.specs.Fields.{items_text}
+unfoldable use Rattle.packet_fields.specs.Json.{object_text}
 use Rattle.packet_fields.specs.Output.{Gains, GainsSome}
-use Rattle.packet_fields.proofs.Printing.{gains_both}
-use Rattle.dump_captures.specs.Messages.{refusal_text, ListsOrRefuses, lists, refuses, Indents}
-use Rattle.dump_captures.specs.Refusals.{reason_of}
+use Rattle.packet_fields.specs.Prints.{Prints}
+use Rattle.packet_fields.specs.declared.form.Form.TheVariants.{Json, Lines}
+use Rattle.packet_fields.proofs.Fields.{fit_both}
+use Rattle.packet_fields.proofs.Printing.{◌then◌, gains_both}
+use Rattle.dump_captures.specs.Dump.{ControlPrints}
+use Rattle.dump_captures.specs.Heading.{head_items, heading}
+use Rattle.dump_captures.specs.Messages.{ListingIs}
+use Rattle.dump_captures.specs.Sight.{HeadersValue}
 use Rattle.dump_captures.specs.declared.kind.Reason.{Reason}
-use Rattle.dump_captures.specs.declared.refusal.Refusal.{Refusal}
-
--- what is kept in an empty page is the text that it gained
-pub page_text : (old new text : List ℕ) → old ≡ [] → Gains (Some old) (Some new) text → new ≡ text
-page_text old new text none gains = rw none at gains.appends
-
-module _ {E : Type 0} (a b : Option (List ℕ)) (r : Result (Option Reason) E) where
-  -- one text is written, with one result
-  pub gained_one : (Prints : List ℕ → Option Reason → Type 0) (text : List ℕ) (known : Option Reason)
-      → Prints text known → IfOk r (λ why. Gains a b text × (why ≡ known))
-      → IfOk r (λ why. GainsSome a b (λ t. Prints t why))
-  gained_one Prints text known is =
-      elim r as (λ answer. IfOk answer (λ why. Gains a b text × (why ≡ known))
-      → IfOk answer (λ why. GainsSome a b (λ t. Prints t why))) [
-        | Ok why ↦ λ gains. (text, rw gains.1 is, gains.0)
-        | Err e ↦ λ gains. tt
-      ]
-
-  -- a text of one kind is of another kind too
-  pub gained_other : (Prints Other : List ℕ → Option Reason → Type 0)
-      → ((text : List ℕ) (why : Option Reason) → Prints text why → Other text why)
-      → IfOk r (λ why. GainsSome a b (λ t. Prints t why)) → IfOk r (λ why. GainsSome a b (λ t. Other t why))
-  gained_other Prints Other other =
-      elim r as (λ answer. IfOk answer (λ why. GainsSome a b (λ t. Prints t why))
-      → IfOk answer (λ why. GainsSome a b (λ t. Other t why))) [
-        | Ok why ↦ λ gains. (gains.0, other gains.0 why gains.1, gains.2)
-        | Err e ↦ λ gains. tt
-      ]
-
-  -- one text, and then another
-  pub gained_behind : (before : Option (List ℕ)) (IsFirst : List ℕ → Type 0)
-      (Prints Both : List ℕ → Option Reason → Type 0)
-      → ((first text : List ℕ) (why : Option Reason) → IsFirst first → Prints text why → Both (first ++ text) why)
-      → GainsSome before a IsFirst → IfOk r (λ why. GainsSome a b (λ t. Prints t why))
-      → IfOk r (λ why. GainsSome before b (λ t. Both t why))
-  gained_behind before IsFirst Prints Both both first =
-      elim r as (λ answer. IfOk answer (λ why. GainsSome a b (λ t. Prints t why))
-      → IfOk answer (λ why. GainsSome before b (λ t. Both t why))) [
-        | Ok why ↦ λ gains. (
-          first.0 ++ gains.0,
-          both first.0 gains.0 why first.1 gains.1,
-          gains_both before a b first.0 gains.0 first.2 gains.2,
-        )
-        | Err e ↦ λ gains. tt
-      ]
-
-  -- the listing of a value is in the page, and is written with each line indented
-  pub lists_page : {V R : Type 0} (IsValue : V → Type 0) (listing : V → List ℕ) (Refuses : R → Type 0)
-      (of : R → Refusal) (v : V) (page : List ℕ) → IsValue v → page ≡ listing v
-      → IfOk r (λ why. Gains a b (indented page) × (why ≡ None))
-      → IfOk r (λ why. GainsSome a b (λ t. ListsOrRefuses IsValue (Indents listing) Refuses of t why))
-  lists_page IsValue listing Refuses of v page is same =
-      gained_one (ListsOrRefuses IsValue (Indents listing) Refuses of) (indented page) None
-      (lists v is (rw same refl) refl)
-
-  -- there is no value, and the reason is printed
-  pub refuses_all : {V R : Type 0} (IsValue : V → Type 0) (Prints : V → List ℕ → Type 0) (Refuses : R → Type 0)
-      (of : R → Refusal) (refusal : R) → ((v : V) → IsValue v → ⊥) → Refuses refusal
-      → IfOk r (λ why. Gains a b (refusal_text (of refusal)) × (why ≡ Some (reason_of false (of refusal))))
-      → IfOk r (λ why. GainsSome a b (λ t. ListsOrRefuses IsValue Prints Refuses of t why))
-  refuses_all IsValue Prints Refuses of refusal none told =
-      gained_one (ListsOrRefuses IsValue Prints Refuses of) (refusal_text (of refusal))
-      (Some (reason_of false (of refusal))) (refuses refusal none told (refl, refl))
+use Rattle.dump_captures.specs.declared.options.Options.{Options}
+use Rattle.dump_captures.specs.private.Objects.{object_front}
 
 -- a fact that holds of a result that is no fault implies another fact of it
 pub if_ok : {A E : Type 0} (Holds Other : A → Type 0) (r : Result A E) → ((answer : A) → Holds answer → Other answer)
     → IfOk r Holds → IfOk r Other
 if_ok Holds Other (Ok answer) other holds = other answer holds
 if_ok Holds Other (Err e) other holds = tt
+
+module _ (options : Options) (n : ℕ) (p : PacketValue) (h : HeadersValue) where
+  -- a packet in lines
+  pub lines_printed : (a b c : Option (List ℕ)) (items : List Item) (why : Option Reason) → options.form ≡ Lines
+      → Gains a b (heading n p h) → ListingIs options h items why → Prints options.form b c items
+      → GainsSome a c (ControlPrints options n p h why)
+  lines_printed a b c items why form first listed printed = (
+    heading n p h ++ items_text Lines items,
+    (items, listed, λ json. absurd (cc (sym form ∙ json)), rw form refl),
+    gains_both a b c (heading n p h) (items_text Lines items) first (rw form at printed.gains),
+  )
+
+  object_is : (head items : List Item)
+      → ((object_front n ++ items_text Json head) ++ items_text Json items) ++ codes "}\n"
+      ≡ object_text (codes "number") (number n) (head ++ items) ++ codes "\n"
+  unfolding object_text items_text
+  object_is head items = simp (append_assoc, flat_map-append)
+
+  -- a packet as an object
+  pub object_printed : n < 2 ^ 64 → (a b c d e : Option (List ℕ)) (items : List Item) (why : Option Reason) → options.form ≡ Json
+      → Gains a b (object_front n) → Prints Json b c (head_items p h) → ListingIs options h items why
+      → Prints options.form c d items → Gains d e (codes "}\n") → GainsSome a e (ControlPrints options n p h why)
+  object_printed fits a b c d e items why form front head listed printed end =
+      let all = (front then head.gains) then (rw form at printed.gains) then end in (
+        object_text (codes "number") (number n) (head_items p h ++ items) ++ codes "\n",
+        (items, listed, λ json. (fits, fit_both (head_items p h) items head.fit printed.fit), rw form refl),
+        subst (Gains a e) (object_is (head_items p h) items) all,
+      )

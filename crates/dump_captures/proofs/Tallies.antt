@@ -12,7 +12,7 @@ use Rattle.dump_captures.specs.private.Parts.{no_link}
 use Rattle.dump_captures.specs.declared.kind.Kind.{Kind}
 use Rattle.dump_captures.specs.declared.kind.Reason.{Reason}
 use Rattle.dump_captures.specs.declared.tally.Outcome.{Outcome}
-use Rattle.dump_captures.specs.declared.tally.Outcome.TheVariants.{Listed}
+use Rattle.dump_captures.specs.declared.tally.Outcome.TheVariants.{Listed, Refused}
 use Rattle.dump_captures.specs.declared.tally.Row.{Row}
 use Rattle.dump_captures.specs.declared.tally.UnreadLink.{UnreadLink}
 
@@ -136,3 +136,11 @@ pub counted-listed : (t : TallyValue) (outcome : Outcome) (kind : Kind) (link oc
     → record t { packets = packets; rows = slice_set t.rows place row } ≡ counted outcome link octets t
 counted-listed t outcome kind link octets packets place row d is more at within changed =
     rw (changed, changed_at-set t.rows place (with_listed octets) d within, at, more, is) refl
+
+pub counted-refused : (t : TallyValue) (outcome : Outcome) (kind : Kind) (reason : Reason)
+    (link octets packets place : ℕ) (row d : Row)
+    → outcome ≡ Refused kind reason → packets ≡ one_more t.packets → place ≡ kind_place kind → place < length t.rows
+    → row ≡ with_refused reason octets (get_or t.rows place d)
+    → record t { packets = packets; rows = slice_set t.rows place row } ≡ counted outcome link octets t
+counted-refused t outcome kind reason link octets packets place row d is more at within changed =
+    rw (changed, changed_at-set t.rows place (with_refused reason octets) d within, at, more, is) refl

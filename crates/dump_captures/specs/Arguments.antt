@@ -3,6 +3,7 @@ use Rattle.std.specs.Prelude.{ℕ, ◌==◌, ◌||◌, ◌&&◌, not, nat_lt, Bo
 use Rattle.std.specs.Prelude.{length, get_or, map, codes, bytes_eq, string_bytes, Option, None, Some, Result, Ok, Err}
 use Rattle.std.specs.List.{fold, slice_split}
 use Rattle.std.specs.Option.{ok_or, option_and_then}
+use Rattle.packet_fields.specs.declared.form.Form.TheVariants.{Json, Lines}
 use Rattle.dump_captures.specs.Kinds.{kinds, kind_place, kind_text}
 use Rattle.dump_captures.specs.Tally.{changed_at}
 use Rattle.dump_captures.specs.declared.arguments.Step.TheVariants as step
@@ -11,6 +12,7 @@ use Rattle.dump_captures.specs.declared.arguments.Task.TheVariants as task
 use Rattle.dump_captures.specs.declared.arguments.Wrong.{Wrong}
 use Rattle.dump_captures.specs.declared.arguments.Wrong.TheVariants.{UnknownOption, UnknownKind, MissingList, NotText}
 use Rattle.dump_captures.specs.declared.kind.Kind.{Kind}
+use Rattle.dump_captures.specs.declared.kind.Kind.TheVariants.{Icmp4, Icmp6}
 use Rattle.dump_captures.specs.declared.options.Only.{Only}
 use Rattle.dump_captures.specs.declared.options.Options.{Options}
 
@@ -39,10 +41,11 @@ chooses_none = record {
 abbrev pub with_kind : Only → Kind → Only
 with_kind only kind = record only { kinds = changed_at (kind_place kind) (λ _. true) only.kinds }
 
--- with those of a name: packets of a kind, or those with hop-by-hop options
+-- with those of a name: packets of a kind, those of both ICMPs, or those with hop-by-hop options
 abbrev pub with_name : List ℕ → Only → Option Only
 with_name name only =
     if bytes_eq name (codes "hbh") then Some (record only { hop_by_hop = true })
+    else if bytes_eq name (codes "icmp") then Some (with_kind (with_kind only Icmp4) Icmp6)
     else option_and_then (λ kind. Some (with_kind only kind)) (kind_named name)
 
 -- one after another, up to one that is no name
@@ -77,11 +80,13 @@ wrong_value NotText = not_text
 -- what the program is asked to do, with files by their names
 pub data TaskValue : Type 0 where
   help : TaskValue
+  version : TaskValue
   dump : Options → List (List ℕ) → TaskValue
   unknown : WrongValue → TaskValue
 
 abbrev pub task_value : Task → TaskValue
 task_value task.Help = help
+task_value task.Version = version
 task_value (task.Dump options files) = dump options (map string_bytes files.items)
 task_value (task.Unknown wrong) = unknown (wrong_value wrong)
 
@@ -101,6 +106,8 @@ nothing_read = record {
       hop_by_hop = true;
     };
     prints = true;
+    form = Lines;
+    is_strict = false;
   };
   files = [];
   wants_kinds = false;
@@ -120,8 +127,12 @@ abbrev pub with_option : List ℕ → ReadingValue → Reads
 with_option word r =
     if bytes_eq word (codes "--only") then more (record r { wants_kinds = true })
     else if bytes_eq word (codes "--count") then more (record r { options = record r.options { prints = false } })
+    else if bytes_eq word (codes "--json") then more (record r { options = record r.options { form = Json } })
+    else if bytes_eq word (codes "--strict") then more (record r { options = record r.options { is_strict = true } })
     else if bytes_eq word (codes "--") then more (record r { wants_files = true })
-    else if bytes_eq word (codes "--help") then ends help
+    else if bytes_eq word (codes "-n") || bytes_eq word (codes "-r") then more r
+    else if bytes_eq word (codes "--help") || bytes_eq word (codes "-h") then ends help
+    else if bytes_eq word (codes "--version") || bytes_eq word (codes "-V") then ends version
     else ends (unknown (unknown_option word))
 
 -- the list of names after `--only`, of which the last list decides

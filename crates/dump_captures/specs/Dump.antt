@@ -1,13 +1,17 @@
 -- What a capture prints, from its first byte on, and the counts of its packets. This is the manual, with the headings,
 -- the listings and the counts in files of their own.
-use Rattle.std.specs.Prelude.{◌≡◌, ℕ, ◌+◌, ◌-◌, ◌^◌, ◌||◌, ◌&&◌, min, Bool, true, false, List, [], ◌∷◌, ◌++◌, length}
-use Rattle.std.specs.Prelude.{get_or, is_some, Option, None, Some, IfSome}
+use Rattle.std.specs.Prelude.{◌≡◌, ◌<◌, ℕ, ◌+◌, ◌-◌, ◌^◌, ◌||◌, ◌&&◌, min, Bool, true, false, List, [], ◌∷◌, ◌++◌, length}
+use Rattle.std.specs.Prelude.{codes, get_or, is_some, Option, None, Some, IfSome}
 use Rattle.capture.specs.Capture.{IsCapture}
 use Rattle.capture.specs.Packet.{PacketValue}
 use Rattle.capture.specs.declared.ending.Ending.{Ending}
-use Rattle.dump_captures.specs.Heading.{heading}
+use Rattle.packet_fields.specs.Fields.{Item, ItemsFit, items_text, number}
+use Rattle.packet_fields.specs.Json.{object_text}
+use Rattle.packet_fields.specs.declared.form.Form.{Form}
+use Rattle.packet_fields.specs.declared.form.Form.TheVariants.{Json, Lines}
+use Rattle.dump_captures.specs.Heading.{head_items, heading}
 use Rattle.dump_captures.specs.Kinds.{kind_place}
-use Rattle.dump_captures.specs.Messages.{ListingPrints}
+use Rattle.dump_captures.specs.Messages.{ListingIs}
 use Rattle.dump_captures.specs.Sight.{HeadersValue, kind_in, unread, other, control, IsSight}
 use Rattle.dump_captures.specs.Tally.{TallyValue, counted}
 use Rattle.dump_captures.specs.declared.kind.Kind.{Kind}
@@ -28,18 +32,30 @@ abbrev pub outcome_of : Kind → Option Reason → Outcome
 outcome_of kind None = Listed kind
 outcome_of kind (Some reason) = Refused kind reason
 
+-- The text of a packet that holds these items: in lines a heading, and a line for each; in JSON an object on a line.
+abbrev pub packet_text : Form → ℕ → PacketValue → HeadersValue → List Item → List ℕ
+packet_text Lines n p h items = heading n p h ++ items_text Lines items
+packet_text Json n p h items = object_text (codes "number") (number n) (head_items p h ++ items) ++ codes "\n"
+
+-- What a control packet prints, and why it is refused or read in part. In JSON its numbers have at most 64 bits, so that
+-- by `ReadsAsJson` the line is a text of JSON that reads as the object.
+abbrev pub ControlPrints : Options → ℕ → PacketValue → HeadersValue → Option Reason → List ℕ → Type 0
+ControlPrints options n p h why text =
+    (items : List Item) × ListingIs options h items why
+    × (options.form ≡ Json → (n < 2 ^ 64) × ItemsFit (head_items p h ++ items))
+    × (text ≡ packet_text options.form n p h items)
+
 -- What the packet of a number prints: a control packet that is chosen its heading and its listing, unless packets are
 -- only counted; the others nothing.
 pub data PacketPrints (options : Options) (number : ℕ) (p : PacketValue) (text : List ℕ) (outcome : Outcome)
     : Type 0 where
   of_unread : IsSight p unread → text ≡ [] → outcome ≡ Unread → PacketPrints options number p text outcome
   of_other : IsSight p other → text ≡ [] → outcome ≡ Other → PacketPrints options number p text outcome
-  printed : (h : HeadersValue) (listing : List ℕ) (why : Option Reason) → IsSight p (control h)
-      → is_chosen options.only h ≡ true → options.prints ≡ true → ListingPrints h listing why
-      → text ≡ heading number p h ++ listing → outcome ≡ outcome_of (kind_in h.content) why
-      → PacketPrints options number p text outcome
-  counted_alone : (h : HeadersValue) (listing : List ℕ) (why : Option Reason) → IsSight p (control h)
-      → is_chosen options.only h ≡ true → options.prints ≡ false → ListingPrints h listing why → text ≡ []
+  printed : (h : HeadersValue) (why : Option Reason) → IsSight p (control h)
+      → is_chosen options.only h ≡ true → options.prints ≡ true → ControlPrints options number p h why text
+      → outcome ≡ outcome_of (kind_in h.content) why → PacketPrints options number p text outcome
+  counted_alone : (h : HeadersValue) (items : List Item) (why : Option Reason) → IsSight p (control h)
+      → is_chosen options.only h ≡ true → options.prints ≡ false → ListingIs options h items why → text ≡ []
       → outcome ≡ outcome_of (kind_in h.content) why → PacketPrints options number p text outcome
   passed : (h : HeadersValue) → IsSight p (control h) → is_chosen options.only h ≡ false → text ≡ []
       → outcome ≡ Passed → PacketPrints options number p text outcome

@@ -1,8 +1,10 @@
 -- What the files of a run print, one after another, and the status at the end.
 use Rattle.std.specs.Prelude.{◌≡◌, ℕ, max, nat_lt, ◌&&◌, Bool, if◌then◌else◌, List, [], ◌∷◌, ◌++◌, length, codes}
-use Rattle.std.specs.Prelude.{bytes_eq, Option, None, Some}
+use Rattle.std.specs.Prelude.{bytes_eq, false, true, Option, None, Some}
 use Rattle.capture.specs.declared.ending.Ending.{Ending}
 use Rattle.capture.specs.declared.ending.Ending.TheVariants.{Whole, Version, NotACapture}
+use Rattle.packet_fields.specs.declared.form.Form.{Form}
+use Rattle.packet_fields.specs.declared.form.Form.TheVariants.{Json, Lines}
 use Rattle.dump_captures.specs.Dump.{InputPrints}
 use Rattle.dump_captures.specs.Table.{table_text}
 use Rattle.dump_captures.specs.Tally.{TallyValue, empty}
@@ -41,9 +43,14 @@ pub data FilePrints (options : Options) (bytes : Option (List ℕ)) (old : Tally
 
 -- ---- the files
 
--- the line above the packets of a file, where there are several
+abbrev pub in_lines : Form → Bool
+in_lines Lines = true
+in_lines Json = false
+
+-- the line above the packets of a file, where there are several; not in JSON
 abbrev pub title : Options → Bool → List ℕ → List ℕ
-title options several name = if options.prints && several then name ++ codes ":\n" else []
+title options several name =
+    if options.prints && several && in_lines options.form then name ++ codes ":\n" else []
 
 -- the counts before a file: those of the files before it, unless it is counted by itself
 abbrev pub counts_before : Options → TallyValue → TallyValue

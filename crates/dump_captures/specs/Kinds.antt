@@ -13,13 +13,16 @@ kind_text kind.Igmp = codes "igmp"
 kind_text kind.Icmp6 = codes "icmp6"
 kind_text kind.Dns = codes "dns"
 kind_text kind.Mdns = codes "mdns"
+kind_text kind.Llmnr = codes "llmnr"
+kind_text kind.Nbns = codes "nbns"
 kind_text kind.Dhcp = codes "dhcp"
 kind_text kind.Frame = codes "frame"
 
 -- the order in tables
 abbrev pub kinds : List Kind
 kinds =
-    kind.Icmp4 ∷ kind.Igmp ∷ kind.Icmp6 ∷ kind.Dns ∷ kind.Mdns ∷ kind.Dhcp ∷ kind.Frame ∷ []
+    kind.Icmp4 ∷ kind.Igmp ∷ kind.Icmp6 ∷ kind.Dns ∷ kind.Mdns ∷ kind.Llmnr ∷ kind.Nbns ∷ kind.Dhcp
+    ∷ kind.Frame ∷ []
 
 -- the place of each in that order
 abbrev pub kind_place : Kind → ℕ
@@ -28,8 +31,10 @@ kind_place kind.Igmp = 1
 kind_place kind.Icmp6 = 2
 kind_place kind.Dns = 3
 kind_place kind.Mdns = 4
-kind_place kind.Dhcp = 5
-kind_place kind.Frame = 6
+kind_place kind.Llmnr = 5
+kind_place kind.Nbns = 6
+kind_place kind.Dhcp = 7
+kind_place kind.Frame = 8
 
 -- ---- reasons
 

@@ -1,33 +1,30 @@
 -- Why control packets are refused: what the library's refusals print, and the reason under which each is counted.
 use Rattle.std.specs.Prelude.{ℕ, Bool, if◌then◌else◌, List}
-use Rattle.dhcp_wire.specs.Dhcpv4Refusal as dhcp_texts
-use Rattle.dhcp_wire.specs.declared.dhcpv4.refusal.Refusal.{Refusal as DhcpRefusal}
-use Rattle.dhcp_wire.specs.declared.dhcpv4.refusal.Refusal.TheVariants as dhcp
 use Rattle.frame_wire.specs.DatagramDisplay as datagram_texts
 use Rattle.frame_wire.specs.LinkDisplay as link_texts
-use Rattle.frame_wire.specs.UdpRefusal as udp_texts
 use Rattle.frame_wire.specs.declared.datagram.Refusal.{Refusal as DatagramRefusal}
 use Rattle.frame_wire.specs.declared.datagram.Refusal.TheVariants as datagram
 use Rattle.frame_wire.specs.declared.link.refusal.Refusal.{Refusal as LinkRefusal}
 use Rattle.frame_wire.specs.declared.link.refusal.Refusal.TheVariants as link
 use Rattle.frame_wire.specs.declared.udp.Refusal.{Refusal as UdpRefusal}
 use Rattle.frame_wire.specs.declared.udp.Refusal.TheVariants as udp
-use Rattle.icmp4_wire.specs.IgmpRefusal as igmp_texts
 use Rattle.icmp4_wire.specs.declared.icmpv4.refusal.Refusal.TheVariants as icmpv4
 use Rattle.icmp4_wire.specs.declared.igmp.refusal.Refusal.{Refusal as IgmpRefusal}
 use Rattle.icmp4_wire.specs.declared.igmp.refusal.Refusal.TheVariants as igmp
 use Rattle.icmp6_wire.specs.declared.icmpv6.refusal.Refusal.TheVariants as icmpv6
-use Rattle.quote_wire.specs.Icmpv4Message as icmp4_texts
-use Rattle.quote_wire.specs.Icmpv6Message as icmp6_texts
 use Rattle.quote_wire.specs.declared.error.Refusal.TheVariants as error
 use Rattle.quote_wire.specs.declared.message.icmpv4.Icmpv4Refusal.{Icmpv4Refusal}
 use Rattle.quote_wire.specs.declared.message.icmpv4.Icmpv4Refusal.TheVariants as icmp4
 use Rattle.quote_wire.specs.declared.message.icmpv6.Icmpv6Refusal.{Icmpv6Refusal}
 use Rattle.quote_wire.specs.declared.message.icmpv6.Icmpv6Refusal.TheVariants as icmp6
+use Rattle.message_fields.specs.Refusals as message_texts
+use Rattle.message_fields.specs.declared.refusal.Refusal.{Refusal as MessageRefusal}
+use Rattle.message_fields.specs.declared.refusal.Refusal.TheVariants as message
+use Rattle.dhcp_fields.specs.declared.refusal.Refusal.{Refusal as DhcpRefusal}
+use Rattle.dhcp_fields.specs.declared.refusal.Refusal.TheVariants as dhcp
+use Rattle.dns_fields.specs.declared.unread.Unread.{Unread}
+use Rattle.dns_fields.specs.declared.unread.Unread.TheVariants as unread
 use Rattle.record_wire.specs.declared.text.refusal.TextRefusal.TheVariants as text
-use Rattle.listing.specs.ListingUnread.{unread_display}
-use Rattle.listing.specs.declared.message.unread.Unread.{Unread}
-use Rattle.listing.specs.declared.message.unread.Unread.TheVariants as unread
 use Rattle.dump_captures.specs.declared.kind.Reason.{Reason}
 use Rattle.dump_captures.specs.declared.kind.Reason.TheVariants as reason
 use Rattle.dump_captures.specs.declared.refusal.Refusal.{Refusal}
@@ -97,25 +94,27 @@ dns_reason (unread.Record (text.Owner why)) = reason.Name
 dns_reason (unread.Record (text.Data why)) = reason.Malformed
 dns_reason (unread.Record (text.DataName why)) = reason.Name
 dns_reason (unread.Option why) = reason.Malformed
+dns_reason unread.Addresses = reason.Malformed
+dns_reason unread.Names = reason.Malformed
+
+abbrev pub message_reason : MessageRefusal → Reason
+message_reason message.Checksum = reason.Checksum
+message_reason (message.Udp r) = udp_reason r
+message_reason message.Cut = reason.Short
+message_reason (message.Icmp4 r) = icmp4_reason r
+message_reason (message.Igmp r) = igmp_reason r
+message_reason (message.Icmp6 r) = icmp6_reason r
+message_reason (message.Dhcp r) = dhcp_reason r
+message_reason (message.Dns u) = dns_reason u
 
 abbrev pub reason_of : Bool → Refusal → Reason
 reason_of is_cut (refusal.Frame r) = frame_reason is_cut r
 reason_of is_cut (refusal.Datagram r) = datagram_reason is_cut r
-reason_of is_cut (refusal.Udp r) = udp_reason r
-reason_of is_cut (refusal.Icmp4 r) = icmp4_reason r
-reason_of is_cut (refusal.Igmp r) = igmp_reason r
-reason_of is_cut (refusal.Icmp6 r) = icmp6_reason r
-reason_of is_cut (refusal.Dhcp r) = dhcp_reason r
-reason_of is_cut (refusal.Dns u) = dns_reason u
+reason_of is_cut (refusal.Message r) = message_reason r
 
 -- ---- what they print
 
 abbrev pub refusal_display : Refusal → List ℕ
 refusal_display (refusal.Frame r) = link_texts.refusal_display r
 refusal_display (refusal.Datagram r) = datagram_texts.refusal_display r
-refusal_display (refusal.Udp r) = udp_texts.refusal_display r
-refusal_display (refusal.Icmp4 r) = icmp4_texts.refusal_display r
-refusal_display (refusal.Igmp r) = igmp_texts.refusal_display r
-refusal_display (refusal.Icmp6 r) = icmp6_texts.refusal_display r
-refusal_display (refusal.Dhcp r) = dhcp_texts.refusal_display r
-refusal_display (refusal.Dns u) = unread_display u
+refusal_display (refusal.Message r) = message_texts.refusal_display r

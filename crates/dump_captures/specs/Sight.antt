@@ -6,7 +6,6 @@ use Rattle.wirebase.specs.Ipv4.{header_len_in}
 use Rattle.wirebase.specs.declared.ip.IpProtocol.{IpProtocol}
 use Rattle.wirebase.specs.declared.ip.IpProtocol.TheVariants.{HopByHop, Icmp, Igmp, Udp, Ipv6Route, Ipv6Frag, Icmpv6}
 use Rattle.wirebase.specs.declared.ip.IpProtocol.TheVariants.{Ipv6Opts}
-use Rattle.wirebase.specs.declared.ipv6.address.Ipv6Address.{Ipv6Address}
 use Rattle.capture.specs.Packet.{PacketValue}
 use Rattle.frame_wire.specs.Captured.{CapturedValue, IsCaptured4, RefusesCaptured4, IsCaptured6, RefusesCaptured6}
 use Rattle.frame_wire.specs.Datagram.{DatagramValue, IsDatagram4, Refuses4, IsDatagram6, Refuses6}
@@ -15,13 +14,17 @@ use Rattle.frame_wire.specs.LinkRefusal.{Refuses}
 use Rattle.frame_wire.specs.declared.datagram.Addresses.{Addresses}
 use Rattle.frame_wire.specs.declared.datagram.Addresses.TheVariants.{V4, V6}
 use Rattle.frame_wire.specs.declared.datagram.Head.{Head}
+use Rattle.frame_wire.specs.declared.datagram.captured.Extent.{Extent}
 use Rattle.frame_wire.specs.declared.datagram.Refusal.{Refusal as DatagramRefusal}
 use Rattle.frame_wire.specs.declared.datagram.Refusal.TheVariants as datagram
 use Rattle.frame_wire.specs.declared.link.Link.{Link}
 use Rattle.frame_wire.specs.declared.link.Network.TheVariants as network
 use Rattle.frame_wire.specs.declared.link.refusal.Refusal.{Refusal as LinkRefusal}
 use Rattle.frame_wire.specs.declared.udp.Refusal.TheVariants.{Short}
-use Rattle.listing.specs.Ports.{ports_in}
+use Rattle.packet_fields.specs.Ports.{ports_in}
+use Rattle.message_fields.specs.Checksums.{MessageValue, icmp4, igmp, icmp6, udp, value_of}
+use Rattle.message_fields.specs.declared.message.Service.{Service}
+use Rattle.message_fields.specs.declared.refusal.Refusal.TheVariants.{Udp as UdpHeader}
 use Rattle.dump_captures.specs.Refusals.{reason_of}
 use Rattle.dump_captures.specs.declared.kind.Kind.{Kind}
 use Rattle.dump_captures.specs.declared.kind.Kind.TheVariants as kind
@@ -37,15 +40,11 @@ use Rattle.dump_captures.specs.declared.sight.Sight.TheVariants as sight
 
 -- ---- by content
 
--- what a control packet holds: the octets of a message or of a UDP datagram, with the addresses that its checksum
--- covers; or nothing that can be read: its kind, the reason under which it is counted, and why
+-- what a control packet holds: the message of a whole datagram, or of one of which so many bytes are missing, with the
+-- reason under which it is counted; or nothing that can be read: its kind, that reason, and why
 pub data ContentValue : Type 0 where
-  icmp4 : List ℕ → ContentValue
-  igmp : List ℕ → ContentValue
-  icmp6 : Ipv6Address → Ipv6Address → List ℕ → ContentValue
-  dns : Addresses → List ℕ → ContentValue
-  mdns : Addresses → List ℕ → ContentValue
-  dhcp : Addresses → List ℕ → ContentValue
+  whole : MessageValue → ContentValue
+  cut : MessageValue → ℕ → Reason → ContentValue
   refused : Kind → Reason → Refusal → ContentValue
 
 -- what the headers of a control packet tell: VLAN tags of four bytes each, and the addresses, the ports and the
@@ -64,12 +63,8 @@ pub data SightValue : Type 0 where
   control : HeadersValue → SightValue
 
 abbrev pub content_of : Content → ContentValue
-content_of (content.Icmp4 octets) = icmp4 octets.now
-content_of (content.Igmp octets) = igmp octets.now
-content_of (content.Icmp6 source destination octets) = icmp6 source destination octets.now
-content_of (content.Dns addresses octets) = dns addresses octets.now
-content_of (content.Mdns addresses octets) = mdns addresses octets.now
-content_of (content.Dhcp addresses octets) = dhcp addresses octets.now
+content_of (content.Whole message) = whole (value_of message)
+content_of (content.Cut message missing counted) = cut (value_of message) missing counted
 content_of (content.Refused kind counted r) = refused kind counted r
 
 abbrev pub headers_of : Headers → HeadersValue
@@ -86,13 +81,22 @@ sight_of sight.Unread = unread
 sight_of sight.Other = other
 sight_of (sight.Control h) = control (headers_of h)
 
+abbrev pub kind_of_service : Service → Kind
+kind_of_service Service.Dns = kind.Dns
+kind_of_service Service.Mdns = kind.Mdns
+kind_of_service Service.Llmnr = kind.Llmnr
+kind_of_service Service.Nbns = kind.Nbns
+kind_of_service Service.Dhcp = kind.Dhcp
+
+abbrev pub kind_of_message : MessageValue → Kind
+kind_of_message (icmp4 octets) = kind.Icmp4
+kind_of_message (igmp octets) = kind.Igmp
+kind_of_message (icmp6 source destination octets) = kind.Icmp6
+kind_of_message (udp service addresses octets) = kind_of_service service
+
 abbrev pub kind_in : ContentValue → Kind
-kind_in (icmp4 octets) = kind.Icmp4
-kind_in (igmp octets) = kind.Igmp
-kind_in (icmp6 source destination octets) = kind.Icmp6
-kind_in (dns addresses octets) = kind.Dns
-kind_in (mdns addresses octets) = kind.Mdns
-kind_in (dhcp addresses octets) = kind.Dhcp
+kind_in (whole m) = kind_of_message m
+kind_in (cut m missing counted) = kind_of_message m
 kind_in (refused kind counted r) = kind
 
 -- ---- what a datagram holds
@@ -107,23 +111,29 @@ is_v4 (V6 source destination) = false
 
 -- too little of a datagram can be read to tell its kind
 abbrev pub unknown : ContentValue
-unknown = refused kind.Frame reason.Short (refusal.Udp Short)
+unknown = refused kind.Frame reason.Short (refusal.Message (UdpHeader Short))
 
--- of UDP, by its ports and the first row that holds
+-- the service over UDP, by its ports and the first row that holds
+abbrev pub service_of : Bool → ℕ × ℕ → Option Service
+service_of over_v4 ports =
+    if has_port ports 53 then Some Service.Dns
+    else if has_port ports 5353 then Some Service.Mdns
+    else if has_port ports 5355 then Some Service.Llmnr
+    else if has_port ports 137 then Some Service.Nbns
+    else if over_v4 && (has_port ports 67 || has_port ports 68) then Some Service.Dhcp
+    else None
+
 abbrev pub content_of_udp : Addresses → Option (ℕ × ℕ) → List ℕ → Option ContentValue
 content_of_udp addresses None payload = Some unknown
 content_of_udp addresses (Some ports) payload =
-    if has_port ports 53 then Some (dns addresses payload)
-    else if has_port ports 5353 then Some (mdns addresses payload)
-    else if is_v4 addresses && (has_port ports 67 || has_port ports 68) then Some (dhcp addresses payload)
-    else None
+    option_map (λ service. whole (udp service addresses payload)) (service_of (is_v4 addresses) ports)
 
 -- of a protocol over IPv4 or IPv6, where an IPv6 header that was not passed hides the kind; none is of another protocol
 abbrev pub content_by : Addresses → IpProtocol → Option (ℕ × ℕ) → List ℕ → Option ContentValue
 content_by addresses Udp ports payload = content_of_udp addresses ports payload
-content_by (V4 source destination) Icmp ports payload = Some (icmp4 payload)
-content_by (V4 source destination) Igmp ports payload = Some (igmp payload)
-content_by (V6 source destination) Icmpv6 ports payload = Some (icmp6 source destination payload)
+content_by (V4 source destination) Icmp ports payload = Some (whole (icmp4 payload))
+content_by (V4 source destination) Igmp ports payload = Some (whole (igmp payload))
+content_by (V6 source destination) Icmpv6 ports payload = Some (whole (icmp6 source destination payload))
 content_by (V6 source destination) HopByHop ports payload = Some unknown
 content_by (V6 source destination) Ipv6Route ports payload = Some unknown
 content_by (V6 source destination) Ipv6Frag ports payload = Some unknown
@@ -174,9 +184,17 @@ told tags addresses protocol ports counted r =
     sight_by (content_by addresses protocol ports [])
     (λ content. refused_headers tags (Some addresses) ports (kind_in content) counted r)
 
+-- what there is of a datagram that is refused, of which this would be the content: the message of one that is cut
+abbrev pub front_content : Extent → Reason → Refusal → ContentValue → ContentValue
+front_content (Extent.Cut missing) counted r (whole m) = cut m missing counted
+front_content extent counted r content = refused (kind_in content) counted r
+
 -- the start of a datagram, as far as the capture has it
-abbrev pub told_front : List ℕ → DatagramValue → Reason → Refusal → SightValue
-told_front tags d = told tags d.addresses d.protocol (ports_in d.protocol d.payload)
+abbrev pub told_front : List ℕ → CapturedValue → Reason → Refusal → SightValue
+told_front tags c counted r =
+    sight_by (content_by c.datagram.addresses c.datagram.protocol (ports_in c.datagram.protocol c.datagram.payload)
+    c.datagram.payload)
+    (λ content. datagram_headers tags c.datagram (front_content c.extent counted r content))
 
 -- what is known of a datagram whose start was not captured
 abbrev pub head_of : DatagramRefusal → Option Head
@@ -190,7 +208,7 @@ ports_behind bytes h = if h.frag_offset == 0 then ports_in h.protocol (drop (hea
 
 -- By the start where it was captured; or else by what is known without it.
 pub data IsRefused4 (tags bytes : List ℕ) (counted : Reason) (r : Refusal) (s : SightValue) : Type 0 where
-  by_front : (c : CapturedValue) → IsCaptured4 bytes c → s ≡ told_front tags c.datagram counted r
+  by_front : (c : CapturedValue) → IsCaptured4 bytes c → s ≡ told_front tags c counted r
       → IsRefused4 tags bytes counted r s
   by_head : (other : DatagramRefusal) (h : Head) → RefusesCaptured4 bytes other → head_of other ≡ Some h
       → s ≡ told tags h.addresses h.protocol (ports_behind bytes h) counted r → IsRefused4 tags bytes counted r s
@@ -198,7 +216,7 @@ pub data IsRefused4 (tags bytes : List ℕ) (counted : Reason) (r : Refusal) (s 
       → s ≡ untold tags counted r → IsRefused4 tags bytes counted r s
 
 pub data IsRefused6 (tags bytes : List ℕ) (counted : Reason) (r : Refusal) (s : SightValue) : Type 0 where
-  by_front : (c : CapturedValue) → IsCaptured6 bytes c → s ≡ told_front tags c.datagram counted r
+  by_front : (c : CapturedValue) → IsCaptured6 bytes c → s ≡ told_front tags c counted r
       → IsRefused6 tags bytes counted r s
   by_head : (other : DatagramRefusal) (h : Head) → RefusesCaptured6 bytes other → head_of other ≡ Some h
       → s ≡ told tags h.addresses h.protocol None counted r → IsRefused6 tags bytes counted r s

@@ -41,7 +41,7 @@ empty = record {
   packets = 0;
   other = 0;
   passed = 0;
-  rows = no_row ∷ no_row ∷ no_row ∷ no_row ∷ no_row ∷ no_row ∷ no_row ∷ [];
+  rows = no_row ∷ no_row ∷ no_row ∷ no_row ∷ no_row ∷ no_row ∷ no_row ∷ no_row ∷ no_row ∷ [];
   links = [];
   beyond = 0;
 }

@@ -13,6 +13,7 @@ use crate::reports::{report_counts, report_ending, report_unopened, report_unrea
 use crate::table::show_table;
 use crate::tally::Tally;
 use capture::Ending;
+use packet_fields::Form;
 use std::io;
 use std::io::{Read, Write};
 
@@ -51,11 +52,17 @@ pub trait Captures {
             (λ bytes. Self.File.remaining file ≡ Some bytes)) };
 }
 
-// An input that keeps the last error of a read.
+// What a file of gzip begins with (RFC 1952 section 2.3.1).
+const GZIP: [u8; 2] = [0x1f, 0x8b];
+
+// An input that keeps the last error of a read, and whether it is a file of gzip.
 #[derive(Drop)]
 struct Watched<R> {
     input: R,
     error: Option<io::Error>,
+    // Whether something was read, and whether it begins as a file of gzip does.
+    is_begun: bool,
+    is_gzip: bool,
 }
 
 impl<R: Read> Read for Watched<R> {
@@ -63,7 +70,13 @@ impl<R: Read> Read for Watched<R> {
 
     fn read(&mut self, buf: &mut [u8]) -> io::Result<usize> {
         match self.input.read(buf) {
-            Ok(count) => Ok(count),
+            Ok(count) => {
+                if !self.is_begun {
+                    self.is_begun = true;
+                    self.is_gzip = count >= GZIP.len() && buf.starts_with(&GZIP);
+                }
+                Ok(count)
+            }
             Err(error) => {
                 // The reader knows by the error's kind whether to try again.
                 let kind = error.kind();
@@ -150,7 +163,7 @@ fn show_title<W: Write>(
     ensures { OnOk result (Gains (W.contents output.old) (W.contents output.new)
         (title options.now several file.now)) }
 {
-    if !options.prints || !several {
+    if !options.prints || !several || options.form == Form::Json {
         return Ok(());
     }
     output.write_all(file.as_bytes())?;
@@ -205,7 +218,12 @@ fn dump_input<R: Read + Drop, W: Write>(
         FilePrints options.now (R.remaining input) (tally_of tally.old) text (tally_of tally.new) status)) }
 {
     let before = tally.packets;
-    let mut input = Watched { input, error: None };
+    let mut input = Watched {
+        input,
+        error: None,
+        is_begun: false,
+        is_gzip: false,
+    };
     let ending = dump_readable(rt.alloc(), options, &mut input, output, tally)?;
     if options.prints {
         report_counts(rt, Some(name), tally)?;
@@ -213,7 +231,7 @@ fn dump_input<R: Read + Drop, W: Write>(
     let packets = tally.packets.saturating_sub(before);
     match ending {
         Some(ending) => {
-            report_ending(rt, name, ending, packets);
+            report_ending(rt, name, ending, packets, input.is_gzip);
             Ok(status_of(ending))
         }
         None => {

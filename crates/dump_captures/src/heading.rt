@@ -2,7 +2,8 @@
 
 #![tactic(auto, using(packet_fields::proofs::Printing::gained, packet_fields::proofs::Printing::gains_both))]
 
-ghost use Rattle.std.specs.Prelude.{◌≡◌, ◌<◌, ◌≤◌, IfSome, OnOk, Some, length};
+ghost use Rattle.std.specs.Prelude.{◌≡◌, ◌<◌, ◌≤◌, IfSome, OnOk, Some, decimal, length};
+ghost use Rattle.frame_wire.specs.Link.{vlan_in};
 ghost use Rattle.std.specs.Option.{option_map};
 ghost use Rattle.frame_wire.specs.declared.datagram.Addresses.TheVariants.{V4, V6};
 ghost use Rattle.capture.specs.Capture.{packet_of};
@@ -16,15 +17,16 @@ use crate::sight::Headers;
 use crate::time::Clock;
 use capture::{Record, Time};
 use frame_wire::Addresses;
-use listing::printer::{Value, line};
+use packet_fields::Form;
 use packet_fields::output::ToWriter;
+use packet_fields::value::{Value, put_text};
 use std::io;
 use std::io::Write;
 use wirebase::text::{put_v4, put_v6};
 use wirebase::{Field, Ipv4Address, Ipv6Address, Octets};
 
 // The length of a VLAN tag, and of its part with the VLAN's number, in bytes.
-const TAG_LEN: usize = 4;
+pub(crate) const TAG_LEN: usize = 4;
 
 const VLAN: Field = 0..2;
 
@@ -40,14 +42,15 @@ pub fn show_heading<W: Write>(
     ensures { OnOk result (Gains (W.contents output.old) (W.contents output.new)
         (heading captured.now.number (packet_of captured.now octets.now) (headers_of headers.now))) }
 {
-    captured.number.write_to(output)?;
+    captured.number.put(output, Form::Lines)?;
     output.write_all(b" ")?;
     show_time(output, clock, captured.time)?;
     show_addresses(output, headers.addresses, headers.ports)?;
     show_tags(output, headers.tags)?;
     show_hop_by_hop(output, headers.hop_by_hop)?;
     output.write_all(b" ")?;
-    line(output, headers.content.kind().name())
+    headers.content.kind().name().put(output, Form::Lines)?;
+    output.write_all(b"\n")
 }
 
 // Prints the time at which a packet was captured, where it is known.
@@ -57,7 +60,11 @@ fn show_time<W: Write>(output: &mut W, clock: &mut Clock, time: Option<Time>) ->
         (packet_time (option_map value_of time))) }
 {
     match time {
-        Some(time) => clock.write(output, time.seconds, time.nanoseconds),
+        Some(time) => put_text(
+            output,
+            Form::Lines,
+            clock.time(time.seconds, time.nanoseconds),
+        ),
         None => output.write_all(b"-"),
     }
 }
@@ -108,7 +115,7 @@ fn show_v6<W: Write>(
     put_v6::<_, ToWriter>(output, destination, destination_port(ports))
 }
 
-fn source_port(ports: Option<(u16, u16)>) -> Option<u16>
+pub(crate) fn source_port(ports: Option<(u16, u16)>) -> Option<u16>
     ensures { result ≡ source_in ports }
 {
     match ports {
@@ -117,7 +124,7 @@ fn source_port(ports: Option<(u16, u16)>) -> Option<u16>
     }
 }
 
-fn destination_port(ports: Option<(u16, u16)>) -> Option<u16>
+pub(crate) fn destination_port(ports: Option<(u16, u16)>) -> Option<u16>
     ensures { result ≡ destination_in ports }
 {
     match ports {
@@ -144,7 +151,15 @@ fn show_tag<W: Write>(output: &mut W, tag: &[u8]) -> io::Result<()>
     ensures { OnOk result (Gains (W.contents output.old) (W.contents output.new) (tag_text tag.now)) }
 {
     output.write_all(b" vlan=")?;
-    (tag.u16_at(VLAN) % 4096).write_to(output)
+    show_vlan(output, tag)
+}
+
+/// Prints the number of the VLAN of a tag of four bytes.
+pub(crate) fn show_vlan<W: Write>(output: &mut W, tag: &[u8]) -> io::Result<()>
+    requires { 4 ≤ length tag.now }
+    ensures { OnOk result (Gains (W.contents output.old) (W.contents output.new) (decimal (vlan_in tag.now 0))) }
+{
+    (tag.u16_at(VLAN) % 4096).put(output, Form::Lines)
 }
 
 fn show_hop_by_hop<W: Write>(output: &mut W, options: Option<&[u8]>) -> io::Result<()>

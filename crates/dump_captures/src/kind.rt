@@ -4,7 +4,7 @@ ghost use Rattle.std.specs.Prelude.{◌≡◌, ◌<◌};
 ghost use Rattle.dump_captures.specs.Kinds.{kind_text, kind_place, reason_text, reason_place};
 
 /// The number of kinds.
-pub const KINDS: usize = 7;
+pub const KINDS: usize = 9;
 
 /// The number of reasons.
 pub const REASONS: usize = 8;
@@ -22,6 +22,10 @@ pub enum Kind {
     Dns,
     /// A message of multicast DNS.
     Mdns,
+    /// A message of link-local multicast name resolution.
+    Llmnr,
+    /// A message of the NetBIOS name service.
+    Nbns,
     /// A DHCP packet.
     Dhcp,
     /// A packet whose kind can't be told, since too little of it can be read.
@@ -36,6 +40,8 @@ impl Kind {
         Kind::Icmp6,
         Kind::Dns,
         Kind::Mdns,
+        Kind::Llmnr,
+        Kind::Nbns,
         Kind::Dhcp,
         Kind::Frame,
     ];
@@ -51,6 +57,8 @@ impl Kind {
             Kind::Icmp6 => "icmp6",
             Kind::Dns => "dns",
             Kind::Mdns => "mdns",
+            Kind::Llmnr => "llmnr",
+            Kind::Nbns => "nbns",
             Kind::Dhcp => "dhcp",
             Kind::Frame => "frame",
         }
@@ -60,7 +68,7 @@ impl Kind {
     #[inline]
     pub fn place(self) -> usize
         ensures value { result ≡ kind_place self }
-        ensures bound { result < 7 }
+        ensures bound { result < 9 }
     {
         self as usize
     }

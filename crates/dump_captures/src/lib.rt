@@ -7,6 +7,7 @@ mod files;
 mod heading;
 mod help;
 pub mod kind;
+mod members;
 mod messages;
 pub mod options;
 mod packets;

@@ -1,109 +1,99 @@
-//! The lines of a control packet below its heading, each after two spaces.
+//! What a control packet holds, below its heading.
 
-#![tactic(auto, using(packet_fields::proofs::Printing::gained, packet_fields::proofs::Printing::gains_both))]
-
-mod icmp;
-mod udp;
-
-ghost use Rattle.std.specs.Prelude.{◌≡◌, OnOk, IfOk, None, Some, false};
+ghost use Rattle.std.specs.Prelude.{◌≡◌, IfOk, Some};
 ghost use Rattle.std.specs.Option.{option_map};
-ghost use Rattle.listing.specs.Indented.{indented};
-ghost use Rattle.packet_fields.specs.Output.{Gains, GainsSome};
-ghost use Rattle.dump_captures.specs.Messages.{refusal_text, OptionsPrint, ContentPrints, ListingPrints};
+ghost use Rattle.message_fields.specs.Checksums.{value_of};
+ghost use Rattle.packet_fields.specs.Prints.{Prints, PrintsSome};
+ghost use Rattle.dump_captures.specs.Messages.{ContentIs, ListingIs, WholeIs, counted, refused_items};
 ghost use Rattle.dump_captures.specs.Refusals.{reason_of};
 ghost use Rattle.dump_captures.specs.Sight.{headers_of, content_of};
 
 use crate::Fault;
 use crate::kind::Reason;
-use crate::messages::icmp::{show_icmp4, show_icmp6, show_igmp};
-use crate::messages::udp::{show_dhcp, show_dns};
+use crate::options::Options;
 use crate::refusal::Refusal;
 use crate::sight::{Content, Headers};
-use listing::hbh::show_hbh;
-use listing::page::{Page, write_indented};
-use std::io;
+use message_fields::{Message, show_cut_message, show_hop_by_hop, show_message};
+use packet_fields::Form;
+use packet_fields::field::field;
+use std::alloc::Global;
 use std::io::Write;
 
-/// Prints what a control packet holds, and returns why it is refused, or None where it is listed. Text that is to be
-/// indented is in the page meanwhile.
+/// Prints what a control packet holds: its hop-by-hop options, and its message as far as it can be read. Returns why it
+/// is refused or read in part, or None where all of it is listed.
 pub fn show_listing<W: Write>(
+    options: &Options,
     output: &mut W,
-    page: &mut Page,
+    alloc: Global,
     headers: &Headers<'_>,
 ) -> Result<Option<Reason>, Fault>
-    ensures { IfOk result (λ why. GainsSome (W.contents output.old) (W.contents output.new)
-        (λ text. ListingPrints (headers_of headers.now) text why)) }
+    ensures { IfOk result (λ why. PrintsSome options.now.form (W.contents output.old) (W.contents output.new)
+        (λ items. ListingIs options.now (headers_of headers.now) items why)) }
 {
-    show_options(output, page, headers.hop_by_hop)?;
-    show_content(output, page, &headers.content)
-}
-
-// Prints hop-by-hop options, where there are any.
-fn show_options<W: Write>(
-    output: &mut W,
-    page: &mut Page,
-    options: Option<&[u8]>,
-) -> Result<(), Fault>
-    ensures { OnOk result (GainsSome (W.contents output.old) (W.contents output.new)
-        (OptionsPrint (option_map (λ octets. octets.now) options.entry))) }
-{
-    let Some(octets) = options else {
-        return Ok(());
-    };
-    page.clear();
-    show_hbh(page, octets)?;
-    write_indented(output, page.as_slice())?;
-    Ok(())
+    show_hop_by_hop(output, options.form, headers.hop_by_hop)?;
+    show_content(options, output, alloc, &headers.content)
 }
 
 // Prints a message, or why there is none to read.
 fn show_content<W: Write>(
+    options: &Options,
     output: &mut W,
-    page: &mut Page,
+    alloc: Global,
     content: &Content<'_>,
 ) -> Result<Option<Reason>, Fault>
-    ensures { IfOk result (λ why. GainsSome (W.contents output.old) (W.contents output.new)
-        (λ text. ContentPrints (content_of content.now) text why)) }
+    ensures { IfOk result (λ why. PrintsSome options.now.form (W.contents output.old) (W.contents output.new)
+        (λ items. ContentIs options.now (content_of content.now) items why)) }
 {
     match content {
-        Content::Icmp4(octets) => show_icmp4(output, page, octets),
-        Content::Igmp(octets) => show_igmp(output, page, octets),
-        Content::Icmp6(src_addr, dst_addr, octets) => {
-            show_icmp6(output, page, src_addr, dst_addr, octets)
+        Content::Whole(message) => show_whole(options, output, alloc, message),
+        Content::Cut(message, missing, reason) => {
+            show_cut_message(output, options.form, alloc, message, *missing)?;
+            Ok(Some(*reason))
         }
-        Content::Dns(addresses, octets) => show_dns(output, addresses, octets, false),
-        Content::Mdns(addresses, octets) => show_dns(output, addresses, octets, true),
-        Content::Dhcp(addresses, octets) => show_dhcp(output, page, addresses, octets),
-        Content::Refused(_, reason, refusal) => refuse(output, *reason, refusal),
+        Content::Refused(_, reason, refusal) => {
+            refuse(output, options.form, alloc, *reason, refusal)
+        }
+    }
+}
+
+// Prints the message of a whole datagram.
+fn show_whole<W: Write>(
+    options: &Options,
+    output: &mut W,
+    alloc: Global,
+    message: &Message<'_>,
+) -> Result<Option<Reason>, Fault>
+    ensures { IfOk result (λ why. PrintsSome options.now.form (W.contents output.old) (W.contents output.new)
+        (λ items. WholeIs options.now (value_of message.now) items why)) }
+{
+    let told = show_message(output, options.form, alloc, message, options.is_strict)?;
+    Ok(counted(told))
+}
+
+// The reason under which a message is counted that is refused or read in part.
+fn counted(told: Option<message_fields::Refusal>) -> Option<Reason>
+    ensures { result ≡ counted told }
+{
+    match told {
+        Some(refusal) => Some(Refusal::Message(refusal).reason(false)),
+        None => None,
     }
 }
 
 // Prints why a packet is refused, which is counted under this reason.
 fn refuse<W: Write>(
     output: &mut W,
+    form: Form,
+    alloc: Global,
     reason: Reason,
     refusal: &Refusal,
 ) -> Result<Option<Reason>, Fault>
-    ensures { IfOk result (λ why. Gains (W.contents output.old) (W.contents output.new) (refusal_text refusal.now)
-        × (why ≡ Some reason)) }
+    ensures { IfOk result (λ why. Prints form (W.contents output.old) (W.contents output.new)
+        (refused_items refusal.now) × (why ≡ Some reason)) }
 {
-    writeln!(output, "  refused={refusal}")?;
+    let Ok(phrase) = refusal.to_string(alloc) else {
+        return Err(Fault::Memory);
+    };
+    field(output, form, "refused", phrase.as_str())?;
     Ok(Some(reason))
-}
-
-/// Prints why a message is refused, whose datagram is whole.
-fn refuse_message<W: Write>(output: &mut W, refusal: &Refusal) -> Result<Option<Reason>, Fault>
-    ensures { IfOk result (λ why. Gains (W.contents output.old) (W.contents output.new) (refusal_text refusal.now)
-        × (why ≡ Some (reason_of false refusal.now))) }
-{
-    refuse(output, refusal.reason(false), refusal)
-}
-
-// Prints the page, indented.
-fn write_page<W: Write>(output: &mut W, page: &[u8]) -> Result<Option<Reason>, Fault>
-    ensures { IfOk result (λ why. Gains (W.contents output.old) (W.contents output.new) (indented page.now)
-        × (why ≡ None)) }
-{
-    write_indented(output, page)?;
-    Ok(None)
 }

@@ -1,11 +1,13 @@
 //! The packets of a capture, in one pass.
 
-ghost use Rattle.std.specs.Prelude.{◌≡◌, ◌<◌, ℕ, List, Option, [], IfOk, IfSome, OnOk};
+ghost use Rattle.std.specs.Prelude.{◌≡◌, ◌<◌, ◌^◌, List, Option, [], IfOk, IfSome, OnOk};
 ghost use Rattle.capture.specs.Capture.{packet_of};
 ghost use Rattle.std.specs.Io.Buffered.{reader_remaining};
 ghost use Rattle.packet_fields.specs.Output.{Gains, GainsSome};
-ghost use Rattle.dump_captures.specs.Dump.{PacketPrints, CapturePrints, InputPrints, outcome_of};
-ghost use Rattle.dump_captures.specs.Messages.{ListingPrints};
+ghost use Rattle.packet_fields.specs.Fields.{Item};
+ghost use Rattle.dump_captures.specs.Dump.{CapturePrints, ControlPrints, InputPrints, PacketPrints, outcome_of};
+ghost use Rattle.dump_captures.specs.Messages.{ListingIs};
+ghost use Rattle.dump_captures.specs.private.Objects.{object_front};
 ghost use Rattle.dump_captures.specs.Sight.{headers_of, content_of, kind_in, IsSight, control};
 ghost use Rattle.dump_captures.specs.Tally.{tally_of, empty};
 ghost use Rattle.dump_captures.specs.declared.kind.Reason.{Reason as AnyReason};
@@ -13,13 +15,15 @@ ghost use Rattle.dump_captures.specs.declared.kind.Reason.{Reason as AnyReason};
 use crate::Fault;
 use crate::heading::show_heading;
 use crate::kind::{Kind, Reason};
+use crate::members::show_members;
 use crate::messages::show_listing;
 use crate::options::Options;
 use crate::sight::{Headers, Sight, look};
 use crate::tally::{Outcome, Tally};
 use crate::time::Clock;
 use capture::{Capture, Ending, Next, Record};
-use listing::page::Page;
+use packet_fields::Form;
+use packet_fields::value::{Value, put_string};
 use std::alloc::Global;
 use std::io;
 use std::io::{BufReader, BufWriter, Read, Write};
@@ -121,14 +125,13 @@ fn show_packets<R: Read, W: Write>(
         ending)) }
 {
     let mut capture = Capture::new(alloc);
-    let mut page = Page::new(alloc);
     let mut clock = Clock::new();
     'packets: for _ in 0..u64::MAX {
         write_out_before_wait(&capture, input, output)?;
         match capture.next(input) {
             Ok(Next::Record(record)) => {
                 let octets = capture.octets();
-                let outcome = show_packet(options, output, &mut page, &mut clock, &record, octets)?;
+                let outcome = show_packet(options, output, alloc, &mut clock, &record, octets)?;
                 tally.count(outcome, record.link_type, octets.len() as u64);
             }
             Ok(Next::Ended(ending)) => return Ok(Some(ending)),
@@ -157,7 +160,7 @@ fn write_out_before_wait<R: Read, W: Write>(
 pub fn show_packet<W: Write>(
     options: &Options,
     output: &mut W,
-    page: &mut Page,
+    alloc: Global,
     clock: &mut Clock,
     captured: &Record,
     octets: &[u8],
@@ -170,7 +173,7 @@ pub fn show_packet<W: Write>(
         Sight::Unread => Ok(Outcome::Unread),
         Sight::Other => Ok(Outcome::Other),
         Sight::Control(headers) => {
-            show_control(options, output, page, clock, captured, octets, headers)
+            show_control(options, output, alloc, clock, captured, octets, headers)
         }
     }
 }
@@ -181,7 +184,7 @@ pub fn show_packet<W: Write>(
 fn show_control<W: Write>(
     options: &Options,
     output: &mut W,
-    page: &mut Page,
+    alloc: Global,
     clock: &mut Clock,
     captured: &Record,
     octets: &[u8],
@@ -196,19 +199,90 @@ fn show_control<W: Write>(
         return Ok(Outcome::Passed);
     }
     if !options.prints {
-        return count_alone(page, headers);
+        return count_alone(options, alloc, headers);
     }
-    show_heading(output, clock, captured, octets, headers)?;
-    let why = show_listing(output, page, headers)?;
+    let why = show_chosen(options, output, alloc, clock, captured, octets, headers)?;
     Ok(outcome(headers.content.kind(), why))
 }
 
-// Reads a control packet that is only counted.
-fn count_alone(page: &mut Page, headers: &Headers<'_>) -> Result<Outcome, Fault>
-    ensures { IfOk result (λ outcome. (listing : List ℕ) × (why : Option AnyReason)
-        × ListingPrints (headers_of headers.now) listing why × (outcome ≡ outcome_of (kind_in (content_of headers.now.content)) why)) }
+// Prints a control packet in the form that is asked for.
+fn show_chosen<W: Write>(
+    options: &Options,
+    output: &mut W,
+    alloc: Global,
+    clock: &mut Clock,
+    captured: &Record,
+    octets: &[u8],
+    headers: &Headers<'_>,
+) -> Result<Option<Reason>, Fault>
+    requires { IfSome captured.now.time (λ time. time.nanoseconds < 1000000000) }
+    ensures { IfOk result (λ why. GainsSome (W.contents output.old) (W.contents output.new)
+        (ControlPrints options.now captured.now.number (packet_of captured.now octets.now) (headers_of headers.now) why)) }
 {
-    let why = show_listing(&mut io::sink(), page, headers)?;
+    match options.form {
+        Form::Lines => show_lines(options, output, alloc, clock, captured, octets, headers),
+        Form::Json => show_object(options, output, alloc, clock, captured, octets, headers),
+    }
+}
+
+// Prints a control packet in lines.
+fn show_lines<W: Write>(
+    options: &Options,
+    output: &mut W,
+    alloc: Global,
+    clock: &mut Clock,
+    captured: &Record,
+    octets: &[u8],
+    headers: &Headers<'_>,
+) -> Result<Option<Reason>, Fault>
+    requires time { IfSome captured.now.time (λ time. time.nanoseconds < 1000000000) }
+    requires form { options.now.form ≡ Form.Lines }
+    ensures { IfOk result (λ why. GainsSome (W.contents output.old) (W.contents output.new)
+        (ControlPrints options.now captured.now.number (packet_of captured.now octets.now) (headers_of headers.now) why)) }
+{
+    show_heading(output, clock, captured, octets, headers)?;
+    show_listing(options, output, alloc, headers)
+}
+
+// Prints a control packet as an object of JSON, on a line.
+fn show_object<W: Write>(
+    options: &Options,
+    output: &mut W,
+    alloc: Global,
+    clock: &mut Clock,
+    captured: &Record,
+    octets: &[u8],
+    headers: &Headers<'_>,
+) -> Result<Option<Reason>, Fault>
+    requires time { IfSome captured.now.time (λ time. time.nanoseconds < 1000000000) }
+    requires form { options.now.form ≡ Form.Json }
+    ensures { IfOk result (λ why. GainsSome (W.contents output.old) (W.contents output.new)
+        (ControlPrints options.now captured.now.number (packet_of captured.now octets.now) (headers_of headers.now) why)) }
+{
+    open_object(output, captured.number)?;
+    show_members(output, clock, captured, octets, headers)?;
+    let why = show_listing(options, output, alloc, headers)?;
+    output.write_all(b"}\n")?;
+    Ok(why)
+}
+
+// Prints the front of an object, up to its first member, the packet's number.
+fn open_object<W: Write>(output: &mut W, number: u64) -> io::Result<()>
+    ensures text { OnOk result (Gains (W.contents output.old) (W.contents output.new) (object_front number)) }
+    ensures fits { number < 2 ^ 64 }
+{
+    output.write_all(b"{")?;
+    put_string(output, "number")?;
+    output.write_all(b":")?;
+    number.put(output, Form::Json)
+}
+
+// Reads a control packet that is only counted.
+fn count_alone(options: &Options, alloc: Global, headers: &Headers<'_>) -> Result<Outcome, Fault>
+    ensures { IfOk result (λ outcome. (items : List Item) × (why : Option AnyReason)
+        × ListingIs options.now (headers_of headers.now) items why × (outcome ≡ outcome_of (kind_in (content_of headers.now.content)) why)) }
+{
+    let why = show_listing(options, &mut io::sink(), alloc, headers)?;
     Ok(outcome(headers.content.kind(), why))
 }
 

@@ -57,6 +57,7 @@ pub fn run_program(rt: &(impl Env + Files + Input + Print + Eprint + AllocGlobal
     match task {
         Ok(Task::Dump(options, files)) => dump_files(rt, &options, files.as_slice()),
         Ok(Task::Help) => print_help(rt),
+        Ok(Task::Version) => print_version(rt),
         Ok(Task::Unknown(wrong)) => {
             report_wrong(rt, &wrong);
             WRONG
@@ -68,6 +69,14 @@ pub fn run_program(rt: &(impl Env + Files + Input + Print + Eprint + AllocGlobal
 // Prints the help, and returns the status.
 fn print_help(rt: &(impl Print + Eprint)) -> u8 {
     match println!(rt; "{}\n\n{}", help::USAGE, help::HELP) {
+        Ok(()) => WHOLE,
+        Err(error) => end_by(rt, Fault::from(error)),
+    }
+}
+
+// Prints the version, and returns the status.
+fn print_version(rt: &(impl Print + Eprint)) -> u8 {
+    match println!(rt; "pcapdump {}", help::VERSION) {
         Ok(()) => WHOLE,
         Err(error) => end_by(rt, Fault::from(error)),
     }

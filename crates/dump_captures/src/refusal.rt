@@ -2,15 +2,14 @@
 
 ghost use Rattle.std.specs.Prelude.{◌≡◌, Some};
 ghost use Rattle.dump_captures.specs.Refusals.{early, frame_reason, datagram_reason, udp_reason, icmp4_reason};
-ghost use Rattle.dump_captures.specs.Refusals.{igmp_reason, icmp6_reason, dhcp_reason, dns_reason};
+ghost use Rattle.dump_captures.specs.Refusals.{dhcp_reason, dns_reason, igmp_reason, icmp6_reason, message_reason};
 ghost use Rattle.dump_captures.specs.Refusals.{refusal_display, reason_of};
 
 use crate::kind::Reason;
-use dhcp_wire::dhcpv4;
+use dns_fields::unread::Unread;
 use frame_wire::{link, udp};
 use icmp4_wire::{icmpv4, igmp};
 use icmp6_wire::icmpv6;
-use listing::message::Unread;
 use quote_wire::message::{Icmpv4Refusal, Icmpv6Refusal};
 use quote_wire::{icmpv4_error, icmpv6_error};
 use record_wire::TextRefusal;
@@ -23,18 +22,8 @@ pub enum Refusal {
     Frame(link::Refusal),
     /// The IP datagram is refused.
     Datagram(frame_wire::Refusal),
-    /// The UDP datagram is refused.
-    Udp(udp::Refusal),
-    /// The ICMPv4 message is refused.
-    Icmp4(Icmpv4Refusal),
-    /// The IGMP message is refused.
-    Igmp(igmp::Refusal),
-    /// The ICMPv6 message is refused.
-    Icmp6(Icmpv6Refusal),
-    /// The DHCP packet is refused.
-    Dhcp(dhcpv4::Refusal),
-    /// The DNS message is not listed to its end.
-    Dns(Unread),
+    /// The message is refused, or read in part.
+    Message(message_fields::Refusal),
 }
 
 impl Refusal {
@@ -47,12 +36,7 @@ impl Refusal {
         match self {
             Refusal::Frame(refusal) => frame_reason(is_cut, refusal),
             Refusal::Datagram(refusal) => datagram_reason(is_cut, refusal),
-            Refusal::Udp(refusal) => udp_reason(refusal),
-            Refusal::Icmp4(refusal) => icmp4_reason(refusal),
-            Refusal::Igmp(refusal) => igmp_reason(refusal),
-            Refusal::Icmp6(refusal) => icmp6_reason(refusal),
-            Refusal::Dhcp(refusal) => dhcp_reason(refusal),
-            Refusal::Dns(unread) => dns_reason(unread),
+            Refusal::Message(refusal) => message_reason(refusal),
         }
     }
 }
@@ -90,6 +74,46 @@ fn datagram_reason(is_cut: bool, refusal: frame_wire::Refusal) -> Reason
         | frame_wire::Refusal::TotalLen(_)
         | frame_wire::Refusal::Jumbogram
         | frame_wire::Refusal::Extension(_) => Reason::Malformed,
+    }
+}
+
+fn message_reason(refusal: message_fields::Refusal) -> Reason
+    ensures { result ≡ message_reason refusal }
+{
+    match refusal {
+        message_fields::Refusal::Checksum => Reason::Checksum,
+        message_fields::Refusal::Udp(refusal) => udp_reason(refusal),
+        message_fields::Refusal::Cut => Reason::Short,
+        message_fields::Refusal::Icmp4(refusal) => icmp4_reason(refusal),
+        message_fields::Refusal::Igmp(refusal) => igmp_reason(refusal),
+        message_fields::Refusal::Icmp6(refusal) => icmp6_reason(refusal),
+        message_fields::Refusal::Dhcp(refusal) => dhcp_reason(refusal),
+        message_fields::Refusal::Dns(unread) => dns_reason(unread),
+    }
+}
+
+fn dhcp_reason(refusal: dhcp_fields::Refusal) -> Reason
+    ensures { result ≡ dhcp_reason refusal }
+{
+    match refusal {
+        dhcp_fields::Refusal::Short => Reason::Short,
+        dhcp_fields::Refusal::MagicCookie | dhcp_fields::Refusal::OptionCut(_) => Reason::Malformed,
+    }
+}
+
+fn dns_reason(unread: Unread) -> Reason
+    ensures { result ≡ dns_reason unread }
+{
+    match unread {
+        Unread::Header => Reason::Short,
+        Unread::Question(_)
+        | Unread::Record(TextRefusal::Owner(_))
+        | Unread::Record(TextRefusal::DataName(_)) => Reason::Name,
+        Unread::Entry(..)
+        | Unread::Record(TextRefusal::Data(_))
+        | Unread::Option(_)
+        | Unread::Addresses
+        | Unread::Names => Reason::Malformed,
     }
 }
 
@@ -144,29 +168,6 @@ fn icmp6_reason(refusal: Icmpv6Refusal) -> Reason
     }
 }
 
-fn dhcp_reason(refusal: dhcpv4::Refusal) -> Reason
-    ensures { result ≡ dhcp_reason refusal }
-{
-    match refusal {
-        dhcpv4::Refusal::Short => Reason::Short,
-        _ => Reason::Malformed,
-    }
-}
-
-fn dns_reason(unread: Unread) -> Reason
-    ensures { result ≡ dns_reason unread }
-{
-    match unread {
-        Unread::Header => Reason::Short,
-        Unread::Question(_)
-        | Unread::Record(TextRefusal::Owner(_))
-        | Unread::Record(TextRefusal::DataName(_)) => Reason::Name,
-        Unread::Entry(..) | Unread::Record(TextRefusal::Data(_)) | Unread::Option(_) => {
-            Reason::Malformed
-        }
-    }
-}
-
 /// The reason as a phrase.
 impl fmt::Display for Refusal {
     ghost output = { λ refusal. Some (refusal_display refusal) };
@@ -175,12 +176,7 @@ impl fmt::Display for Refusal {
         match self {
             Refusal::Frame(refusal) => write!(f, "{refusal}"),
             Refusal::Datagram(refusal) => write!(f, "{refusal}"),
-            Refusal::Udp(refusal) => write!(f, "{refusal}"),
-            Refusal::Icmp4(refusal) => write!(f, "{refusal}"),
-            Refusal::Igmp(refusal) => write!(f, "{refusal}"),
-            Refusal::Icmp6(refusal) => write!(f, "{refusal}"),
-            Refusal::Dhcp(refusal) => write!(f, "{refusal}"),
-            Refusal::Dns(unread) => write!(f, "{unread}"),
+            Refusal::Message(refusal) => write!(f, "{refusal}"),
         }
     }
 }

@@ -30,10 +30,13 @@ pub fn report_counts(
     Ok(())
 }
 
-/// Prints what ended a capture if it did not end after a whole record.
-pub fn report_ending(rt: &impl Eprint, file: &str, ending: Ending, packets: u64) {
+/// Prints what ended a capture if it did not end after a whole record; of a file of gzip how it can be read.
+pub fn report_ending(rt: &impl Eprint, file: &str, ending: Ending, packets: u64, is_gzip: bool) {
     let _ = match (ending, packets) {
         (Ending::Whole, _) => Ok(()),
+        (Ending::NotACapture, 0) if is_gzip => {
+            eprintln!(rt; "pcapdump: {file}: {ending} but a file of gzip: zcat {file} | ./pcapdump")
+        }
         (_, 0) => eprintln!(rt; "pcapdump: {file}: {ending}"),
         (_, last) => eprintln!(rt; "pcapdump: {file}: {ending}, after packet {last}"),
     };

@@ -11,7 +11,8 @@ ghost use Rattle.dump_captures.specs.Tally.{tally_of};
 
 use crate::kind::Reason;
 use crate::tally::{Tally, UnreadLink};
-use listing::printer::Value;
+use packet_fields::Form;
+use packet_fields::value::Value;
 use std::io;
 use std::io::Write;
 
@@ -21,15 +22,15 @@ pub fn write_summary<W: Write>(output: &mut W, tally: &Tally) -> io::Result<()>
     ensures { OnOk result (Gains (W.contents output.old) (W.contents output.new)
         (summary_text (tally_of tally.now))) }
 {
-    tally.packets.write_to(output)?;
+    tally.packets.put(output, Form::Lines)?;
     output.write_all(b" packets, ")?;
-    listed(tally).write_to(output)?;
+    listed(tally).put(output, Form::Lines)?;
     output.write_all(b" listed, ")?;
-    all_refused(tally).write_to(output)?;
+    all_refused(tally).put(output, Form::Lines)?;
     output.write_all(b" refused")?;
     write_reasons(output, tally)?;
     output.write_all(b", ")?;
-    tally.other.write_to(output)?;
+    tally.other.put(output, Form::Lines)?;
     output.write_all(b" of other protocols")?;
     write_further(output, tally.passed, " of kinds that are not printed")?;
     write_links(output, tally.links.as_slice())?;
@@ -118,9 +119,9 @@ fn write_count<W: Write>(output: &mut W, count: u64, reason: Reason) -> io::Resu
     ensures { OnOk result (Gains (W.contents output.old) (W.contents output.new)
         (decimal count ++ codes " " ++ reason_text reason)) }
 {
-    count.write_to(output)?;
+    count.put(output, Form::Lines)?;
     output.write_all(b" ")?;
-    reason.name().write_to(output)
+    reason.name().put(output, Form::Lines)
 }
 
 // The number of frames of each unsupported link.
@@ -139,9 +140,9 @@ fn write_link<W: Write>(output: &mut W, link: &UnreadLink) -> io::Result<()>
         (link_text link.now)) }
 {
     output.write_all(b", ")?;
-    link.frames.write_to(output)?;
+    link.frames.put(output, Form::Lines)?;
     output.write_all(b" of link ")?;
-    link.link_type.write_to(output)
+    link.link_type.put(output, Form::Lines)
 }
 
 // A further number and what it counts, where it is not 0.
@@ -153,6 +154,6 @@ fn write_further<W: Write>(output: &mut W, count: u64, what: &str) -> io::Result
         return Ok(());
     }
     output.write_all(b", ")?;
-    count.write_to(output)?;
+    count.put(output, Form::Lines)?;
     output.write_all(what.as_bytes())
 }

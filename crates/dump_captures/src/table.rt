@@ -11,7 +11,8 @@ ghost use Rattle.dump_captures.specs.Tally.{tally_of};
 use crate::kind::{Kind, Reason};
 use crate::options::Only;
 use crate::tally::{Row, Tally};
-use listing::printer::Value;
+use packet_fields::Form;
+use packet_fields::value::Value;
 use std::io;
 use std::io::Write;
 
@@ -39,7 +40,7 @@ fn show_reasons<W: Write>(output: &mut W) -> io::Result<()>
 {
     for reason in &Reason::ALL {
         output.write_all(b"\t")?;
-        reason.name().write_to(output)?;
+        reason.name().put(output, Form::Lines)?;
     }
     Ok(())
 }
@@ -70,12 +71,12 @@ fn show_row<W: Write>(output: &mut W, kind: Kind, row: &Row) -> io::Result<()>
     ensures { OnOk result (Gains (W.contents output.old) (W.contents output.new)
         (row_text kind row.now)) }
 {
-    kind.name().write_to(output)?;
+    kind.name().put(output, Form::Lines)?;
     output.write_all(b"\t")?;
-    row.listed.write_to(output)?;
+    row.listed.put(output, Form::Lines)?;
     show_numbers(output, &row.refused)?;
     output.write_all(b"\t")?;
-    row.octets.write_to(output)?;
+    row.octets.put(output, Form::Lines)?;
     output.write_all(b"\n")
 }
 
@@ -86,7 +87,7 @@ fn show_numbers<W: Write>(output: &mut W, numbers: &[u64]) -> io::Result<()>
 {
     for number in numbers {
         output.write_all(b"\t")?;
-        number.write_to(output)?;
+        number.put(output, Form::Lines)?;
     }
     Ok(())
 }

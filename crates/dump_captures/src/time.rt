@@ -1,18 +1,20 @@
 //! Times of packets, as RFC 3339 writes them in UTC.
 
-#![tactic(auto, using(packet_fields::proofs::Printing::gained, packet_fields::proofs::Printing::gains_both, packet_fields::proofs::Printing::put))]
+#![tactic(auto, using(wirebase::proofs::Sinks::puts))]
 
-ghost use Rattle.std.specs.Prelude.{◌≡◌, ◌+◌, ◌/◌, ◌%◌, ◌++◌, OnOk};
+ghost use Rattle.std.specs.Prelude.{◌≡◌, ◌+◌, ◌/◌, ◌%◌, ◌++◌};
 ghost use Rattle.capture.specs.Calendar.{date_of as date_after};
-ghost use Rattle.packet_fields.specs.Output.{Gains};
-ghost use Rattle.dump_captures.specs.TimeText.{time_of_day_text, time_text};
+ghost use Rattle.std.specs.Prelude.{IsAscii};
+ghost use Rattle.packet_fields.specs.Fields.{text};
+ghost use Rattle.dump_captures.specs.TimeText.{long_text, time_of_day_text, time_text};
 ghost use Rattle.dump_captures.specs.private.Parts.{kept_text};
 
 use capture::calendar::{Date, date_of};
-use packet_fields::output::ToWriter;
+use packet_fields::Form;
+use packet_fields::value::{Text, Value, put_text};
 use std::io;
 use std::io::Write;
-use wirebase::text::{last_digit, nine_digits, put_number, two_digits};
+use wirebase::text::{Sink, last_digit, nine_digits, put_number, two_digits};
 
 const DAY_SECONDS: u64 = 86_400;
 
@@ -21,7 +23,7 @@ const DATE_LEN: usize = 10;
 
 const TIME_LEN: usize = 20;
 
-/// Writes times, most of which are on the same day as the one before.
+/// Tells times, most of which are on the same day as the one before.
 #[derive(Drop)]
 pub struct Clock {
     // A day, counted from 1970-01-01.
@@ -35,32 +37,23 @@ pub struct Clock {
 }
 
 impl Clock {
-    /// A clock that has written nothing yet.
+    /// A clock that has told nothing yet.
     #[inline]
     pub fn new() -> Clock {
         Clock::at(0)
     }
 
-    /// Writes the time this many seconds and nanoseconds after 1970-01-01T00:00:00Z, as
-    /// `2024-05-01T12:34:56.000000000Z`. A year above 9999 has more than four digits. Nanoseconds are written by their
-    /// last nine digits.
+    /// The time this many seconds and nanoseconds after 1970-01-01T00:00:00Z, as `2024-05-01T12:34:56.000000000Z`. A
+    /// year above 9999 has more than four digits. Nanoseconds are told by their last nine digits.
     #[inline]
-    pub fn write<W: Write>(
-        &mut self,
-        output: &mut W,
-        seconds: u64,
-        nanoseconds: u32,
-    ) -> io::Result<()>
-        ensures { OnOk result (Gains (W.contents output.old) (W.contents output.new)
-            (time_text seconds nanoseconds)) }
+    pub fn time(&mut self, seconds: u64, nanoseconds: u32) -> TimeText
+        ensures { long_text result.ten_thousands result.octets ≡ time_text seconds nanoseconds }
     {
         self.turn_to(seconds / DAY_SECONDS);
-        let text = join(&self.date, &time_octets(seconds, nanoseconds));
-        if self.ten_thousands == 0 {
-            return output.write_all(&text);
+        TimeText {
+            ten_thousands: self.ten_thousands,
+            octets: join(&self.date, &time_octets(seconds, nanoseconds)),
         }
-        put_number::<_, ToWriter>(output, self.ten_thousands)?;
-        output.write_all(&text)
     }
 
     // Keeps the date of this day instead of another's.
@@ -82,6 +75,36 @@ impl Clock {
             ten_thousands: date.year / 10_000,
             date: date_octets(date),
         }
+    }
+}
+
+/// The text of a time.
+#[derive(Debug, Clone, Copy)]
+pub struct TimeText {
+    // The year without its last four digits, where it has more.
+    ten_thousands: u64,
+    // The last four digits of the year, and all behind them.
+    octets: [u8; DATE_LEN + TIME_LEN],
+    ghost ascii: { IsAscii octets },
+}
+
+impl Text for TimeText {
+    ghost text_of = { λ time. long_text time.ten_thousands time.octets };
+
+    fn put_into<O, S: Sink<O>>(self, output: &mut O) -> Result<(), S::Error> {
+        if self.ten_thousands == 0 {
+            return S::put(output, &self.octets);
+        }
+        put_number::<O, S>(output, self.ten_thousands)?;
+        S::put(output, &self.octets)
+    }
+}
+
+impl Value for TimeText {
+    ghost leaf = { λ time. text (long_text time.ten_thousands time.octets) };
+
+    fn put<W: Write>(self, output: &mut W, form: Form) -> io::Result<()> {
+        put_text(output, form, self)
     }
 }
 

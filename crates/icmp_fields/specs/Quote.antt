@@ -1,16 +1,19 @@
 -- What ICMP errors quote of a datagram, as fields.
-use Rattle.std.specs.Prelude.{◌++◌, ◌∷◌, [], List, None, Option, Some, ℕ, codes}
+use Rattle.std.specs.Prelude.{◌==◌, ◌++◌, ◌∷◌, [], List, None, Option, Some, ℕ, codes, if◌then◌else◌}
 use Rattle.wirebase.specs.Ip.{protocol_number}
 use Rattle.wirebase.specs.Ipv4 as ipv4
 use Rattle.wirebase.specs.Ipv6Address as ipv6
 use Rattle.wirebase.specs.declared.ip.IpProtocol.{IpProtocol}
 use Rattle.quote_wire.specs.declared.quote.Ipv4Quote.{Ipv4Quote}
 use Rattle.quote_wire.specs.declared.quote.Ipv6Quote.{Ipv6Quote}
-use Rattle.listing.specs.ListingQuote.{ipv4_ports}
-use Rattle.listing.specs.Ports.{ports_in}
+use Rattle.packet_fields.specs.Ports.{ports_in}
 use Rattle.packet_fields.specs.Fields.{Item, field, named, number, truth, text, octets, leaf_or_missing}
 use Rattle.icmp_fields.specs.Names.{name_in}
 use Rattle.icmp_fields.specs.ProtocolNames.{protocol_names}
+
+-- a fragment that is not the first begins with no header
+abbrev pub ipv4_ports : Ipv4Quote → Option (ℕ × ℕ)
+ipv4_ports q = if q.frag_offset == 0 then ports_in q.next_header q.payload.now else None
 
 -- the protocol of what is quoted, with its name
 abbrev pub protocol_item : IpProtocol → Item
@@ -45,7 +48,6 @@ ipv4_path_items q =
     ∷ field (codes "quoted_src_addr") (text (ipv4.address_text q.src_addr))
     ∷ field (codes "quoted_dst_addr") (text (ipv4.address_text q.dst_addr)) ∷ []
 
--- a fragment that is not the first begins with no header, and so it has no ports
 abbrev pub ipv4_quote_items : Ipv4Quote → List Item
 ipv4_quote_items q =
     fragment_items q

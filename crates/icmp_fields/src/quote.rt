@@ -3,15 +3,14 @@
 #![tactic(auto, using(packet_fields::proofs::Fields::prints_both))]
 
 ghost use Rattle.std.specs.Prelude.{◌∷◌, [], ◌≡◌, Option, OnOk, ℕ};
-ghost use Rattle.listing.specs.ListingQuote.{ipv4_ports};
 ghost use Rattle.packet_fields.specs.Prints.{Prints};
 ghost use Rattle.icmp_fields.specs.Quote.{protocol_item, port_items, ports_items, fragment_items, ipv4_path_items};
-ghost use Rattle.icmp_fields.specs.Quote.{ipv4_quote_items, flow_items, ipv6_path_items, ipv6_quote_items};
+ghost use Rattle.icmp_fields.specs.Quote.{ipv4_ports, ipv4_quote_items, flow_items, ipv6_path_items, ipv6_quote_items};
 
 use crate::protocol_names::protocol_name;
-use listing::ports::ports_of;
 use packet_fields::Form;
 use packet_fields::field::{field, named};
+use packet_fields::ports::ports_of;
 use quote_wire::quote::{Ipv4Quote, Ipv6Quote};
 use std::io;
 use std::io::Write;

@@ -1,11 +1,4 @@
 pub mod Addresses
-pub mod Entries
-pub mod FlagNames
-pub mod Gateways
-pub mod Lines
-pub mod OneLine
-pub mod Options
 pub mod Printing
-pub mod Records
 pub mod Walking
 pub mod Words

@@ -1,5 +1,5 @@
 -- What is printed for octets that a grammar reads or refuses.
-use Rattle.listing.proofs.Words.{◌≡◌, Gains, GainsSome, IsListingOrRefused, List, OnOk, Option, Result, ℕ, codes, inl, inr}
+use Rattle.listing.proofs.Words.{Gains, GainsSome, IsListingOrRefused, List, OnOk, Option, Result, ℕ, codes, inl, inr}
 use Rattle.listing.proofs.Words.{line, refl}
 use Rattle.packet_fields.proofs.Printing.{gained_text}
 

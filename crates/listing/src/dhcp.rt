@@ -30,8 +30,7 @@ pub fn show_dhcp<W: Write>(output: &mut W, packet: &[u8]) -> io::Result<()>
     show_packet(output, &packet)
 }
 
-/// Prints a packet that was read.
-pub fn show_packet<W: Write>(output: &mut W, packet: &Repr<'_>) -> io::Result<()>
+fn show_packet<W: Write>(output: &mut W, packet: &Repr<'_>) -> io::Result<()>
     ensures { OnOk result (Gains (W.contents output.old) (W.contents output.new)
         (dhcp_listing (value_of packet.now))) }
 {

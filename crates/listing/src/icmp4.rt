@@ -2,13 +2,11 @@
 
 #![tactic(auto, using(packet_fields::proofs::Printing::gains_both))]
 
-ghost use Rattle.std.specs.Prelude.{◌≡◌, OnOk, true};
+ghost use Rattle.std.specs.Prelude.{OnOk};
 ghost use Rattle.icmp4_wire.specs.Icmpv4.{value_of};
-ghost use Rattle.listing.specs.Indented.{indented, is_of_one_line};
 ghost use Rattle.listing.specs.ListingIcmp4.{Icmp4Prints, icmp4_listing, echo_listing, error_listing, header_listing};
 ghost use Rattle.packet_fields.specs.Output.{Gains, GainsSome};
 
-use crate::page::{MARGIN, Page, write_indented};
 use crate::printer::{field, line, part_field};
 use icmp4_wire::icmpv4::{Packet, Repr};
 use std::io;
@@ -27,8 +25,7 @@ pub fn show_icmp4<W: Write>(output: &mut W, packet: &[u8]) -> io::Result<()>
     show_message(output, &message)
 }
 
-/// Prints a message that was read.
-pub fn show_message<W: Write>(output: &mut W, message: &Repr<'_>) -> io::Result<()>
+fn show_message<W: Write>(output: &mut W, message: &Repr<'_>) -> io::Result<()>
     ensures { OnOk result (Gains (W.contents output.old) (W.contents output.new)
         (icmp4_listing (value_of message.now))) }
 {
@@ -54,64 +51,6 @@ pub fn show_message<W: Write>(output: &mut W, message: &Repr<'_>) -> io::Result<
             data,
         } => show_error(output, "TimeExceeded", reason.into(), &header, data),
     }
-}
-
-/// Prints a message that was read, each line after two spaces. The page is a buffer for text that is indented; the
-/// data, most of an echo, is written at once.
-pub fn show_indented<W: Write>(
-    output: &mut W,
-    page: &mut Page,
-    message: &Repr<'_>,
-) -> io::Result<()>
-    ensures { OnOk result (Gains (W.contents output.old) (W.contents output.new)
-        (indented (icmp4_listing (value_of message.now)))) }
-{
-    match *message {
-        Repr::EchoRequest {
-            ident,
-            seq_no,
-            data,
-        } => show_indented_echo(output, "EchoRequest", ident, seq_no, data),
-        Repr::EchoReply {
-            ident,
-            seq_no,
-            data,
-        } => show_indented_echo(output, "EchoReply", ident, seq_no, data),
-        _ => show_indented_other(output, page, message),
-    }
-}
-
-fn show_indented_other<W: Write>(
-    output: &mut W,
-    page: &mut Page,
-    message: &Repr<'_>,
-) -> io::Result<()>
-    ensures { OnOk result (Gains (W.contents output.old) (W.contents output.new)
-        (indented (icmp4_listing (value_of message.now)))) }
-{
-    page.clear();
-    show_message(page, message)?;
-    write_indented(output, page.as_slice())
-}
-
-/// Prints an echo of either ICMP after its name, each line after two spaces. Requires that the name is of one line.
-#[tactic(auto, using(packet_fields::proofs::Printing::gained, packet_fields::proofs::Printing::gains_both))]
-pub fn show_indented_echo<W: Write>(
-    output: &mut W,
-    name: &str,
-    ident: u16,
-    seq_no: u16,
-    data: &[u8],
-) -> io::Result<()>
-    requires { is_of_one_line name.now ≡ true }
-    ensures { OnOk result (Gains (W.contents output.old) (W.contents output.new)
-        (indented (echo_listing name.now ident seq_no «data».now))) }
-{
-    output.write_all(MARGIN.as_bytes())?;
-    line(output, name)?;
-    part_field(output, MARGIN, "ident", ident)?;
-    part_field(output, MARGIN, "seq_no", seq_no)?;
-    part_field(output, MARGIN, "data", data)
 }
 
 /// Prints an echo of either ICMP after its name.

@@ -6,14 +6,12 @@ ghost use Rattle.std.specs.Prelude.{OnOk};
 ghost use Rattle.wirebase.specs.Capabilities.{all_of};
 ghost use Rattle.wirebase.specs.declared.capabilities.Checksum.TheVariants.{Both};
 ghost use Rattle.icmp6_wire.specs.Icmpv6.{IsMessage, too_big, param_problem, value_of};
-ghost use Rattle.listing.specs.Indented.{indented};
 ghost use Rattle.listing.specs.Layout.{IsListingOrRefused};
 ghost use Rattle.listing.specs.ListingIcmp6.{Icmp6Prints, icmp6_listing, error_listing, quote_listing};
 ghost use Rattle.packet_fields.specs.Output.{Gains, GainsSome};
 
-use crate::icmp4::{show_echo, show_indented_echo};
+use crate::icmp4::show_echo;
 use crate::ipv6::show_header;
-use crate::page::{Page, write_indented};
 use crate::printer::{field, line};
 use crate::{mld, ndisc};
 use icmp6_wire::icmpv6::{Packet, ParamProblem, Repr};
@@ -54,8 +52,7 @@ fn show_packet<W: Write>(
     show_message(output, &message)
 }
 
-/// Prints a message that was read.
-pub fn show_message<W: Write>(output: &mut W, message: &Repr<'_>) -> io::Result<()>
+fn show_message<W: Write>(output: &mut W, message: &Repr<'_>) -> io::Result<()>
     ensures { OnOk result (Gains (W.contents output.old) (W.contents output.new)
         (icmp6_listing (value_of message.now))) }
 {
@@ -90,43 +87,6 @@ pub fn show_message<W: Write>(output: &mut W, message: &Repr<'_>) -> io::Result<
         Repr::Ndisc(message) => ndisc::show_message(output, message),
         Repr::Mld(message) => mld::show_message(output, message),
     }
-}
-
-/// Prints a message that was read, each line after two spaces. The page is a buffer for text that is indented.
-pub fn show_indented<W: Write>(
-    output: &mut W,
-    page: &mut Page,
-    message: &Repr<'_>,
-) -> io::Result<()>
-    ensures { OnOk result (Gains (W.contents output.old) (W.contents output.new)
-        (indented (icmp6_listing (value_of message.now)))) }
-{
-    match message {
-        Repr::EchoRequest {
-            ident,
-            seq_no,
-            data,
-        } => show_indented_echo(output, "EchoRequest", *ident, *seq_no, data),
-        Repr::EchoReply {
-            ident,
-            seq_no,
-            data,
-        } => show_indented_echo(output, "EchoReply", *ident, *seq_no, data),
-        _ => show_indented_other(output, page, message),
-    }
-}
-
-fn show_indented_other<W: Write>(
-    output: &mut W,
-    page: &mut Page,
-    message: &Repr<'_>,
-) -> io::Result<()>
-    ensures { OnOk result (Gains (W.contents output.old) (W.contents output.new)
-        (indented (icmp6_listing (value_of message.now)))) }
-{
-    page.clear();
-    show_message(page, message)?;
-    write_indented(output, page.as_slice())
 }
 
 // An error that has no more than a reason.

@@ -12,11 +12,11 @@ use Rattle.serde_json.specs.Data as values
 use Rattle.serde_json.specs.Written.{compact_text, items_text as values_text, members_text, outline, items_outline, members_outline}
 use Rattle.serde_json.proofs.Texts.{print-outline}
 use Rattle.packet_fields.specs.Fields.{Cell, CellsFit, EntriesFit, Entry, Fits, Item, ItemsFit, Leaf, field, named, entries}
-use Rattle.packet_fields.specs.Fields.{number, truth, text, octets, time, texts, missing, leaf_text, comma_unless, name_key, shown_text, bare, keyed, hidden, Shown}
+use Rattle.packet_fields.specs.Fields.{AllFit, number, truth, text, octets, time, texts, numbers, missing, leaf_text, comma_unless, name_key, shown_text, bare, keyed, hidden, Shown}
 unfoldable use Rattle.packet_fields.specs.Fields.{member_key, member, before, after, name_text, cell_before, keyed_before, cell_text, cells_text}
 unfoldable use Rattle.packet_fields.specs.Fields.{entry_before, first_text, entry_after, list_before, list_after, item_text, items_text}
 use Rattle.packet_fields.specs.Fields.{entry_text, entries_text}
-use Rattle.packet_fields.specs.Json.{value_of, strings, cell_members, entry_value, entry_values, with_name, members_of, object_of, ReadsAsJson}
+use Rattle.packet_fields.specs.Json.{value_of, strings, integers, cell_members, entry_value, entry_values, with_name, members_of, object_of, ReadsAsJson}
 unfoldable use Rattle.packet_fields.specs.Json.{object_text}
 use Rattle.packet_fields.specs.declared.form.Form.TheVariants.{Json}
 
@@ -27,6 +27,12 @@ more_strings [] = refl
 more_strings (t ∷ ts) =
     ap (λ s. 44 ∷ (quoted t ++ s)) (more_strings ts)
     ∙ ap (λ s. 44 ∷ s) (sym (append_assoc (quoted t) (flat_map (λ t. codes "," ++ quoted t) ts) (codes "]")))
+
+more_numbers : (ns : List ℕ) → values_text true (integers ns) ≡ flat_map (λ n. codes "," ++ decimal n) ns ++ codes "]"
+more_numbers [] = refl
+more_numbers (n ∷ ns) =
+    ap (λ s. 44 ∷ (decimal n ++ s)) (more_numbers ns)
+    ∙ ap (λ s. 44 ∷ s) (sym (append_assoc (decimal n) (flat_map (λ n. codes "," ++ decimal n) ns) (codes "]")))
 
 leaf_is : (l : Leaf) → compact_text (value_of l) ≡ leaf_text Json l
 leaf_is (number n) = refl
@@ -39,6 +45,10 @@ leaf_is (texts []) = refl
 leaf_is (texts (t ∷ ts)) =
     ap (λ s. 91 ∷ (quoted t ++ s)) (more_strings ts)
     ∙ ap (λ s. 91 ∷ s) (sym (append_assoc (quoted t) (flat_map (λ t. codes "," ++ quoted t) ts) (codes "]")))
+leaf_is (numbers []) = refl
+leaf_is (numbers (n ∷ ns)) =
+    ap (λ s. 91 ∷ (decimal n ++ s)) (more_numbers ns)
+    ∙ ap (λ s. 91 ∷ s) (sym (append_assoc (decimal n) (flat_map (λ n. codes "," ++ decimal n) ns) (codes "]")))
 leaf_is missing = refl
 
 -- a member with its comma, before others
@@ -128,6 +138,14 @@ strings_depth : (ts : List (List ℕ)) → tree.items_depth (items_outline (stri
 strings_depth [] = omega arith
 strings_depth (t ∷ ts) = let d = strings_depth ts in omega arith
 
+numbers_have : (ns : List ℕ) → AllFit ns → ItemsHaveNumbers (items_outline (integers ns))
+numbers_have [] fit = tt
+numbers_have (n ∷ ns) (one, more) = (IsNumber-decimal n one, numbers_have ns more)
+
+numbers_depth : (ns : List ℕ) → tree.items_depth (items_outline (integers ns)) ≤ 0
+numbers_depth [] = omega arith
+numbers_depth (n ∷ ns) = let d = numbers_depth ns in omega arith
+
 leaf_has : (l : Leaf) → Fits l → HasNumbers (outline (value_of l))
 leaf_has (number n) fits = IsNumber-decimal n fits
 leaf_has (truth b) fits = tt
@@ -135,6 +153,7 @@ leaf_has (text t) fits = tt
 leaf_has (octets bytes) fits = tt
 leaf_has (time n) fits = IsNumber-decimal n fits
 leaf_has (texts ts) fits = strings_have ts
+leaf_has (numbers ns) fits = numbers_have ns fits
 leaf_has missing fits = tt
 
 leaf_depth : (l : Leaf) → tree.depth (outline (value_of l)) ≤ 1
@@ -144,6 +163,7 @@ leaf_depth (text t) = omega arith
 leaf_depth (octets bytes) = omega arith
 leaf_depth (time n) = omega arith
 leaf_depth (texts ts) = let d = strings_depth ts in omega arith
+leaf_depth (numbers ns) = let d = numbers_depth ns in omega arith
 leaf_depth missing = omega arith
 
 cells_have : (cs : List Cell) → CellsFit cs → MembersHaveNumbers (members_outline (cell_members cs))

@@ -1,6 +1,9 @@
+pub mod EntryChains
 pub mod Fields
 pub mod JsonTexts
 pub mod Lists
+pub mod PartsInTurn
 pub mod Printing
 pub mod Puts
 pub mod Strings
+pub mod TextRuns

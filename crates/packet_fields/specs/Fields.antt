@@ -1,5 +1,5 @@
 -- The fields of a packet, and what each prints in either form.
-use Rattle.std.specs.Prelude.{◌/◌, ◌%◌, ◌==◌, ◌<◌, ◌^◌, ⊤, [], ◌∷◌, ◌++◌, Bool, List, None, Option, Some, ℕ, codes, decimal, flat_map}
+use Rattle.std.specs.Prelude.{◌/◌, ◌%◌, ◌==◌, ◌<◌, ◌^◌, ⊤, [], ◌∷◌, ◌++◌, Bool, List, None, Option, Some, ℕ, codes, decimal, flat_map, map}
 use Rattle.std.specs.Prelude.{if◌then◌else◌, true, false}
 use Rattle.hex.specs.Hex.{encode_lower}
 use Rattle.json.specs.Print.{quoted}
@@ -11,7 +11,8 @@ use Rattle.packet_fields.specs.declared.form.Form.TheVariants.{Lines, Json}
 
 -- ---- values
 
--- what stands behind a field's name: a number, a truth value, a text, octets, a time in milliseconds, texts, or nothing
+-- what stands behind a field's name: a number, a truth value, a text, octets, a time in milliseconds, texts, numbers, or
+-- nothing
 pub data Leaf : Type 0 where
   number : ℕ → Leaf
   truth : Bool → Leaf
@@ -19,9 +20,14 @@ pub data Leaf : Type 0 where
   octets : List ℕ → Leaf
   time : ℕ → Leaf
   texts : List (List ℕ) → Leaf
+  numbers : List ℕ → Leaf
   missing : Leaf
 
 -- a number has at most 64 bits
+abbrev pub AllFit : List ℕ → Type 0
+AllFit [] = ⊤
+AllFit (n ∷ ns) = n < 2 ^ 64 × AllFit ns
+
 abbrev pub Fits : Leaf → Type 0
 Fits (number n) = n < 2 ^ 64
 Fits (time millis) = millis < 2 ^ 64
@@ -29,6 +35,7 @@ Fits (truth b) = ⊤
 Fits (text t) = ⊤
 Fits (octets bytes) = ⊤
 Fits (texts ts) = ⊤
+Fits (numbers ns) = AllFit ns
 Fits missing = ⊤
 
 -- a value, or none
@@ -53,6 +60,11 @@ abbrev pub strings_text : List (List ℕ) → List ℕ
 strings_text [] = codes "[]"
 strings_text (first ∷ rest) = codes "[" ++ quoted first ++ flat_map (λ next. codes "," ++ quoted next) rest ++ codes "]"
 
+-- numbers as a JSON array
+abbrev pub numbers_text : List ℕ → List ℕ
+numbers_text [] = codes "[]"
+numbers_text (first ∷ rest) = codes "[" ++ decimal first ++ flat_map (λ next. codes "," ++ decimal next) rest ++ codes "]"
+
 -- what is printed in lines, and what in JSON
 abbrev pub by_form : Form → List ℕ → List ℕ → List ℕ
 by_form Lines line member = line
@@ -67,6 +79,7 @@ leaf_text form (text t) = by_form form t (quoted t)
 leaf_text form (octets bytes) = by_form form (octets_text bytes) (quoted (encode_lower bytes))
 leaf_text form (time millis) = by_form form (seconds_text millis) (decimal millis)
 leaf_text form (texts ts) = by_form form (with_commas ts) (strings_text ts)
+leaf_text form (numbers ns) = by_form form (with_commas (map decimal ns)) (numbers_text ns)
 leaf_text form missing = by_form form (codes "none") (codes "null")
 
 -- ---- fields

@@ -7,7 +7,8 @@ use Rattle.serde_json.specs.Data.{Data, null, boolean, string, array, object, It
 use Rattle.serde_json.specs.Data as values
 use Rattle.serde_json.specs.Written.{outline}
 use Rattle.packet_fields.specs.Fields.{Cell, Entry, Item, ItemsFit, Fits, Leaf, field, named, entries, name_key}
-use Rattle.packet_fields.specs.Fields.{number, truth, text, octets, time, texts, missing, leaf_text, items_text}
+use Rattle.packet_fields.specs.Fields.{number, truth, text, octets, time, texts, numbers, missing}
+use Rattle.packet_fields.specs.Fields.{leaf_text, items_text}
 use Rattle.packet_fields.specs.declared.form.Form.TheVariants.{Json}
 
 abbrev pub integer : ℕ → Data
@@ -17,6 +18,10 @@ abbrev pub strings : List (List ℕ) → Items
 strings [] = no_items
 strings (t ∷ ts) = item (string t) (strings ts)
 
+abbrev pub integers : List ℕ → Items
+integers [] = no_items
+integers (n ∷ ns) = item (integer n) (integers ns)
+
 -- the value of a leaf
 abbrev pub value_of : Leaf → Data
 value_of (number n) = integer n
@@ -25,6 +30,7 @@ value_of (text t) = string t
 value_of (octets bytes) = string (encode_lower bytes)
 value_of (time millis) = integer millis
 value_of (texts ts) = array (strings ts)
+value_of (numbers ns) = array (integers ns)
 value_of missing = null
 
 -- the members of an entry's further values, and an entry

@@ -1,6 +1,12 @@
+pub mod Entries
 pub mod Escapes
 pub mod Fields
 pub mod Json
+pub mod Labels
+pub mod Names
 pub mod Output
+pub mod Parts
+pub mod Ports
 pub mod Prints
+pub mod Texts
 pub mod private

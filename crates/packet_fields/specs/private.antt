@@ -1,1 +1,3 @@
 pub mod Colons
+pub mod Entries
+pub mod TextRuns

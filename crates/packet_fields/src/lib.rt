@@ -1,11 +1,17 @@
 //! The fields of packets, printed in lines or as members of a JSON object.
 #![tactic(auto)]
 
+pub mod entries;
 pub mod entry;
 pub mod escapes;
 pub mod field;
 pub mod form;
+pub mod label;
+pub mod names;
 pub mod output;
+pub mod parts;
+pub mod ports;
+pub mod texts;
 pub mod value;
 
 pub use form::Form;

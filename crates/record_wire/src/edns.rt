@@ -8,12 +8,14 @@ ghost use Rattle.record_wire.specs.Record.{record_of};
 ghost use Rattle.record_wire.specs.Edns.{edns_of, IsEdns, rcode_with, OptionValue, option_of, IsOption, RefusesOption};
 ghost use Rattle.record_wire.specs.Edns.{HasOption, Answer, Tile};
 ghost use Rattle.record_wire.specs.OptText.{edns_by};
+ghost use Rattle.record_wire.specs.RecordDisplay.{option_refusal_display};
+ghost use Rattle.wirebase.specs.Sink.{PutsText};
 
 use crate::multicast;
 use crate::record::Record;
 use std::marker::Model;
 use std::{fmt, result};
-use wirebase::text::Hex;
+use wirebase::text::{Hex, Sink, ToFormatter};
 use wirebase::{Error, Octets, Result};
 
 // The fields of an option; their picture is in specs/Edns.antt.
@@ -241,10 +243,20 @@ impl fmt::Display for OptionRefusal {
 
     ghost output = { λ refusal. Some (option_refusal_display refusal) };
 
+    #[tactic(auto, using(wirebase::proofs::Sinks::displayed))]
     fn fmt<W: fmt::Write>(&self, f: &mut fmt::Formatter<W>) -> fmt::Result {
+        self.put::<_, ToFormatter>(f)
+    }
+}
+
+impl OptionRefusal {
+    /// Puts what is wrong with the option.
+    pub fn put<O, S: Sink<O>>(&self, output: &mut O) -> result::Result<(), S::Error>
+        ensures { PutsText S.took output.old (option_refusal_display self.now) result output.new }
+    {
         match self {
-            OptionRefusal::Fields => write!(f, "the code and the length are cut"),
-            OptionRefusal::Data => write!(f, "the data of the option is cut"),
+            OptionRefusal::Fields => S::put_str(output, "the code and the length are cut"),
+            OptionRefusal::Data => S::put_str(output, "the data of the option is cut"),
         }
     }
 }

@@ -4,10 +4,12 @@ ghost use Rattle.std.specs.Prelude.{List, ℕ, ◌≡◌};
 ghost use Rattle.dns_wire.specs.DnsPart.{IsSplit};
 ghost use Rattle.dns_wire.specs.DnsNameAhead.{torn};
 ghost use Rattle.dns_wire.specs.private.DnsNameAhead.{front_of};
-ghost use Rattle.record_wire.specs.RecordRefusal.{IsNoPart};
+ghost use Rattle.record_wire.specs.RecordRefusal.{IsNoPart, part_display, refusal_display};
+ghost use Rattle.wirebase.specs.Sink.{PutsText};
 
 use dns_wire::octets::{NamePart, read_front};
-use std::fmt;
+use std::{fmt, result};
+use wirebase::text::{Sink, ToFormatter, put_number};
 
 // The first byte of a label is its length, below `LABEL_END`; the first byte of a pointer is `POINTER` or above.
 const LABEL_END: u8 = 0x40;
@@ -41,11 +43,24 @@ impl fmt::Display for PartRefusal {
 
     ghost output = { λ refusal. Some (part_display refusal) };
 
+    #[tactic(auto, using(wirebase::proofs::Sinks::displayed))]
     fn fmt<W: fmt::Write>(&self, f: &mut fmt::Formatter<W>) -> fmt::Result {
+        self.put::<_, ToFormatter>(f)
+    }
+}
+
+impl PartRefusal {
+    /// Puts what is wrong with the name.
+    #[tactic(auto, using(wirebase::proofs::Sinks::puts))]
+    pub fn put<O, S: Sink<O>>(&self, output: &mut O) -> result::Result<(), S::Error>
+        ensures { PutsText S.took output.old (part_display self.now) result output.new }
+    {
         match self {
-            PartRefusal::Cut => write!(f, "the name is cut"),
+            PartRefusal::Cut => S::put_str(output, "the name is cut"),
             PartRefusal::LabelType(byte) => {
-                write!(f, "a label that begins with byte {byte} is not read")
+                S::put_str(output, "a label that begins with byte ")?;
+                put_number::<O, S>(output, u64::from(*byte))?;
+                S::put_str(output, " is not read")
             }
         }
     }
@@ -58,11 +73,21 @@ impl fmt::Display for Refusal {
 
     ghost output = { λ refusal. Some (refusal_display refusal) };
 
+    #[tactic(auto, using(wirebase::proofs::Sinks::displayed))]
     fn fmt<W: fmt::Write>(&self, f: &mut fmt::Formatter<W>) -> fmt::Result {
+        self.put::<_, ToFormatter>(f)
+    }
+}
+
+impl Refusal {
+    /// Puts what is wrong with the question or the record.
+    pub fn put<O, S: Sink<O>>(&self, output: &mut O) -> result::Result<(), S::Error>
+        ensures { PutsText S.took output.old (refusal_display self.now) result output.new }
+    {
         match self {
-            Refusal::Name(refusal) => write!(f, "{refusal}"),
-            Refusal::Fields => write!(f, "the fields behind the name are cut"),
-            Refusal::Data => write!(f, "the data is cut"),
+            Refusal::Name(refusal) => refusal.put::<O, S>(output),
+            Refusal::Fields => S::put_str(output, "the fields behind the name are cut"),
+            Refusal::Data => S::put_str(output, "the data is cut"),
         }
     }
 }

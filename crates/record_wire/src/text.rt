@@ -214,6 +214,13 @@ fn put_own<O, S: Sink<O>>(
 }
 
 impl DataText<'_> {
+    /// Puts the data as a zone file has it.
+    pub fn put<O, S: Sink<O>>(&self, output: &mut O) -> result::Result<(), S::Error>
+        ensures { PutsText S.took output.old (data_text (data_text_of self.now)) result output.new }
+    {
+        put_own::<O, S>(output, None, self)
+    }
+
     // The data with the octets of its names, which are whole.
     fn octets(&self) -> RData<'_>
         ensures { IsDataText [] (rdata_of result) (data_text_of self.now) }

@@ -1,6 +1,8 @@
-//! The tests of `dump_lines`, over its public calls.
+//! The tests of `listing` and `dump_lines`, over their public calls.
 #![tactic(auto)]
 
+#[cfg(test)]
+mod printer;
 #[cfg(test)]
 mod testing;
 #[cfg(test)]

@@ -30,12 +30,9 @@ impl fmt::Display for ClassName {
     }
 }
 
-/// Puts the text of a class.
+/// Puts the text of a class, as [`ClassName`] prints it.
 #[inline(always)]
-pub(crate) fn put_class<O, S: Sink<O>>(
-    output: &mut O,
-    number: u16,
-) -> result::Result<(), S::Error> {
+pub fn put_class<O, S: Sink<O>>(output: &mut O, number: u16) -> result::Result<(), S::Error> {
     match mnemonic(number) {
         Some(mnemonic) => S::put_str(output, mnemonic),
         None => {

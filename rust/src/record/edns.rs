@@ -3,7 +3,7 @@
 
 use crate::record::multicast;
 use crate::record::record::Record;
-use crate::wirebase::text::Hex;
+use crate::wirebase::text::{Hex, Sink, ToFormatter};
 use crate::wirebase::{Error, Octets, Result};
 use core::{fmt, result};
 
@@ -197,9 +197,16 @@ pub enum OptionRefusal {
 /// What is wrong with the option.
 impl fmt::Display for OptionRefusal {
     fn fmt(&self, f: &mut fmt::Formatter<'_>) -> fmt::Result {
+        self.put::<_, ToFormatter>(f)
+    }
+}
+
+impl OptionRefusal {
+    /// Puts what is wrong with the option.
+    pub fn put<O, S: Sink<O>>(&self, output: &mut O) -> result::Result<(), S::Error> {
         match self {
-            OptionRefusal::Fields => write!(f, "the code and the length are cut"),
-            OptionRefusal::Data => write!(f, "the data of the option is cut"),
+            OptionRefusal::Fields => S::put_str(output, "the code and the length are cut"),
+            OptionRefusal::Data => S::put_str(output, "the data of the option is cut"),
         }
     }
 }

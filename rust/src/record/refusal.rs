@@ -2,7 +2,8 @@
 //! Why questions and records are refused: the check that fails first.
 
 use crate::dns_wire::octets::{NamePart, read_front};
-use core::fmt;
+use crate::wirebase::text::{Sink, ToFormatter, put_number};
+use core::{fmt, result};
 
 // The first byte of a label is its length, below `LABEL_END`; the first byte of a pointer is `POINTER` or above.
 const LABEL_END: u8 = 0x40;
@@ -34,10 +35,19 @@ pub enum Refusal {
 /// What is wrong with the name.
 impl fmt::Display for PartRefusal {
     fn fmt(&self, f: &mut fmt::Formatter<'_>) -> fmt::Result {
+        self.put::<_, ToFormatter>(f)
+    }
+}
+
+impl PartRefusal {
+    /// Puts what is wrong with the name.
+    pub fn put<O, S: Sink<O>>(&self, output: &mut O) -> result::Result<(), S::Error> {
         match self {
-            PartRefusal::Cut => write!(f, "the name is cut"),
+            PartRefusal::Cut => S::put_str(output, "the name is cut"),
             PartRefusal::LabelType(byte) => {
-                write!(f, "a label that begins with byte {byte} is not read")
+                S::put_str(output, "a label that begins with byte ")?;
+                put_number::<O, S>(output, u64::from(*byte))?;
+                S::put_str(output, " is not read")
             }
         }
     }
@@ -46,10 +56,17 @@ impl fmt::Display for PartRefusal {
 /// What is wrong with the question or the record.
 impl fmt::Display for Refusal {
     fn fmt(&self, f: &mut fmt::Formatter<'_>) -> fmt::Result {
+        self.put::<_, ToFormatter>(f)
+    }
+}
+
+impl Refusal {
+    /// Puts what is wrong with the question or the record.
+    pub fn put<O, S: Sink<O>>(&self, output: &mut O) -> result::Result<(), S::Error> {
         match self {
-            Refusal::Name(refusal) => write!(f, "{refusal}"),
-            Refusal::Fields => write!(f, "the fields behind the name are cut"),
-            Refusal::Data => write!(f, "the data is cut"),
+            Refusal::Name(refusal) => refusal.put::<O, S>(output),
+            Refusal::Fields => S::put_str(output, "the fields behind the name are cut"),
+            Refusal::Data => S::put_str(output, "the data is cut"),
         }
     }
 }

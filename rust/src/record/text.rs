@@ -187,6 +187,11 @@ fn put_own<O, S: Sink<O>>(
 }
 
 impl DataText<'_> {
+    /// Puts the data as a zone file has it.
+    pub fn put<O, S: Sink<O>>(&self, output: &mut O) -> result::Result<(), S::Error> {
+        put_own::<O, S>(output, None, self)
+    }
+
     // The data with the octets of its names, which are whole.
     fn octets(&self) -> RData<'_> {
         match self {

@@ -133,9 +133,10 @@ pub const ANY: Type = Type::Unknown(255);
 /// Who may certify a name (RFC 8659 section 4).
 pub const CAA: Type = Type::Unknown(257);
 
-/// Puts the text of a type.
+/// Puts the text of a type: its mnemonic, such as `MX`, or `TYPE` and its number where this library has no mnemonic for
+/// it (RFC 3597 section 5).
 #[inline(always)]
-pub(crate) fn put_type<O, S: Sink<O>>(output: &mut O, type_: Type) -> result::Result<(), S::Error> {
+pub fn put_type<O, S: Sink<O>>(output: &mut O, type_: Type) -> result::Result<(), S::Error> {
     match type_.mnemonic() {
         Some(mnemonic) => S::put_str(output, mnemonic),
         None => {

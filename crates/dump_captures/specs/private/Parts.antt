@@ -3,7 +3,7 @@ use Rattle.std.specs.Prelude.{ℕ, List, ◌++◌, map, string_bytes, ◌+◌, �
 use Rattle.capture.specs.TimeText.{month_and_day_text}
 use Rattle.capture.specs.declared.calendar.Date.{Date}
 use Rattle.wirebase.specs.Digits.{last_digits}
-use Rattle.dump_captures.specs.Arguments.{wrong_value, ReadingValue, Reads, help, unknown, more, ends}
+use Rattle.dump_captures.specs.Arguments.{wrong_value, ReadingValue, Reads, help, version, unknown, more, ends}
 use Rattle.dump_captures.specs.declared.arguments.Reading.{Reading}
 use Rattle.dump_captures.specs.declared.arguments.Step.{Step}
 use Rattle.dump_captures.specs.declared.arguments.Step.TheVariants as step
@@ -21,6 +21,7 @@ reading_of r = record {
 abbrev pub reads_of : Step → ReadingValue → Reads
 reads_of step.More r = more r
 reads_of step.Help r = ends help
+reads_of step.Version r = ends version
 reads_of (step.Unknown wrong) r = ends (unknown (wrong_value wrong))
 
 abbrev pub no_link : UnreadLink

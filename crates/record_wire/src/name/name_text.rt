@@ -118,6 +118,15 @@ impl NameText {
     }
 }
 
+impl Name {
+    /// Puts the name with its last dot, as a zone file has it; the root is a dot.
+    pub fn put_whole<O, S: Sink<O>>(&self, output: &mut O) -> result::Result<(), S::Error>
+        ensures { PutsText S.took output.old (whole_name (labels_of self.now)) result output.new }
+    {
+        put_other::<O, S>(output, self)
+    }
+}
+
 // Puts a name with its last dot; the root is a dot.
 #[inline(never)]
 fn put_other<O, S: Sink<O>>(output: &mut O, name: &Name) -> result::Result<(), S::Error>

@@ -3,8 +3,9 @@
 ghost use Rattle.std.specs.Prelude.{◌≡◌, List, ℕ, IfOk, IfErr, IsOkAnd};
 ghost use Rattle.dns_wire.specs.DnsPacket.{view_octets};
 ghost use Rattle.record_wire.specs.Name.{labels_of};
-ghost use Rattle.record_wire.specs.NameRefusal.{RefusesName};
+ghost use Rattle.record_wire.specs.NameRefusal.{RefusesName, name_refusal_display};
 ghost use Rattle.record_wire.specs.Names.{Names};
+ghost use Rattle.wirebase.specs.Sink.{PutsText};
 
 use crate::name::{Name, put_name};
 use crate::refusal::PartRefusal;
@@ -12,6 +13,7 @@ use arrayvec::ArrayVec;
 use dns_wire::dns::Packet;
 use dns_wire::octets::octets_of;
 use std::{fmt, result};
+use wirebase::text::{Sink, ToFormatter, put_number};
 
 /// Why [`crate::Name::read`] refuses octets and their message: the check that fails first.
 #[derive(Debug, PartialEq, Eq, Clone, Copy)]
@@ -34,14 +36,29 @@ impl fmt::Display for NameRefusal {
 
     ghost output = { λ refusal. Some (name_refusal_display refusal) };
 
+    #[tactic(auto, using(wirebase::proofs::Sinks::displayed))]
     fn fmt<W: fmt::Write>(&self, f: &mut fmt::Formatter<W>) -> fmt::Result {
+        self.put::<_, ToFormatter>(f)
+    }
+}
+
+impl NameRefusal {
+    /// Puts what is wrong with the name.
+    #[tactic(auto, using(wirebase::proofs::Sinks::puts))]
+    pub fn put<O, S: Sink<O>>(&self, output: &mut O) -> result::Result<(), S::Error>
+        ensures { PutsText S.took output.old (name_refusal_display self.now) result output.new }
+    {
         match self {
-            NameRefusal::Part(refusal) => write!(f, "{refusal}"),
+            NameRefusal::Part(refusal) => refusal.put::<O, S>(output),
             NameRefusal::Pointer(place) => {
-                write!(f, "a pointer to place {place} leads nowhere or round")
+                S::put_str(output, "a pointer to place ")?;
+                put_number::<O, S>(output, *place as u64)?;
+                S::put_str(output, " leads nowhere or round")
             }
-            NameRefusal::TooManyPointers => write!(f, "the name follows more than 127 pointers"),
-            NameRefusal::TooLong => write!(f, "the name has more than 255 octets"),
+            NameRefusal::TooManyPointers => {
+                S::put_str(output, "the name follows more than 127 pointers")
+            }
+            NameRefusal::TooLong => S::put_str(output, "the name has more than 255 octets"),
         }
     }
 }

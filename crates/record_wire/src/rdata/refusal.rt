@@ -7,8 +7,9 @@ ghost use Rattle.record_wire.specs.Multicast.{class_of};
 ghost use Rattle.record_wire.specs.RData.{RDataValue, IsLaidOut, IsAuthority, AreStrings};
 ghost use Rattle.record_wire.specs.RDataRefusal.{RefusesLayout, RefusesRData, RefusesName, RefusesBehind};
 ghost use Rattle.record_wire.specs.RDataRefusal.{RefusesAuthority, RefusesStrings, RefusesFields, RefusesFront};
-ghost use Rattle.record_wire.specs.RDataRefusal.{HasRData};
+ghost use Rattle.record_wire.specs.RDataRefusal.{HasRData, data_refusal_display};
 ghost use Rattle.record_wire.specs.Update.{data_layout, IsDataOf};
+ghost use Rattle.wirebase.specs.Sink.{PutsText};
 
 use crate::multicast;
 use crate::rdata::fields::{self, Form, FrontForm, RestForm, split_front, split_second};
@@ -17,7 +18,8 @@ use crate::record::Record;
 use crate::refusal::{PartRefusal, why_no_part};
 use crate::update::is_without_data;
 use dns_wire::dns::{Type, split_name};
-use std::fmt;
+use std::{fmt, result};
+use wirebase::text::{Sink, ToFormatter, put_number};
 
 /// Why [`RData::parse`] refuses data: the check that fails first.
 ///
@@ -60,20 +62,40 @@ impl fmt::Display for DataRefusal {
 
     ghost output = { λ refusal. Some (data_refusal_display refusal) };
 
+    #[tactic(auto, using(wirebase::proofs::Sinks::displayed))]
     fn fmt<W: fmt::Write>(&self, f: &mut fmt::Formatter<W>) -> fmt::Result {
+        self.put::<_, ToFormatter>(f)
+    }
+}
+
+impl DataRefusal {
+    /// Puts what is wrong with the data.
+    #[tactic(auto, using(wirebase::proofs::Sinks::puts))]
+    pub fn put<O, S: Sink<O>>(&self, output: &mut O) -> result::Result<(), S::Error>
+        ensures { PutsText S.took output.old (data_refusal_display self.now) result output.new }
+    {
         match self {
-            DataRefusal::Address(len) => write!(f, "the address has other than {len} bytes"),
-            DataRefusal::Numbers => write!(f, "the numbers in front of the name are cut"),
-            DataRefusal::Name(refusal) => write!(f, "{refusal}"),
-            DataRefusal::BehindName => write!(f, "bytes stand behind the name"),
-            DataRefusal::SecondName(refusal) => write!(f, "behind the first name: {refusal}"),
-            DataRefusal::Times => write!(
-                f,
-                "the numbers behind the names have other than 20 bytes"
+            DataRefusal::Address(len) => {
+                S::put_str(output, "the address has other than ")?;
+                put_number::<O, S>(output, *len as u64)?;
+                S::put_str(output, " bytes")
+            }
+            DataRefusal::Numbers => {
+                S::put_str(output, "the numbers in front of the name are cut")
+            }
+            DataRefusal::Name(refusal) => refusal.put::<O, S>(output),
+            DataRefusal::BehindName => S::put_str(output, "bytes stand behind the name"),
+            DataRefusal::SecondName(refusal) => {
+                S::put_str(output, "behind the first name: ")?;
+                refusal.put::<O, S>(output)
+            }
+            DataRefusal::Times => S::put_str(
+                output,
+                "the numbers behind the names have other than 20 bytes",
             ),
-            DataRefusal::NoString => write!(f, "there is no string"),
-            DataRefusal::String => write!(f, "a string is cut"),
-            DataRefusal::Types => write!(f, "the type bit maps are malformed"),
+            DataRefusal::NoString => S::put_str(output, "there is no string"),
+            DataRefusal::String => S::put_str(output, "a string is cut"),
+            DataRefusal::Types => S::put_str(output, "the type bit maps are malformed"),
         }
     }
 }

@@ -10,6 +10,7 @@ use dump_captures::run_onto;
 use dump_captures::summary::write_summary;
 use dump_captures::table::show_table;
 use dump_captures::tally::{Outcome, Row, Tally};
+use packet_fields::Form;
 use std::alloc::Global;
 use std::process::Abort;
 
@@ -62,13 +63,15 @@ const CHOSEN: &[Chosen] = &[
             icmp6\t3\t0\t0\t0\t0\t0\t0\t0\t0\t293\n\
             dns\t1\t0\t0\t0\t1\t0\t0\t1\t0\t170\n\
             mdns\t1\t0\t0\t0\t0\t0\t0\t0\t0\t114\n\
+            llmnr\t0\t0\t0\t0\t0\t0\t0\t0\t0\t0\n\
+            nbns\t0\t0\t0\t0\t0\t0\t0\t0\t0\t0\n\
             dhcp\t1\t0\t0\t0\t0\t0\t0\t0\t0\t318\n\
             frame\t0\t0\t1\t0\t0\t0\t0\t0\t0\t44\n",
         "13 packets, 9 listed, 3 refused (1 fragment, 1 checksum, 1 name), 1 of other protocols",
     ),
     (
         Only {
-            kinds: [false; 7],
+            kinds: [false; 9],
             hop_by_hop: true,
         },
         &[2],
@@ -77,13 +80,15 @@ const CHOSEN: &[Chosen] = &[
             icmp6\t1\t0\t0\t0\t0\t0\t0\t0\t0\t92\n\
             dns\t0\t0\t0\t0\t0\t0\t0\t0\t0\t0\n\
             mdns\t0\t0\t0\t0\t0\t0\t0\t0\t0\t0\n\
+            llmnr\t0\t0\t0\t0\t0\t0\t0\t0\t0\t0\n\
+            nbns\t0\t0\t0\t0\t0\t0\t0\t0\t0\t0\n\
             dhcp\t0\t0\t0\t0\t0\t0\t0\t0\t0\t0\n\
             frame\t0\t0\t0\t0\t0\t0\t0\t0\t0\t0\n",
         "13 packets, 1 listed, 0 refused, 1 of other protocols, 11 of kinds that are not printed",
     ),
     (
         Only {
-            kinds: [false, false, false, true, false, false, true],
+            kinds: [false, false, false, true, false, false, false, false, true],
             hop_by_hop: false,
         },
         &[3, 10, 11, 12],
@@ -104,7 +109,13 @@ const CHOSEN: &[Chosen] = &[
 fn check_chosen(rt: &impl Abort, alloc: Global, capture: &[u8], row: &Chosen, prints: bool) {
     let (only, places, rows, summary) = *row;
     let mut output = Vec::new(alloc);
-    let Ok(report) = run_onto(alloc, &Options { only, prints }, capture, &mut output) else {
+    let options = Options {
+        only,
+        prints,
+        form: Form::Lines,
+        is_strict: false,
+    };
+    let Ok(report) = run_onto(alloc, &options, capture, &mut output) else {
         holds_of(rt, summary, false);
         return;
     };
@@ -221,7 +232,7 @@ fn frames_of_eighteen_links(rt: HostRuntime) {
 #[test]
 fn counts_at_their_limit(rt: HostRuntime) {
     const MOST: u64 = u64::MAX;
-    const DHCP: usize = 5;
+    const DHCP: usize = 7;
     let mut tally = Tally::new();
     tally.packets = MOST;
     tally.other = MOST;

@@ -22,7 +22,8 @@ pub const PACKETS: &[(&str, &str)] = &[
     (
         "45000020123440004001a472c0000201c0000235080021041234000161626364",
         "1 2024-05-01T12:34:56.000000000Z 192.0.2.1 > 192.0.2.53 icmp4\n\
-            \x20 EchoRequest\n\
+            \x20 type=8 (echo_request)\n\
+            \x20 code=0\n\
             \x20 ident=4660\n\
             \x20 seq_no=1\n\
             \x20 data=61626364\n",
@@ -37,22 +38,30 @@ pub const PACKETS: &[(&str, &str)] = &[
         "6000000000340001fe800000000000000000000000000001ff0200000000000000000000000000163a00050200000100\
             820045d904000000ff0200000000000000000001ff0000010a12000120010db8000000000000000000000053",
         "3 2024-05-01T12:34:58.000000000Z fe80::1 > ff02::16 hbh icmp6\n\
-            \x20 RouterAlert=0\n\
-            \x20 PadN=0\n\
-            \x20 Query\n\
+            \x20 router_alert=0 value_name=mld\n\
+            \x20 padn=-\n\
+            \x20 type=130 (multicast_listener_query)\n\
+            \x20 code=0\n\
+            \x20 version=2\n\
             \x20 max_resp_code=1024\n\
-            \x20 mcast_addr=ff0200000000000000000001ff000001\n\
+            \x20 max_resp_delay=1.024s\n\
+            \x20 mcast_addr=ff02::1:ff00:1\n\
             \x20 s_flag=true\n\
             \x20 qrv=2\n\
             \x20 qqic=18\n\
-            \x20 num_srcs=1\n\
-            \x20 data=20010db8000000000000000000000053\n",
+            \x20 querier_query_interval=18s\n\
+            \x20 sources=2001:db8::53\n",
     ),
     // UDP with one bit wrong.
     (
         "45000028123440004011a45ac0000201c00002359c4000350014df19000000000000000000000001",
         "4 2024-05-01T12:34:59.000000000Z 192.0.2.1:40000 > 192.0.2.53:53 dns\n\
-            \x20 refused=the checksum does not hold\n",
+            \x20 checksum=bad\n\
+            \x20 transaction_id=0\n\
+            \x20 flags=-\n\
+            \x20 opcode=0 (QUERY)\n\
+            \x20 rcode=0 (NOERROR)\n\
+            \x20 additional=refused why=the name is cut octets=-\n",
     ),
     // Multicast DNS.
     (
@@ -62,19 +71,19 @@ pub const PACKETS: &[(&str, &str)] = &[
         "5 2024-05-01T12:35:00.000000000Z 192.0.2.1:5353 > 224.0.0.251:5353 mdns\n\
             \x20 transaction_id=0\n\
             \x20 flags=qr,aa\n\
-            \x20 opcode=0\n\
-            \x20 rcode=0\n\
-            \x20 answer=printer.local. 120 IN A 192.0.2.7 ; cache-flush\n\
-            \x20 answer=printer.local. 120 IN AAAA fe80::7 ; cache-flush\n\
+            \x20 opcode=0 (QUERY)\n\
+            \x20 rcode=0 (NOERROR)\n\
+            \x20 answer=printer.local. 120 IN A 192.0.2.7 cache_flush=true\n\
+            \x20 answer=printer.local. 120 IN AAAA fe80::7 cache_flush=true\n\
             \x20 answer=printer.local. 4500 IN TXT \"a=b \"\n",
     ),
     // IGMP.
     (
         "4500001c123440000102c4afc0000201e00000fb160708fde00000fb",
         "6 2024-05-01T12:35:01.000000000Z 192.0.2.1 > 224.0.0.251 igmp\n\
-            \x20 MembershipReport\n\
-            \x20 group_addr=224.0.0.251\n\
-            \x20 version=2\n",
+            \x20 type=22 (membership_report_v2)\n\
+            \x20 version=2\n\
+            \x20 group_addr=224.0.0.251\n",
     ),
     // DHCP.
     (
@@ -86,26 +95,26 @@ pub const PACKETS: &[(&str, &str)] = &[
             000000000000000000000000000000000000000000000000638253633501023604c000020133040000003c3a04000000\
             1e3b04000000340104ffffff000304c00002fe0608c0000235c0000236ff",
         "7 2024-05-01T12:35:02.000000000Z 192.0.2.1:67 > 255.255.255.255:68 dhcp\n\
-            \x20 message_type=2\n\
+            \x20 op=2 (bootreply)\n\
+            \x20 htype=1 (ethernet)\n\
+            \x20 hlen=6\n\
+            \x20 hops=0\n\
             \x20 transaction_id=305419896\n\
-            \x20 secs=3\n\
-            \x20 client_hardware_address=020000000001\n\
+            \x20 secs=3s\n\
+            \x20 flags=-\n\
             \x20 client_ip=0.0.0.0\n\
             \x20 your_ip=192.0.2.100\n\
             \x20 server_ip=192.0.2.1\n\
-            \x20 router=192.0.2.254\n\
-            \x20 subnet_mask=255.255.255.0\n\
             \x20 relay_agent_ip=192.0.2.9\n\
-            \x20 broadcast=false\n\
-            \x20 requested_ip=none\n\
-            \x20 client_identifier=none\n\
+            \x20 client_hardware_address=02:00:00:00:00:01\n\
+            \x20 message_type=2 offer\n\
             \x20 server_identifier=192.0.2.1\n\
-            \x20 parameter_request_list=none\n\
-            \x20 dns_servers=192.0.2.53,192.0.2.54\n\
-            \x20 max_size=none\n\
-            \x20 lease_duration=60\n\
-            \x20 renew_duration=30\n\
-            \x20 rebind_duration=52\n",
+            \x20 lease_time=60s\n\
+            \x20 renewal_time=30s\n\
+            \x20 rebinding_time=52s\n\
+            \x20 subnet_mask=255.255.255.0\n\
+            \x20 router=192.0.2.254\n\
+            \x20 domain_name_server=192.0.2.53,192.0.2.54\n",
     ),
     // Neighbor discovery.
     (
@@ -113,42 +122,41 @@ pub const PACKETS: &[(&str, &str)] = &[
             000003e800000064010102000000000105010000000005dc030440c000000384000003e80000000020010db800000000\
             0000000000000000",
         "8 2024-05-01T12:35:03.000000000Z fe80::1 > fe80::2 icmp6\n\
-            \x20 RouterAdvert\n\
+            \x20 type=134 (router_advertisement)\n\
+            \x20 code=0\n\
             \x20 hop_limit=64\n\
-            \x20 flags=192\n\
-            \x20 router_lifetime=1800000\n\
-            \x20 reachable_time=1000\n\
-            \x20 retrans_time=100\n\
-            \x20 lladdr=020000000001\n\
+            \x20 flags=managed,other\n\
+            \x20 preference=0 (medium)\n\
+            \x20 router_lifetime=1800s\n\
+            \x20 reachable_time=1s\n\
+            \x20 retrans_time=0.100s\n\
+            \x20 source_link_layer_address=02:00:00:00:00:01\n\
             \x20 mtu=1500\n\
-            \x20 prefix_info.prefix_len=64\n\
-            \x20 prefix_info.flags=192\n\
-            \x20 prefix_info.valid_lifetime=900000\n\
-            \x20 prefix_info.preferred_lifetime=1000000\n\
-            \x20 prefix_info.prefix=20010db8000000000000000000000000\n",
+            \x20 prefix_information=2001:db8::/64 flags=on_link,autonomous valid_lifetime=900s \
+            preferred_lifetime=1000s\n",
     ),
     // An ICMPv4 error.
     (
         "45000038123440004001a45ac0000201c00002350304554600000578450005dc123440003f119fd9c0000201c0000202\
             9c40003505c80000",
         "9 2024-05-01T12:35:04.000000000Z 192.0.2.1 > 192.0.2.53 icmp4\n\
-            \x20 DstUnreachable\n\
-            \x20 code=4\n\
+            \x20 type=3 (destination_unreachable)\n\
+            \x20 code=4 (fragmentation_needed)\n\
             \x20 next_hop_mtu=1400\n\
-            \x20 quoted.type_of_service=0\n\
-            \x20 quoted.total_len=1500\n\
-            \x20 quoted.ident=4660\n\
-            \x20 quoted.dont_frag=true\n\
-            \x20 quoted.more_frags=false\n\
-            \x20 quoted.frag_offset=0\n\
-            \x20 quoted.hop_limit=63\n\
-            \x20 quoted.next_header=17\n\
-            \x20 quoted.src_addr=192.0.2.1\n\
-            \x20 quoted.dst_addr=192.0.2.2\n\
-            \x20 quoted.options=-\n\
-            \x20 quoted.src_port=40000\n\
-            \x20 quoted.dst_port=53\n\
-            \x20 quoted.payload=9c40003505c80000\n",
+            \x20 quoted_type_of_service=0\n\
+            \x20 quoted_total_len=1500\n\
+            \x20 quoted_ident=4660\n\
+            \x20 quoted_dont_frag=true\n\
+            \x20 quoted_more_frags=false\n\
+            \x20 quoted_frag_offset=0\n\
+            \x20 quoted_hop_limit=63\n\
+            \x20 quoted_next_header=17 (udp)\n\
+            \x20 quoted_src_addr=192.0.2.1\n\
+            \x20 quoted_dst_addr=192.0.2.2\n\
+            \x20 quoted_options=-\n\
+            \x20 quoted_src_port=40000\n\
+            \x20 quoted_dst_port=53\n\
+            \x20 quoted_payload=9c40003505c80000\n",
     ),
     // An ICMPv6 error.
     (
@@ -156,19 +164,19 @@ pub const PACKETS: &[(&str, &str)] = &[
             6b80012305b0114020010db800000000000000000000000120010db80000000000000000000000539c40003505b00000\
             01",
         "10 2024-05-01T12:35:05.000000000Z fe80::1 > fe80::2 icmp6\n\
-            \x20 PktTooBig\n\
+            \x20 type=2 (packet_too_big)\n\
             \x20 code=0\n\
             \x20 mtu=1280\n\
-            \x20 quoted.traffic_class=184\n\
-            \x20 quoted.flow_label=291\n\
-            \x20 quoted.payload_len=1456\n\
-            \x20 quoted.hop_limit=64\n\
-            \x20 quoted.next_header=17\n\
-            \x20 quoted.src_addr=20010db8000000000000000000000001\n\
-            \x20 quoted.dst_addr=20010db8000000000000000000000053\n\
-            \x20 quoted.src_port=40000\n\
-            \x20 quoted.dst_port=53\n\
-            \x20 quoted.payload=9c40003505b0000001\n",
+            \x20 quoted_traffic_class=184\n\
+            \x20 quoted_flow_label=291\n\
+            \x20 quoted_payload_len=1456\n\
+            \x20 quoted_hop_limit=64\n\
+            \x20 quoted_next_header=17 (udp)\n\
+            \x20 quoted_src_addr=2001:db8::1\n\
+            \x20 quoted_dst_addr=2001:db8::53\n\
+            \x20 quoted_src_port=40000\n\
+            \x20 quoted_dst_port=53\n\
+            \x20 quoted_payload=9c40003505b0000001\n",
     ),
     // DNS with an OPT record.
     (
@@ -177,15 +185,11 @@ pub const PACKETS: &[(&str, &str)] = &[
         "11 2024-05-01T12:35:06.000000000Z 192.0.2.1:40000 > 192.0.2.53:53 dns\n\
             \x20 transaction_id=4660\n\
             \x20 flags=rd\n\
-            \x20 opcode=0\n\
-            \x20 rcode=0\n\
+            \x20 opcode=0 (QUERY)\n\
+            \x20 rcode=0 (NOERROR)\n\
             \x20 question=example.com. IN A\n\
-            \x20 opt.udp_size=1232\n\
-            \x20 opt.extended_rcode=0\n\
-            \x20 opt.version=0\n\
-            \x20 opt.flags=32768\n\
-            \x20 opt.option=10 0123456789abcdef\n\
-            \x20 opt.option=3 -\n",
+            \x20 additional=. OPT udp_size=1232 extended_rcode=0 version=0 flags=do \
+            options=cookie:0123456789abcdef,nsid:\n",
     ),
     // A later fragment of UDP.
     (
@@ -200,9 +204,10 @@ pub const PACKETS: &[(&str, &str)] = &[
         "13 2024-05-01T12:35:08.000000000Z 192.0.2.1:40000 > 192.0.2.53:53 dns\n\
             \x20 transaction_id=4660\n\
             \x20 flags=rd\n\
-            \x20 opcode=0\n\
-            \x20 rcode=0\n\
-            \x20 refused=question: a pointer to place 12 leads nowhere or round\n",
+            \x20 opcode=0 (QUERY)\n\
+            \x20 rcode=0 (NOERROR)\n\
+            \x20 question=refused why=a pointer to place 12 leads nowhere or round name_octets=c00c \
+            class=IN type=A\n",
     ),
 ];
 

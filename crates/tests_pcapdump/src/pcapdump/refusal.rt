@@ -1,13 +1,13 @@
 //! Why packets are refused, and the reasons under which they are counted.
 
 use crate::testing::{prints, same_of};
-use dhcp_wire::dhcpv4;
+use dns_fields::unread::Unread;
 use dump_captures::kind::Reason;
 use dump_captures::refusal::Refusal;
 use frame_wire::{link, udp};
 use icmp4_wire::{icmpv4, igmp};
 use icmp6_wire::icmpv6;
-use listing::message::Unread;
+use message_fields as messages;
 use quote_wire::message::{Icmpv4Refusal, Icmpv6Refusal};
 use quote_wire::{icmpv4_error, quote};
 use record_wire::{DataRefusal, NameRefusal, OptionRefusal, PartRefusal, Section, TextRefusal};
@@ -32,69 +32,80 @@ fn refusals_print_a_phrase_and_are_counted_under_a_reason(rt: HostRuntime) {
             "a header length of 16 is below 20",
         ),
         (
-            Refusal::Udp(udp::Refusal::Port),
+            Refusal::Message(messages::Refusal::Udp(udp::Refusal::Port)),
             Reason::Malformed,
             "the destination port is 0",
         ),
         (
-            Refusal::Icmp4(Icmpv4Refusal::Error(quote)),
+            Refusal::Message(messages::Refusal::Icmp4(Icmpv4Refusal::Error(quote))),
             Reason::Quote,
             "the quoted header is of version 6",
         ),
         (
-            Refusal::Icmp4(Icmpv4Refusal::Message(icmpv4::Refusal::UnknownCode(1))),
+            Refusal::Message(messages::Refusal::Icmp4(Icmpv4Refusal::Message(
+                icmpv4::Refusal::UnknownCode(1),
+            ))),
             Reason::Malformed,
             "an echo of code 1 is not read",
         ),
         (
-            Refusal::Igmp(igmp::Refusal::UnknownType(0x22)),
+            Refusal::Message(messages::Refusal::Igmp(igmp::Refusal::UnknownType(0x22))),
             Reason::UnknownType,
             "type 34 is not read",
         ),
         (
-            Refusal::Icmp6(Icmpv6Refusal::Message(icmpv6::Refusal::Length)),
+            Refusal::Message(messages::Refusal::Icmp6(Icmpv6Refusal::Message(
+                icmpv6::Refusal::Length,
+            ))),
             Reason::Short,
             "fewer bytes than the header of its type",
         ),
         (
-            Refusal::Dhcp(dhcpv4::Refusal::MagicCookie),
+            Refusal::Message(messages::Refusal::Dhcp(dhcp_fields::Refusal::MagicCookie)),
             Reason::Malformed,
             "the magic cookie is missing",
         ),
         (
-            Refusal::Dns(Unread::Header),
+            Refusal::Message(messages::Refusal::Dns(Unread::Header)),
             Reason::Short,
             "fewer than 12 bytes",
         ),
         (
-            Refusal::Dns(Unread::Entry(Section::Additional, record_wire::Refusal::Data)),
+            Refusal::Message(messages::Refusal::Dns(Unread::Entry(
+                Section::Additional,
+                record_wire::Refusal::Data,
+            ))),
             Reason::Malformed,
             "additional: the data is cut",
         ),
         (
-            Refusal::Dns(Unread::Question(NameRefusal::Pointer(12))),
+            Refusal::Message(messages::Refusal::Dns(Unread::Question(NameRefusal::Pointer(12)))),
             Reason::Name,
             "question: a pointer to place 12 leads nowhere or round",
         ),
         (
-            Refusal::Dns(Unread::Record(TextRefusal::Owner(NameRefusal::TooLong))),
+            Refusal::Message(messages::Refusal::Dns(Unread::Record(TextRefusal::Owner(
+                NameRefusal::TooLong,
+            )))),
             Reason::Name,
             "the owner: the name has more than 255 octets",
         ),
         (
-            Refusal::Dns(Unread::Record(TextRefusal::Data(DataRefusal::Address(4)))),
+            Refusal::Message(messages::Refusal::Dns(Unread::Record(TextRefusal::Data(
+                DataRefusal::Address(4),
+            )))),
             Reason::Malformed,
             "the data: the address has other than 4 bytes",
         ),
         (
-            Refusal::Dns(Unread::Record(TextRefusal::DataName(NameRefusal::Part(
-                PartRefusal::LabelType(64),
+            Refusal::Message(messages::Refusal::Dns(Unread::Record(TextRefusal::DataName(
+                NameRefusal::Part(PartRefusal::LabelType(64)),
             )))),
             Reason::Name,
             "a name in the data: a label that begins with byte 64 is not read",
         ),
         (
-            Refusal::Dns(Unread::Option(OptionRefusal::Fields)),
+            Refusal::Message(messages::Refusal::Dns(Unread::Option(OptionRefusal::Fields))),
             Reason::Malformed,
             "the options: the code and the length are cut",
         ),
@@ -115,6 +126,6 @@ fn what_ends_early_was_cut_where_the_capture_kept_less(rt: HostRuntime) {
         same_of(&rt, refusal, refusal.reason(true), Reason::Cut);
         same_of(&rt, refusal, refusal.reason(false), Reason::Short);
     }
-    let short = Refusal::Udp(udp::Refusal::Short);
+    let short = Refusal::Message(messages::Refusal::Udp(udp::Refusal::Short));
     same_of(&rt, short, short.reason(true), Reason::Short);
 }

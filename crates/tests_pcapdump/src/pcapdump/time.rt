@@ -2,6 +2,8 @@
 
 use crate::testing::{holds_of, same_of};
 use dump_captures::time::Clock;
+use packet_fields::Form;
+use packet_fields::value::put_text;
 
 // Seconds and nanoseconds, and their text by `date -u -d @N +%Y-%m-%dT%H:%M:%S`. The clock that writes them goes from
 // day to day and back, and stays on one for some.
@@ -46,12 +48,14 @@ fn times_by_one_clock(rt: HostRuntime) {
     let mut clock = Clock::new();
     for (seconds, nanoseconds, want) in TIMES {
         let mut output = Vec::new(alloc);
-        let written = clock.write(&mut output, *seconds, *nanoseconds);
+        let time = clock.time(*seconds, *nanoseconds);
+        let written = put_text(&mut output, Form::Lines, time);
         holds_of(&rt, want, written.is_ok());
         same_of(&rt, want, output.as_slice(), want.as_bytes());
     }
     let mut output = Vec::new(alloc);
-    let written = clock.write(&mut output, u64::MAX, 999_999_999);
+    let time = clock.time(u64::MAX, 999_999_999);
+    let written = put_text(&mut output, Form::Lines, time);
     holds_of(&rt, LAST, written.is_ok());
     same_of(&rt, LAST, output.as_slice(), LAST.as_bytes());
 }

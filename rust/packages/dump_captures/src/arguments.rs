@@ -4,6 +4,7 @@
 use crate::Fault;
 use crate::kind::Kind;
 use crate::options::{Only, Options};
+use packet_fields::Form;
 use rattle_std::env::Args;
 #[allow(unused_imports)]
 use rattle_std::prelude::*;
@@ -12,6 +13,8 @@ use rattle_std::prelude::*;
 pub enum Task {
     /// To print the help.
     Help,
+    /// To print the version.
+    Version,
     /// To print the captures of these files, or of standard input where there are none.
     Dump(Options, Vec<String>),
     /// Something unknown.
@@ -47,6 +50,7 @@ enum Step {
     More,
     // The task.
     Help,
+    Version,
     Unknown(Wrong),
 }
 
@@ -57,6 +61,7 @@ pub fn read_task(arguments: Args) -> Result<Task, Fault> {
         match reading.read(argument)? {
             Step::More => (),
             Step::Help => return Ok(Task::Help),
+            Step::Version => return Ok(Task::Version),
             Step::Unknown(wrong) => return Ok(Task::Unknown(wrong)),
         }
     }
@@ -70,6 +75,8 @@ impl Reading {
             options: Options {
                 only: Only::ALL,
                 prints: true,
+                form: Form::Lines,
+                is_strict: false,
             },
             files: Vec::new(),
             wants_kinds: false,
@@ -121,12 +128,26 @@ impl Reading {
             self.options.prints = false;
             return Step::More;
         }
+        if text == "--json" {
+            self.options.form = Form::Json;
+            return Step::More;
+        }
+        if text == "--strict" {
+            self.options.is_strict = true;
+            return Step::More;
+        }
         if text == "--" {
             self.wants_files = true;
             return Step::More;
         }
-        if text == "--help" {
+        if text == "-n" || text == "-r" {
+            return Step::More;
+        }
+        if text == "--help" || text == "-h" {
             return Step::Help;
+        }
+        if text == "--version" || text == "-V" {
+            return Step::Version;
         }
         Step::Unknown(Wrong::UnknownOption(word))
     }
@@ -165,6 +186,14 @@ fn with_name(only: Only, name: &str) -> Option<Only> {
         return Some(Only {
             kinds,
             hop_by_hop: true,
+        });
+    }
+    if name == "icmp" {
+        kinds[Kind::Icmp4.place()] = true;
+        kinds[Kind::Icmp6.place()] = true;
+        return Some(Only {
+            kinds,
+            hop_by_hop: only.hop_by_hop,
         });
     }
     let kind = kind_of(name)?;

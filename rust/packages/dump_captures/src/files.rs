@@ -8,6 +8,7 @@ use crate::reports::{report_counts, report_ending, report_unopened, report_unrea
 use crate::table::show_table;
 use crate::tally::Tally;
 use capture::Ending;
+use packet_fields::Form;
 use rattle_std::io;
 use rattle_std::io::{Read, Write};
 #[allow(unused_imports)]
@@ -40,16 +41,28 @@ pub trait Captures {
     fn open(&self, name: &str) -> io::Result<Self::File>;
 }
 
-// An input that keeps the last error of a read.
+// What a file of gzip begins with (RFC 1952 section 2.3.1).
+const GZIP: [u8; 2] = [0x1f, 0x8b];
+
+// An input that keeps the last error of a read, and whether it is a file of gzip.
 struct Watched<R> {
     input: R,
     error: Option<io::Error>,
+    // Whether something was read, and whether it begins as a file of gzip does.
+    is_begun: bool,
+    is_gzip: bool,
 }
 
 impl<R: Read> Read for Watched<R> {
     fn read(&mut self, buf: &mut [u8]) -> io::Result<usize> {
         match self.input.read(buf) {
-            Ok(count) => Ok(count),
+            Ok(count) => {
+                if !self.is_begun {
+                    self.is_begun = true;
+                    self.is_gzip = count >= GZIP.len() && buf.starts_with(&GZIP);
+                }
+                Ok(count)
+            }
             Err(error) => {
                 // The reader knows by the error's kind whether to try again.
                 let kind = error.kind();
@@ -118,7 +131,7 @@ fn show_title<W: Write>(
     file: &str,
     output: &mut W,
 ) -> io::Result<()> {
-    if !options.prints || !several {
+    if !options.prints || !several || options.form == Form::Json {
         return Ok(());
     }
     output.write_all(file.as_bytes())?;
@@ -162,7 +175,12 @@ fn dump_input<R: Read, W: Write>(
     tally: &mut Tally,
 ) -> Result<u8, Fault> {
     let before = tally.packets;
-    let mut input = Watched { input, error: None };
+    let mut input = Watched {
+        input,
+        error: None,
+        is_begun: false,
+        is_gzip: false,
+    };
     let ending = dump_readable(options, &mut input, output, tally)?;
     if options.prints {
         report_counts(Some(name), tally)?;
@@ -170,7 +188,7 @@ fn dump_input<R: Read, W: Write>(
     let packets = tally.packets.saturating_sub(before);
     match ending {
         Some(ending) => {
-            report_ending(name, ending, packets);
+            report_ending(name, ending, packets, input.is_gzip);
             Ok(status_of(ending))
         }
         None => {

@@ -7,13 +7,14 @@ use capture::{Record, Time};
 use control_wire::frames::Addresses;
 use control_wire::inside::text::{put_v4, put_v6};
 use control_wire::{Field, Ipv4Address, Ipv6Address, Octets};
-use listing::printer::{Value, line};
+use packet_fields::Form;
 use packet_fields::output::ToWriter;
+use packet_fields::value::{Value, put_text};
 use rattle_std::io;
 use rattle_std::io::Write;
 
 // The length of a VLAN tag, and of its part with the VLAN's number, in bytes.
-const TAG_LEN: usize = 4;
+pub(crate) const TAG_LEN: usize = 4;
 
 const VLAN: Field = 0..2;
 
@@ -25,20 +26,25 @@ pub fn show_heading<W: Write>(
     octets: &[u8],
     headers: &Headers<'_>,
 ) -> io::Result<()> {
-    captured.number.write_to(output)?;
+    captured.number.put(output, Form::Lines)?;
     output.write_all(b" ")?;
     show_time(output, clock, captured.time)?;
     show_addresses(output, headers.addresses, headers.ports)?;
     show_tags(output, headers.tags)?;
     show_hop_by_hop(output, headers.hop_by_hop)?;
     output.write_all(b" ")?;
-    line(output, headers.content.kind().name())
+    headers.content.kind().name().put(output, Form::Lines)?;
+    output.write_all(b"\n")
 }
 
 // Prints the time at which a packet was captured, where it is known.
 fn show_time<W: Write>(output: &mut W, clock: &mut Clock, time: Option<Time>) -> io::Result<()> {
     match time {
-        Some(time) => clock.write(output, time.seconds, time.nanoseconds),
+        Some(time) => put_text(
+            output,
+            Form::Lines,
+            clock.time(time.seconds, time.nanoseconds),
+        ),
         None => output.write_all(b"-"),
     }
 }
@@ -80,14 +86,14 @@ fn show_v6<W: Write>(
     put_v6::<_, ToWriter>(output, destination, destination_port(ports))
 }
 
-fn source_port(ports: Option<(u16, u16)>) -> Option<u16> {
+pub(crate) fn source_port(ports: Option<(u16, u16)>) -> Option<u16> {
     match ports {
         Some((source, _)) => Some(source),
         None => None,
     }
 }
 
-fn destination_port(ports: Option<(u16, u16)>) -> Option<u16> {
+pub(crate) fn destination_port(ports: Option<(u16, u16)>) -> Option<u16> {
     match ports {
         Some((_, destination)) => Some(destination),
         None => None,
@@ -107,7 +113,12 @@ fn show_tags<W: Write>(output: &mut W, tags: &[u8]) -> io::Result<()> {
 
 fn show_tag<W: Write>(output: &mut W, tag: &[u8]) -> io::Result<()> {
     output.write_all(b" vlan=")?;
-    (tag.u16_at(VLAN) % 4096).write_to(output)
+    show_vlan(output, tag)
+}
+
+/// Prints the number of the VLAN of a tag of four bytes.
+pub(crate) fn show_vlan<W: Write>(output: &mut W, tag: &[u8]) -> io::Result<()> {
+    (tag.u16_at(VLAN) % 4096).put(output, Form::Lines)
 }
 
 fn show_hop_by_hop<W: Write>(output: &mut W, options: Option<&[u8]>) -> io::Result<()> {

@@ -1,22 +1,32 @@
 // Made from crates/dump_captures/src/help.rt by rust/erase.
 //! The help of the program.
 
+/// The version.
+pub const VERSION: &str = "0.14.1";
+
 /// The usage, for a wrong argument.
-pub const USAGE: &str = "usage: pcapdump [--only KIND,..] [--count] [--help] [FILE..]";
+pub const USAGE: &str =
+    "usage: pcapdump [--only KIND,..] [--json] [--strict] [--count] [--help] [--version] [FILE..]";
 
 /// The names after `--only`, for a list with an unknown one.
-pub const KINDS: &str = "icmp4, igmp, icmp6, dns, mdns, dhcp, frame and hbh";
+pub const KINDS: &str =
+    "icmp4, igmp, icmp6, dns, mdns, llmnr, nbns, dhcp and frame, icmp for both of ICMP, and hbh";
 
-/// The text below the usage where help is asked for. The script `pcapdump` prints it from this file, before anything is
-/// built.
+/// The text below the usage where help is asked for.
 pub const HELP: &str = "\
 Prints each control packet of capture files, pcap or pcapng: a heading with its number, its time, its addresses and
 its kind, and below it what it holds, a field a line. Without a file, and for -, it reads standard input.
 
   --only KIND,..    prints the packets of these kinds alone; of several lists the last counts
+  --json            prints each packet as an object of JSON, on a line
+  --strict          refuses messages whose checksum is wrong; without it they are printed with checksum=bad
   --count           prints no packets but a table at the end: of each kind how many were listed and how many were
                     refused for each reason, and their octets; on standard error it sums up the rest. The table comes
-                    where the input ends, and not where a signal ends the program
+                    where the input ends, also by Ctrl-C before a pipe that the script ./pcapdump reads
+  -h, --help        prints this
+  -V, --version     prints the version
+  -r FILE           reads the file, as FILE alone does
+  -n                has no effect: no name is looked up
 
 The kinds:
 
@@ -25,12 +35,16 @@ The kinds:
   icmp6             ICMP over IPv6, with multicast listener and neighbor discovery
   dns               UDP, where either port is 53; DNS over TCP is not read
   mdns              UDP, where either port is 5353
+  llmnr             UDP, where either port is 5355
+  nbns              UDP, where either port is 137
   dhcp              UDP over IPv4, where either port is 67 or 68
   frame             what can't be read so far that its kind could be told
+  icmp              with --only: icmp4 and icmp6
   hbh               with --only: those that have IPv6 hop-by-hop options, of any kind
 
-A packet that can't be read has the line `refused=PHRASE`, which tells the check that fails first. It is counted under
-one of these reasons:
+A packet is counted once: as listed, or under one of these reasons, `cut` before `checksum`, and both before the one for
+which its message is first refused. What can be read of it is printed all the same, with a mark or a line
+`refused=PHRASE` that tells what is wrong.
 
   cut               the capture kept less of it than it takes
   fragment          it is a fragment of a datagram
@@ -47,6 +61,7 @@ Examples:
   pcapdump trace.pcap
   pcapdump --only dns,mdns --count trace.pcap more.pcapng
   tcpdump --immediate-mode -U -w - | pcapdump --only icmp6
+  pcapdump --json trace.pcap | jq -c 'select(.kind == \"dhcp\")'
 
 The status is the greatest that holds: 0, 1 where a capture ends within a record or goes on with what is none, 2 where
 an argument is wrong, or a file can't be opened or is no capture, 3 where reading, writing or memory failed.

@@ -2,7 +2,7 @@
 //! The kinds of control packets, and the reasons for which one is refused.
 
 /// The number of kinds.
-pub const KINDS: usize = 7;
+pub const KINDS: usize = 9;
 
 /// The number of reasons.
 pub const REASONS: usize = 8;
@@ -20,6 +20,10 @@ pub enum Kind {
     Dns,
     /// A message of multicast DNS.
     Mdns,
+    /// A message of link-local multicast name resolution.
+    Llmnr,
+    /// A message of the NetBIOS name service.
+    Nbns,
     /// A DHCP packet.
     Dhcp,
     /// A packet whose kind can't be told, since too little of it can be read.
@@ -34,6 +38,8 @@ impl Kind {
         Kind::Icmp6,
         Kind::Dns,
         Kind::Mdns,
+        Kind::Llmnr,
+        Kind::Nbns,
         Kind::Dhcp,
         Kind::Frame,
     ];
@@ -47,6 +53,8 @@ impl Kind {
             Kind::Icmp6 => "icmp6",
             Kind::Dns => "dns",
             Kind::Mdns => "mdns",
+            Kind::Llmnr => "llmnr",
+            Kind::Nbns => "nbns",
             Kind::Dhcp => "dhcp",
             Kind::Frame => "frame",
         }

@@ -3,6 +3,7 @@
 
 use crate::kind::KINDS;
 use crate::sight::Headers;
+use packet_fields::Form;
 
 /// Which control packets are chosen.
 #[derive(Debug, PartialEq, Eq, Clone, Copy)]
@@ -41,4 +42,8 @@ pub struct Options {
     pub only: Only,
     /// Whether they are printed, and not only counted.
     pub prints: bool,
+    /// The form in which they are printed.
+    pub form: Form,
+    /// Whether a message whose checksum does not hold is refused.
+    pub is_strict: bool,
 }

@@ -4,13 +4,15 @@
 use crate::Fault;
 use crate::heading::show_heading;
 use crate::kind::{Kind, Reason};
+use crate::members::show_members;
 use crate::messages::show_listing;
 use crate::options::Options;
 use crate::sight::{Headers, Sight, look};
 use crate::tally::{Outcome, Tally};
 use crate::time::Clock;
 use capture::{Capture, Ending, Next, Record};
-use listing::page::Page;
+use packet_fields::Form;
+use packet_fields::value::{Value, put_string};
 use rattle_std::io;
 use rattle_std::io::{BufReader, BufWriter, Read, Write};
 
@@ -91,14 +93,13 @@ fn show_packets<R: Read, W: Write>(
     tally: &mut Tally,
 ) -> Result<Option<Ending>, Fault> {
     let mut capture = Capture::new();
-    let mut page = Page::new();
     let mut clock = Clock::new();
     for _ in 0..u64::MAX {
         write_out_before_wait(&capture, input, output)?;
         match capture.next(input) {
             Ok(Next::Record(record)) => {
                 let octets = capture.octets();
-                let outcome = show_packet(options, output, &mut page, &mut clock, &record, octets)?;
+                let outcome = show_packet(options, output, &mut clock, &record, octets)?;
                 tally.count(outcome, record.link_type, octets.len() as u64);
             }
             Ok(Next::Ended(ending)) => return Ok(Some(ending)),
@@ -125,7 +126,6 @@ fn write_out_before_wait<R: Read, W: Write>(
 pub fn show_packet<W: Write>(
     options: &Options,
     output: &mut W,
-    page: &mut Page,
     clock: &mut Clock,
     captured: &Record,
     octets: &[u8],
@@ -133,9 +133,7 @@ pub fn show_packet<W: Write>(
     match &look(captured, octets) {
         Sight::Unread => Ok(Outcome::Unread),
         Sight::Other => Ok(Outcome::Other),
-        Sight::Control(headers) => {
-            show_control(options, output, page, clock, captured, octets, headers)
-        }
+        Sight::Control(headers) => show_control(options, output, clock, captured, octets, headers),
     }
 }
 
@@ -145,7 +143,6 @@ pub fn show_packet<W: Write>(
 fn show_control<W: Write>(
     options: &Options,
     output: &mut W,
-    page: &mut Page,
     clock: &mut Clock,
     captured: &Record,
     octets: &[u8],
@@ -155,16 +152,67 @@ fn show_control<W: Write>(
         return Ok(Outcome::Passed);
     }
     if !options.prints {
-        return count_alone(page, headers);
+        return count_alone(options, headers);
     }
-    show_heading(output, clock, captured, octets, headers)?;
-    let why = show_listing(output, page, headers)?;
+    let why = show_chosen(options, output, clock, captured, octets, headers)?;
     Ok(outcome(headers.content.kind(), why))
 }
 
+// Prints a control packet in the form that is asked for.
+fn show_chosen<W: Write>(
+    options: &Options,
+    output: &mut W,
+    clock: &mut Clock,
+    captured: &Record,
+    octets: &[u8],
+    headers: &Headers<'_>,
+) -> Result<Option<Reason>, Fault> {
+    match options.form {
+        Form::Lines => show_lines(options, output, clock, captured, octets, headers),
+        Form::Json => show_object(options, output, clock, captured, octets, headers),
+    }
+}
+
+// Prints a control packet in lines.
+fn show_lines<W: Write>(
+    options: &Options,
+    output: &mut W,
+    clock: &mut Clock,
+    captured: &Record,
+    octets: &[u8],
+    headers: &Headers<'_>,
+) -> Result<Option<Reason>, Fault> {
+    show_heading(output, clock, captured, octets, headers)?;
+    show_listing(options, output, headers)
+}
+
+// Prints a control packet as an object of JSON, on a line.
+fn show_object<W: Write>(
+    options: &Options,
+    output: &mut W,
+    clock: &mut Clock,
+    captured: &Record,
+    octets: &[u8],
+    headers: &Headers<'_>,
+) -> Result<Option<Reason>, Fault> {
+    open_object(output, captured.number)?;
+    show_members(output, clock, captured, octets, headers)?;
+    let why = show_listing(options, output, headers)?;
+    output.write_all(b"}\n")?;
+    Ok(why)
+}
+
+// Prints the front of an object, up to its first member, the packet's number.
+fn open_object<W: Write>(output: &mut W, number: u64) -> io::Result<()> {
+    output.write_all(b"{")?;
+    put_string(output, "number")?;
+    output.write_all(b":")?;
+    number.put(output, Form::Json)
+}
+
 // Reads a control packet that is only counted.
-fn count_alone(page: &mut Page, headers: &Headers<'_>) -> Result<Outcome, Fault> {
-    let why = show_listing(&mut io::sink(), page, headers)?;
+fn count_alone(options: &Options, headers: &Headers<'_>) -> Result<Outcome, Fault> {
+    let why = show_listing(options, &mut io::sink(), headers)?;
     Ok(outcome(headers.content.kind(), why))
 }
 

@@ -47,6 +47,7 @@ pub fn run_program() -> u8 {
     match task {
         Ok(Task::Dump(options, files)) => dump_files(&options, files.as_slice()),
         Ok(Task::Help) => print_help(),
+        Ok(Task::Version) => print_version(),
         Ok(Task::Unknown(wrong)) => {
             report_wrong(&wrong);
             WRONG
@@ -58,6 +59,14 @@ pub fn run_program() -> u8 {
 // Prints the help, and returns the status.
 fn print_help() -> u8 {
     match rattle_std::println!("{}\n\n{}", help::USAGE, help::HELP) {
+        Ok(()) => WHOLE,
+        Err(error) => end_by(Fault::from(error)),
+    }
+}
+
+// Prints the version, and returns the status.
+fn print_version() -> u8 {
+    match rattle_std::println!("pcapdump {}", help::VERSION) {
         Ok(()) => WHOLE,
         Err(error) => end_by(Fault::from(error)),
     }

@@ -2,14 +2,13 @@
 //! Why a control packet is refused.
 
 use crate::kind::Reason;
-use control_wire::dhcpv4;
 use control_wire::frames::{link, udp};
 use control_wire::icmpv6;
 use control_wire::quotes::message::{Icmpv4Refusal, Icmpv6Refusal};
 use control_wire::quotes::{icmpv4_error, icmpv6_error};
 use control_wire::record::TextRefusal;
 use control_wire::{icmpv4, igmp};
-use listing::message::Unread;
+use dns_fields::unread::Unread;
 use std::fmt;
 
 /// Why a control packet is refused, as the library that reads it tells.
@@ -19,18 +18,8 @@ pub enum Refusal {
     Frame(link::Refusal),
     /// The IP datagram is refused.
     Datagram(control_wire::frames::Refusal),
-    /// The UDP datagram is refused.
-    Udp(udp::Refusal),
-    /// The ICMPv4 message is refused.
-    Icmp4(Icmpv4Refusal),
-    /// The IGMP message is refused.
-    Igmp(igmp::Refusal),
-    /// The ICMPv6 message is refused.
-    Icmp6(Icmpv6Refusal),
-    /// The DHCP packet is refused.
-    Dhcp(dhcpv4::Refusal),
-    /// The DNS message is not listed to its end.
-    Dns(Unread),
+    /// The message is refused, or read in part.
+    Message(message_fields::Refusal),
 }
 
 impl Refusal {
@@ -41,12 +30,7 @@ impl Refusal {
         match self {
             Refusal::Frame(refusal) => frame_reason(is_cut, refusal),
             Refusal::Datagram(refusal) => datagram_reason(is_cut, refusal),
-            Refusal::Udp(refusal) => udp_reason(refusal),
-            Refusal::Icmp4(refusal) => icmp4_reason(refusal),
-            Refusal::Igmp(refusal) => igmp_reason(refusal),
-            Refusal::Icmp6(refusal) => icmp6_reason(refusal),
-            Refusal::Dhcp(refusal) => dhcp_reason(refusal),
-            Refusal::Dns(unread) => dns_reason(unread),
+            Refusal::Message(refusal) => message_reason(refusal),
         }
     }
 }
@@ -81,6 +65,41 @@ fn datagram_reason(is_cut: bool, refusal: control_wire::frames::Refusal) -> Reas
         | control_wire::frames::Refusal::TotalLen(_)
         | control_wire::frames::Refusal::Jumbogram
         | control_wire::frames::Refusal::Extension(_) => Reason::Malformed,
+        _ => unreachable!(),
+    }
+}
+
+fn message_reason(refusal: message_fields::Refusal) -> Reason {
+    match refusal {
+        message_fields::Refusal::Checksum => Reason::Checksum,
+        message_fields::Refusal::Udp(refusal) => udp_reason(refusal),
+        message_fields::Refusal::Cut => Reason::Short,
+        message_fields::Refusal::Icmp4(refusal) => icmp4_reason(refusal),
+        message_fields::Refusal::Igmp(refusal) => igmp_reason(refusal),
+        message_fields::Refusal::Icmp6(refusal) => icmp6_reason(refusal),
+        message_fields::Refusal::Dhcp(refusal) => dhcp_reason(refusal),
+        message_fields::Refusal::Dns(unread) => dns_reason(unread),
+    }
+}
+
+fn dhcp_reason(refusal: dhcp_fields::Refusal) -> Reason {
+    match refusal {
+        dhcp_fields::Refusal::Short => Reason::Short,
+        dhcp_fields::Refusal::MagicCookie | dhcp_fields::Refusal::OptionCut(_) => Reason::Malformed,
+    }
+}
+
+fn dns_reason(unread: Unread) -> Reason {
+    match unread {
+        Unread::Header => Reason::Short,
+        Unread::Question(_)
+        | Unread::Record(TextRefusal::Owner(_))
+        | Unread::Record(TextRefusal::DataName(_)) => Reason::Name,
+        Unread::Entry(..)
+        | Unread::Record(TextRefusal::Data(_))
+        | Unread::Option(_)
+        | Unread::Addresses
+        | Unread::Names => Reason::Malformed,
         _ => unreachable!(),
     }
 }
@@ -132,38 +151,13 @@ fn icmp6_reason(refusal: Icmpv6Refusal) -> Reason {
     }
 }
 
-fn dhcp_reason(refusal: dhcpv4::Refusal) -> Reason {
-    match refusal {
-        dhcpv4::Refusal::Short => Reason::Short,
-        _ => Reason::Malformed,
-    }
-}
-
-fn dns_reason(unread: Unread) -> Reason {
-    match unread {
-        Unread::Header => Reason::Short,
-        Unread::Question(_)
-        | Unread::Record(TextRefusal::Owner(_))
-        | Unread::Record(TextRefusal::DataName(_)) => Reason::Name,
-        Unread::Entry(..) | Unread::Record(TextRefusal::Data(_)) | Unread::Option(_) => {
-            Reason::Malformed
-        }
-        _ => unreachable!(),
-    }
-}
-
 /// The reason as a phrase.
 impl fmt::Display for Refusal {
     fn fmt(&self, f: &mut fmt::Formatter<'_>) -> fmt::Result {
         match self {
             Refusal::Frame(refusal) => write!(f, "{refusal}"),
             Refusal::Datagram(refusal) => write!(f, "{refusal}"),
-            Refusal::Udp(refusal) => write!(f, "{refusal}"),
-            Refusal::Icmp4(refusal) => write!(f, "{refusal}"),
-            Refusal::Igmp(refusal) => write!(f, "{refusal}"),
-            Refusal::Icmp6(refusal) => write!(f, "{refusal}"),
-            Refusal::Dhcp(refusal) => write!(f, "{refusal}"),
-            Refusal::Dns(unread) => write!(f, "{unread}"),
+            Refusal::Message(refusal) => write!(f, "{refusal}"),
         }
     }
 }

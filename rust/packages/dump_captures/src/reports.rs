@@ -29,10 +29,15 @@ pub fn report_counts(name: Option<&str>, tally: &Tally) -> Result<(), Fault> {
     Ok(())
 }
 
-/// Prints what ended a capture if it did not end after a whole record.
-pub fn report_ending(file: &str, ending: Ending, packets: u64) {
+/// Prints what ended a capture if it did not end after a whole record; of a file of gzip how it can be read.
+pub fn report_ending(file: &str, ending: Ending, packets: u64, is_gzip: bool) {
     let _ = match (ending, packets) {
         (Ending::Whole, _) => Ok(()),
+        (Ending::NotACapture, 0) if is_gzip => {
+            rattle_std::eprintln!(
+                "pcapdump: {file}: {ending} but a file of gzip: zcat {file} | ./pcapdump"
+            )
+        }
         (_, 0) => rattle_std::eprintln!("pcapdump: {file}: {ending}"),
         (_, last) => rattle_std::eprintln!("pcapdump: {file}: {ending}, after packet {last}"),
     };

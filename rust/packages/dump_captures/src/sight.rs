@@ -4,9 +4,12 @@
 use crate::kind::{Kind, Reason};
 use crate::refusal::Refusal;
 use capture::Record;
-use control_wire::frames::{Addresses, Captured, Datagram, Frame, Head, Link, Network, udp};
-use control_wire::{IpProtocol, Ipv4Packet, Ipv6Address};
-use listing::ports::ports_of;
+use control_wire::frames::{
+    Addresses, Captured, Datagram, Extent, Frame, Head, Link, Network, udp,
+};
+use control_wire::{IpProtocol, Ipv4Packet};
+use message_fields::{Message, Service};
+use packet_fields::ports::ports_of;
 
 /// What the headers of a packet tell.
 #[derive(Debug, PartialEq, Eq, Clone, Copy)]
@@ -34,21 +37,13 @@ pub struct Headers<'a> {
     pub content: Content<'a>,
 }
 
-/// What a control packet holds: a message, with the addresses that its checksum covers, or nothing that can be read.
+/// What a control packet holds: a message, whole or in part, or nothing that can be read.
 #[derive(Debug, PartialEq, Eq, Clone, Copy)]
 pub enum Content<'a> {
-    /// An ICMPv4 message.
-    Icmp4(&'a [u8]),
-    /// An IGMP message.
-    Igmp(&'a [u8]),
-    /// An ICMPv6 message from one address to another.
-    Icmp6(Ipv6Address, Ipv6Address, &'a [u8]),
-    /// A UDP datagram of DNS.
-    Dns(Addresses, &'a [u8]),
-    /// A UDP datagram of multicast DNS.
-    Mdns(Addresses, &'a [u8]),
-    /// A UDP datagram of DHCP.
-    Dhcp(Addresses, &'a [u8]),
+    /// The message of a whole datagram.
+    Whole(Message<'a>),
+    /// The message of a datagram of which so many bytes are missing, counted under this reason.
+    Cut(Message<'a>, u64, Reason),
     /// A packet of this kind that is refused and counted under this reason.
     Refused(Kind, Reason, Refusal),
 }
@@ -58,14 +53,23 @@ impl Content<'_> {
     #[inline]
     pub fn kind(&self) -> Kind {
         match self {
-            Content::Icmp4(_) => Kind::Icmp4,
-            Content::Igmp(_) => Kind::Igmp,
-            Content::Icmp6(_, _, _) => Kind::Icmp6,
-            Content::Dns(_, _) => Kind::Dns,
-            Content::Mdns(_, _) => Kind::Mdns,
-            Content::Dhcp(_, _) => Kind::Dhcp,
+            Content::Whole(message) | Content::Cut(message, _, _) => kind_of(message),
             Content::Refused(kind, _, _) => *kind,
         }
+    }
+}
+
+// The kind of a message.
+fn kind_of(message: &Message<'_>) -> Kind {
+    match message {
+        Message::Icmp4(_) => Kind::Icmp4,
+        Message::Igmp(_) => Kind::Igmp,
+        Message::Icmp6(_, _, _) => Kind::Icmp6,
+        Message::Udp(Service::Dns, _, _) => Kind::Dns,
+        Message::Udp(Service::Mdns, _, _) => Kind::Mdns,
+        Message::Udp(Service::Llmnr, _, _) => Kind::Llmnr,
+        Message::Udp(Service::Nbns, _, _) => Kind::Nbns,
+        Message::Udp(Service::Dhcp, _, _) => Kind::Dhcp,
     }
 }
 
@@ -110,7 +114,7 @@ fn look_into<'a>(captured: &Record, octets: &[u8], frame: &Frame<'a>) -> Sight<'
 const UNKNOWN: Content<'static> = Content::Refused(
     Kind::Frame,
     Reason::Short,
-    Refusal::Udp(udp::Refusal::Short),
+    Refusal::Message(message_fields::Refusal::Udp(udp::Refusal::Short)),
 );
 
 // What a datagram between these addresses holds; None for other protocols.
@@ -122,13 +126,15 @@ fn content_by<'a>(
 ) -> Option<Content<'a>> {
     match addresses {
         Addresses::V4(_, _) => match protocol {
-            IpProtocol::Icmp => Some(Content::Icmp4(payload)),
-            IpProtocol::Igmp => Some(Content::Igmp(payload)),
+            IpProtocol::Icmp => Some(Content::Whole(Message::Icmp4(payload))),
+            IpProtocol::Igmp => Some(Content::Whole(Message::Igmp(payload))),
             IpProtocol::Udp => content_of_udp(addresses, ports, payload),
             _ => None,
         },
         Addresses::V6(src_addr, dst_addr) => match protocol {
-            IpProtocol::Icmpv6 => Some(Content::Icmp6(*src_addr, *dst_addr, payload)),
+            IpProtocol::Icmpv6 => Some(Content::Whole(Message::Icmp6(
+                *src_addr, *dst_addr, payload,
+            ))),
             IpProtocol::Udp => content_of_udp(addresses, ports, payload),
             IpProtocol::HopByHop
             | IpProtocol::Ipv6Route
@@ -145,20 +151,33 @@ fn content_of_udp<'a>(
     ports: Option<(u16, u16)>,
     payload: &'a [u8],
 ) -> Option<Content<'a>> {
-    let Some((source, destination)) = ports else {
+    let Some(ports) = ports else {
         return Some(UNKNOWN);
     };
-    if source == 53 || destination == 53 {
-        Some(Content::Dns(*addresses, payload))
-    } else if source == 5353 || destination == 5353 {
-        Some(Content::Mdns(*addresses, payload))
-    } else if addresses.is_v4()
-        && (source == 67 || destination == 67 || source == 68 || destination == 68)
-    {
-        Some(Content::Dhcp(*addresses, payload))
+    let service = service_of(addresses.is_v4(), ports)?;
+    Some(Content::Whole(Message::Udp(service, *addresses, payload)))
+}
+
+// The service of these ports, one of which is its own.
+fn service_of(is_v4: bool, ports: (u16, u16)) -> Option<Service> {
+    if has_port(ports, 53) {
+        Some(Service::Dns)
+    } else if has_port(ports, 5353) {
+        Some(Service::Mdns)
+    } else if has_port(ports, 5355) {
+        Some(Service::Llmnr)
+    } else if has_port(ports, 137) {
+        Some(Service::Nbns)
+    } else if is_v4 && (has_port(ports, 67) || has_port(ports, 68)) {
+        Some(Service::Dhcp)
     } else {
         None
     }
+}
+
+// Whether a port is that of the source or of the destination.
+fn has_port(ports: (u16, u16), port: u16) -> bool {
+    ports.0 == port || ports.1 == port
 }
 
 // What a whole datagram tells.
@@ -214,28 +233,47 @@ fn told<'a>(
     })
 }
 
-// A refused datagram, of which the start is known.
+// A refused datagram, of which the start is known: what is there of one that is cut.
 fn told_front<'a>(
     tags: &'a [u8],
-    front: &Datagram<'_>,
+    front: &Captured<'a>,
     reason: Reason,
     refusal: Refusal,
 ) -> Sight<'a> {
-    let ports = ports_of(front.protocol, front.payload);
-    told(
+    let datagram = &front.datagram;
+    let (protocol, payload) = (datagram.protocol, datagram.payload);
+    let ports = ports_of(protocol, payload);
+    let Some(content) = content_by(&datagram.addresses, protocol, ports, payload) else {
+        return Sight::Other;
+    };
+    Sight::Control(Headers {
         tags,
-        front.addresses,
-        front.protocol,
+        addresses: Some(datagram.addresses),
         ports,
-        reason,
-        refusal,
-    )
+        hop_by_hop: datagram.hop_by_hop,
+        content: front_content(front.extent, reason, refusal, content),
+    })
+}
+
+// What there is of a refused datagram, of which this would be the content.
+fn front_content(
+    extent: Extent,
+    reason: Reason,
+    refusal: Refusal,
+    content: Content<'_>,
+) -> Content<'_> {
+    match (extent, content) {
+        (Extent::Cut { missing }, Content::Whole(message)) => {
+            Content::Cut(message, missing as u64, reason)
+        }
+        (_, content) => Content::Refused(content.kind(), reason, refusal),
+    }
 }
 
 // What is known of a refused IPv4 datagram, as far as it was captured.
-fn refused_v4<'a>(tags: &'a [u8], octets: &[u8], reason: Reason, refusal: Refusal) -> Sight<'a> {
+fn refused_v4<'a>(tags: &'a [u8], octets: &'a [u8], reason: Reason, refusal: Refusal) -> Sight<'a> {
     match Captured::parse_v4(octets) {
-        Ok(front) => told_front(tags, &front.datagram, reason, refusal),
+        Ok(front) => told_front(tags, &front, reason, refusal),
         Err(other) => match head_of(other) {
             Some(head) => {
                 let ports = ports_behind(octets, &head);
@@ -265,9 +303,9 @@ fn behind_header(octets: &[u8]) -> &[u8] {
 }
 
 // What is known of a refused IPv6 datagram, as far as it was captured.
-fn refused_v6<'a>(tags: &'a [u8], octets: &[u8], reason: Reason, refusal: Refusal) -> Sight<'a> {
+fn refused_v6<'a>(tags: &'a [u8], octets: &'a [u8], reason: Reason, refusal: Refusal) -> Sight<'a> {
     match Captured::parse_v6(octets) {
-        Ok(front) => told_front(tags, &front.datagram, reason, refusal),
+        Ok(front) => told_front(tags, &front, reason, refusal),
         Err(other) => match head_of(other) {
             Some(head) => told(tags, head.addresses, head.protocol, None, reason, refusal),
             None => untold(tags, reason, refusal),

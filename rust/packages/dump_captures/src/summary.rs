@@ -3,22 +3,23 @@
 
 use crate::kind::Reason;
 use crate::tally::{Tally, UnreadLink};
-use listing::printer::Value;
+use packet_fields::Form;
+use packet_fields::value::Value;
 use rattle_std::io;
 use rattle_std::io::Write;
 
 /// Writes the line, without a line's end, as
 /// `5 packets, 2 listed, 1 refused (1 cut), 1 of other protocols, 3 of link 147`.
 pub fn write_summary<W: Write>(output: &mut W, tally: &Tally) -> io::Result<()> {
-    tally.packets.write_to(output)?;
+    tally.packets.put(output, Form::Lines)?;
     output.write_all(b" packets, ")?;
-    listed(tally).write_to(output)?;
+    listed(tally).put(output, Form::Lines)?;
     output.write_all(b" listed, ")?;
-    all_refused(tally).write_to(output)?;
+    all_refused(tally).put(output, Form::Lines)?;
     output.write_all(b" refused")?;
     write_reasons(output, tally)?;
     output.write_all(b", ")?;
-    tally.other.write_to(output)?;
+    tally.other.put(output, Form::Lines)?;
     output.write_all(b" of other protocols")?;
     write_further(output, tally.passed, " of kinds that are not printed")?;
     write_links(output, tally.links.as_slice())?;
@@ -88,9 +89,9 @@ fn write_before<W: Write>(output: &mut W, is_first: bool) -> io::Result<()> {
 }
 
 fn write_count<W: Write>(output: &mut W, count: u64, reason: Reason) -> io::Result<()> {
-    count.write_to(output)?;
+    count.put(output, Form::Lines)?;
     output.write_all(b" ")?;
-    reason.name().write_to(output)
+    reason.name().put(output, Form::Lines)
 }
 
 // The number of frames of each unsupported link.
@@ -103,9 +104,9 @@ fn write_links<W: Write>(output: &mut W, links: &[UnreadLink]) -> io::Result<()>
 
 fn write_link<W: Write>(output: &mut W, link: &UnreadLink) -> io::Result<()> {
     output.write_all(b", ")?;
-    link.frames.write_to(output)?;
+    link.frames.put(output, Form::Lines)?;
     output.write_all(b" of link ")?;
-    link.link_type.write_to(output)
+    link.link_type.put(output, Form::Lines)
 }
 
 // A further number and what it counts, where it is not 0.
@@ -114,6 +115,6 @@ fn write_further<W: Write>(output: &mut W, count: u64, what: &str) -> io::Result
         return Ok(());
     }
     output.write_all(b", ")?;
-    count.write_to(output)?;
+    count.put(output, Form::Lines)?;
     output.write_all(what.as_bytes())
 }

@@ -4,7 +4,8 @@
 use crate::kind::{Kind, Reason};
 use crate::options::Only;
 use crate::tally::{Row, Tally};
-use listing::printer::Value;
+use packet_fields::Form;
+use packet_fields::value::Value;
 use rattle_std::io;
 use rattle_std::io::Write;
 
@@ -25,7 +26,7 @@ fn show_head<W: Write>(output: &mut W) -> io::Result<()> {
 fn show_reasons<W: Write>(output: &mut W) -> io::Result<()> {
     for reason in &Reason::ALL {
         output.write_all(b"\t")?;
-        reason.name().write_to(output)?;
+        reason.name().put(output, Form::Lines)?;
     }
     Ok(())
 }
@@ -47,12 +48,12 @@ fn show_chosen<W: Write>(output: &mut W, only: &Only, tally: &Tally, kind: Kind)
 }
 
 fn show_row<W: Write>(output: &mut W, kind: Kind, row: &Row) -> io::Result<()> {
-    kind.name().write_to(output)?;
+    kind.name().put(output, Form::Lines)?;
     output.write_all(b"\t")?;
-    row.listed.write_to(output)?;
+    row.listed.put(output, Form::Lines)?;
     show_numbers(output, &row.refused)?;
     output.write_all(b"\t")?;
-    row.octets.write_to(output)?;
+    row.octets.put(output, Form::Lines)?;
     output.write_all(b"\n")
 }
 
@@ -60,7 +61,7 @@ fn show_row<W: Write>(output: &mut W, kind: Kind, row: &Row) -> io::Result<()> {
 fn show_numbers<W: Write>(output: &mut W, numbers: &[u64]) -> io::Result<()> {
     for number in numbers {
         output.write_all(b"\t")?;
-        number.write_to(output)?;
+        number.put(output, Form::Lines)?;
     }
     Ok(())
 }

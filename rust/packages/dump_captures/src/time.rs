@@ -2,8 +2,9 @@
 //! Times of packets, as RFC 3339 writes them in UTC.
 
 use capture::calendar::{Date, date_of};
-use control_wire::inside::text::{last_digit, nine_digits, put_number, two_digits};
-use packet_fields::output::ToWriter;
+use control_wire::inside::text::{Sink, last_digit, nine_digits, put_number, two_digits};
+use packet_fields::Form;
+use packet_fields::value::{Text, Value, put_text};
 use rattle_std::io;
 use rattle_std::io::Write;
 
@@ -14,7 +15,7 @@ const DATE_LEN: usize = 10;
 
 const TIME_LEN: usize = 20;
 
-/// Writes times, most of which are on the same day as the one before.
+/// Tells times, most of which are on the same day as the one before.
 pub struct Clock {
     // A day, counted from 1970-01-01.
     day: u64,
@@ -25,29 +26,21 @@ pub struct Clock {
 }
 
 impl Clock {
-    /// A clock that has written nothing yet.
+    /// A clock that has told nothing yet.
     #[inline]
     pub fn new() -> Clock {
         Clock::at(0)
     }
 
-    /// Writes the time this many seconds and nanoseconds after 1970-01-01T00:00:00Z, as
-    /// `2024-05-01T12:34:56.000000000Z`. A year above 9999 has more than four digits. Nanoseconds are written by their
-    /// last nine digits.
+    /// The time this many seconds and nanoseconds after 1970-01-01T00:00:00Z, as `2024-05-01T12:34:56.000000000Z`. A
+    /// year above 9999 has more than four digits. Nanoseconds are told by their last nine digits.
     #[inline]
-    pub fn write<W: Write>(
-        &mut self,
-        output: &mut W,
-        seconds: u64,
-        nanoseconds: u32,
-    ) -> io::Result<()> {
+    pub fn time(&mut self, seconds: u64, nanoseconds: u32) -> TimeText {
         self.turn_to(seconds / DAY_SECONDS);
-        let text = join(&self.date, &time_octets(seconds, nanoseconds));
-        if self.ten_thousands == 0 {
-            return output.write_all(&text);
+        TimeText {
+            ten_thousands: self.ten_thousands,
+            octets: join(&self.date, &time_octets(seconds, nanoseconds)),
         }
-        put_number::<_, ToWriter>(output, self.ten_thousands)?;
-        output.write_all(&text)
     }
 
     // Keeps the date of this day instead of another's.
@@ -65,6 +58,31 @@ impl Clock {
             ten_thousands: date.year / 10_000,
             date: date_octets(date),
         }
+    }
+}
+
+/// The text of a time.
+#[derive(Debug, Clone, Copy)]
+pub struct TimeText {
+    // The year without its last four digits, where it has more.
+    ten_thousands: u64,
+    // The last four digits of the year, and all behind them.
+    octets: [u8; DATE_LEN + TIME_LEN],
+}
+
+impl Text for TimeText {
+    fn put_into<O, S: Sink<O>>(self, output: &mut O) -> Result<(), S::Error> {
+        if self.ten_thousands == 0 {
+            return S::put(output, &self.octets);
+        }
+        put_number::<O, S>(output, self.ten_thousands)?;
+        S::put(output, &self.octets)
+    }
+}
+
+impl Value for TimeText {
+    fn put<W: Write>(self, output: &mut W, form: Form) -> io::Result<()> {
+        put_text(output, form, self)
     }
 }
 

@@ -4,9 +4,9 @@
 use crate::protocol_names::protocol_name;
 use control_wire::IpProtocol;
 use control_wire::quotes::quote::{Ipv4Quote, Ipv6Quote};
-use listing::ports::ports_of;
 use packet_fields::Form;
 use packet_fields::field::{field, named};
+use packet_fields::ports::ports_of;
 use rattle_std::io;
 use rattle_std::io::Write;
 

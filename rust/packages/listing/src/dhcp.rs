@@ -16,8 +16,7 @@ pub fn show_dhcp<W: Write>(output: &mut W, packet: &[u8]) -> io::Result<()> {
     show_packet(output, &packet)
 }
 
-/// Prints a packet that was read.
-pub fn show_packet<W: Write>(output: &mut W, packet: &Repr<'_>) -> io::Result<()> {
+fn show_packet<W: Write>(output: &mut W, packet: &Repr<'_>) -> io::Result<()> {
     show_sender(output, packet)?;
     show_addresses(output, packet)?;
     show_request(output, packet)?;

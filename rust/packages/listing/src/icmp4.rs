@@ -1,7 +1,6 @@
 // Made from crates/listing/src/icmp4.rt by rust/erase.
 //! ICMPv4 messages.
 
-use crate::page::{MARGIN, Page, write_indented};
 use crate::printer::{field, line, part_field};
 use control_wire::icmpv4::{Packet, Repr};
 use control_wire::{ChecksumCapabilities, Ipv4Repr};
@@ -17,8 +16,7 @@ pub fn show_icmp4<W: Write>(output: &mut W, packet: &[u8]) -> io::Result<()> {
     show_message(output, &message)
 }
 
-/// Prints a message that was read.
-pub fn show_message<W: Write>(output: &mut W, message: &Repr<'_>) -> io::Result<()> {
+fn show_message<W: Write>(output: &mut W, message: &Repr<'_>) -> io::Result<()> {
     match *message {
         Repr::EchoRequest {
             ident,
@@ -42,53 +40,6 @@ pub fn show_message<W: Write>(output: &mut W, message: &Repr<'_>) -> io::Result<
         } => show_error(output, "TimeExceeded", reason.into(), &header, data),
         _ => unreachable!(),
     }
-}
-
-/// Prints a message that was read, each line after two spaces. The page is a buffer for text that is indented; the
-/// data, most of an echo, is written at once.
-pub fn show_indented<W: Write>(
-    output: &mut W,
-    page: &mut Page,
-    message: &Repr<'_>,
-) -> io::Result<()> {
-    match *message {
-        Repr::EchoRequest {
-            ident,
-            seq_no,
-            data,
-        } => show_indented_echo(output, "EchoRequest", ident, seq_no, data),
-        Repr::EchoReply {
-            ident,
-            seq_no,
-            data,
-        } => show_indented_echo(output, "EchoReply", ident, seq_no, data),
-        _ => show_indented_other(output, page, message),
-    }
-}
-
-fn show_indented_other<W: Write>(
-    output: &mut W,
-    page: &mut Page,
-    message: &Repr<'_>,
-) -> io::Result<()> {
-    page.clear();
-    show_message(page, message)?;
-    write_indented(output, page.as_slice())
-}
-
-/// Prints an echo of either ICMP after its name, each line after two spaces. Requires that the name is of one line.
-pub fn show_indented_echo<W: Write>(
-    output: &mut W,
-    name: &str,
-    ident: u16,
-    seq_no: u16,
-    data: &[u8],
-) -> io::Result<()> {
-    output.write_all(MARGIN.as_bytes())?;
-    line(output, name)?;
-    part_field(output, MARGIN, "ident", ident)?;
-    part_field(output, MARGIN, "seq_no", seq_no)?;
-    part_field(output, MARGIN, "data", data)
 }
 
 /// Prints an echo of either ICMP after its name.

@@ -1,9 +1,8 @@
 // Made from crates/listing/src/icmp6.rt by rust/erase.
 //! ICMPv6 messages.
 
-use crate::icmp4::{show_echo, show_indented_echo};
+use crate::icmp4::show_echo;
 use crate::ipv6::show_header;
-use crate::page::{Page, write_indented};
 use crate::printer::{field, line};
 use crate::{mld, ndisc};
 use control_wire::icmpv6::{Packet, ParamProblem, Repr};
@@ -37,8 +36,7 @@ fn show_packet<W: Write>(
     show_message(output, &message)
 }
 
-/// Prints a message that was read.
-pub fn show_message<W: Write>(output: &mut W, message: &Repr<'_>) -> io::Result<()> {
+fn show_message<W: Write>(output: &mut W, message: &Repr<'_>) -> io::Result<()> {
     match message {
         Repr::DstUnreachable {
             reason,
@@ -71,37 +69,6 @@ pub fn show_message<W: Write>(output: &mut W, message: &Repr<'_>) -> io::Result<
         Repr::Mld(message) => mld::show_message(output, message),
         _ => unreachable!(),
     }
-}
-
-/// Prints a message that was read, each line after two spaces. The page is a buffer for text that is indented.
-pub fn show_indented<W: Write>(
-    output: &mut W,
-    page: &mut Page,
-    message: &Repr<'_>,
-) -> io::Result<()> {
-    match message {
-        Repr::EchoRequest {
-            ident,
-            seq_no,
-            data,
-        } => show_indented_echo(output, "EchoRequest", *ident, *seq_no, data),
-        Repr::EchoReply {
-            ident,
-            seq_no,
-            data,
-        } => show_indented_echo(output, "EchoReply", *ident, *seq_no, data),
-        _ => show_indented_other(output, page, message),
-    }
-}
-
-fn show_indented_other<W: Write>(
-    output: &mut W,
-    page: &mut Page,
-    message: &Repr<'_>,
-) -> io::Result<()> {
-    page.clear();
-    show_message(page, message)?;
-    write_indented(output, page.as_slice())
 }
 
 // An error that has no more than a reason.

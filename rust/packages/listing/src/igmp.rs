@@ -15,8 +15,7 @@ pub fn show_igmp<W: Write>(output: &mut W, packet: &[u8]) -> io::Result<()> {
     show_message(output, message)
 }
 
-/// Prints a message that was read.
-pub fn show_message<W: Write>(output: &mut W, message: Repr) -> io::Result<()> {
+fn show_message<W: Write>(output: &mut W, message: Repr) -> io::Result<()> {
     match message {
         Repr::MembershipQuery {
             max_resp_time,

@@ -5,6 +5,7 @@ use crate::dns_wire::dns::Packet;
 use crate::dns_wire::octets::octets_of;
 use crate::record::name::{Name, put_name};
 use crate::record::refusal::PartRefusal;
+use crate::wirebase::text::{Sink, ToFormatter, put_number};
 use arrayvec::ArrayVec;
 use core::{fmt, result};
 
@@ -26,13 +27,24 @@ pub enum NameRefusal {
 /// What is wrong with the name.
 impl fmt::Display for NameRefusal {
     fn fmt(&self, f: &mut fmt::Formatter<'_>) -> fmt::Result {
+        self.put::<_, ToFormatter>(f)
+    }
+}
+
+impl NameRefusal {
+    /// Puts what is wrong with the name.
+    pub fn put<O, S: Sink<O>>(&self, output: &mut O) -> result::Result<(), S::Error> {
         match self {
-            NameRefusal::Part(refusal) => write!(f, "{refusal}"),
+            NameRefusal::Part(refusal) => refusal.put::<O, S>(output),
             NameRefusal::Pointer(place) => {
-                write!(f, "a pointer to place {place} leads nowhere or round")
+                S::put_str(output, "a pointer to place ")?;
+                put_number::<O, S>(output, *place as u64)?;
+                S::put_str(output, " leads nowhere or round")
             }
-            NameRefusal::TooManyPointers => write!(f, "the name follows more than 127 pointers"),
-            NameRefusal::TooLong => write!(f, "the name has more than 255 octets"),
+            NameRefusal::TooManyPointers => {
+                S::put_str(output, "the name follows more than 127 pointers")
+            }
+            NameRefusal::TooLong => S::put_str(output, "the name has more than 255 octets"),
         }
     }
 }

@@ -8,7 +8,8 @@ use crate::record::rdata::{Layout, RData, field, find_layout};
 use crate::record::record::Record;
 use crate::record::refusal::{PartRefusal, why_no_part};
 use crate::record::update::is_without_data;
-use core::fmt;
+use crate::wirebase::text::{Sink, ToFormatter, put_number};
+use core::{fmt, result};
 
 /// Why [`RData::parse`] refuses data: the check that fails first.
 ///
@@ -48,18 +49,33 @@ pub enum DataRefusal {
 /// What is wrong with the data.
 impl fmt::Display for DataRefusal {
     fn fmt(&self, f: &mut fmt::Formatter<'_>) -> fmt::Result {
+        self.put::<_, ToFormatter>(f)
+    }
+}
+
+impl DataRefusal {
+    /// Puts what is wrong with the data.
+    pub fn put<O, S: Sink<O>>(&self, output: &mut O) -> result::Result<(), S::Error> {
         match self {
-            DataRefusal::Address(len) => write!(f, "the address has other than {len} bytes"),
-            DataRefusal::Numbers => write!(f, "the numbers in front of the name are cut"),
-            DataRefusal::Name(refusal) => write!(f, "{refusal}"),
-            DataRefusal::BehindName => write!(f, "bytes stand behind the name"),
-            DataRefusal::SecondName(refusal) => write!(f, "behind the first name: {refusal}"),
-            DataRefusal::Times => {
-                write!(f, "the numbers behind the names have other than 20 bytes")
+            DataRefusal::Address(len) => {
+                S::put_str(output, "the address has other than ")?;
+                put_number::<O, S>(output, *len as u64)?;
+                S::put_str(output, " bytes")
             }
-            DataRefusal::NoString => write!(f, "there is no string"),
-            DataRefusal::String => write!(f, "a string is cut"),
-            DataRefusal::Types => write!(f, "the type bit maps are malformed"),
+            DataRefusal::Numbers => S::put_str(output, "the numbers in front of the name are cut"),
+            DataRefusal::Name(refusal) => refusal.put::<O, S>(output),
+            DataRefusal::BehindName => S::put_str(output, "bytes stand behind the name"),
+            DataRefusal::SecondName(refusal) => {
+                S::put_str(output, "behind the first name: ")?;
+                refusal.put::<O, S>(output)
+            }
+            DataRefusal::Times => S::put_str(
+                output,
+                "the numbers behind the names have other than 20 bytes",
+            ),
+            DataRefusal::NoString => S::put_str(output, "there is no string"),
+            DataRefusal::String => S::put_str(output, "a string is cut"),
+            DataRefusal::Types => S::put_str(output, "the type bit maps are malformed"),
         }
     }
 }

@@ -3,7 +3,8 @@
 
 use crate::record::name::refusal::NameRefusal;
 use crate::record::rdata::refusal::DataRefusal;
-use core::fmt;
+use crate::wirebase::text::{Sink, ToFormatter};
+use core::{fmt, result};
 
 /// Why [`crate::record::Record::text`] refuses a record: the check that fails first.
 #[derive(Debug, PartialEq, Eq, Clone, Copy)]
@@ -20,10 +21,26 @@ pub enum TextRefusal {
 /// What is wrong with the record.
 impl fmt::Display for TextRefusal {
     fn fmt(&self, f: &mut fmt::Formatter<'_>) -> fmt::Result {
+        self.put::<_, ToFormatter>(f)
+    }
+}
+
+impl TextRefusal {
+    /// Puts what is wrong with the record.
+    pub fn put<O, S: Sink<O>>(&self, output: &mut O) -> result::Result<(), S::Error> {
         match self {
-            TextRefusal::Owner(refusal) => write!(f, "the owner: {refusal}"),
-            TextRefusal::Data(refusal) => write!(f, "the data: {refusal}"),
-            TextRefusal::DataName(refusal) => write!(f, "a name in the data: {refusal}"),
+            TextRefusal::Owner(refusal) => {
+                S::put_str(output, "the owner: ")?;
+                refusal.put::<O, S>(output)
+            }
+            TextRefusal::Data(refusal) => {
+                S::put_str(output, "the data: ")?;
+                refusal.put::<O, S>(output)
+            }
+            TextRefusal::DataName(refusal) => {
+                S::put_str(output, "a name in the data: ")?;
+                refusal.put::<O, S>(output)
+            }
         }
     }
 }

@@ -2,7 +2,7 @@
 use Rattle.std.proofs.Common.{◌∙◌, arith}
 use Rattle.std.proofs.lemmas.Iterator.Consumers.{YieldsList-so_far, YieldsList-turn, YieldsList-end}
 use Rattle.std.specs.Prelude.{string_bytes}
-use Rattle.dump_captures.specs.Arguments.{help, task_of, unknown, wrong_value}
+use Rattle.dump_captures.specs.Arguments.{help, task_of, unknown, version, wrong_value}
 use Rattle.dump_captures.proofs.Words.{skipped, words-all, words-stop}
 use Rattle.dump_captures.proofs.arguments.read_task.Goals as goal
 
@@ -16,6 +16,17 @@ returns-in-Help-clause-task c =
     c.in-Some.argument c.in-Some.is c.next.ensures.steps in
     words-stop string_bytes _ c.loop-argument.yielded c.in-Some.argument _ help front turn c.loop-argument.invariant
     (rw c.in-Help.is at c.in_ok-read.ensures.step)
+
+pub returns-in-Version-clause-task : goal.returns-in-Version-clause-task
+unfolding task_of
+returns-in-Version-clause-task c =
+    let road = skipped c.args.arguments c.into_iter-argument-iterator.result (omega arith) (cc) (cc) in
+    let front = YieldsList-so_far road c.loop-argument.yielded _ c.loop-argument.yielded_by in
+    let turn =
+    YieldsList-turn road c.loop-argument.yielded _ c.loop-argument.yielded_by _ c.next.new.self
+    c.in-Some.argument c.in-Some.is c.next.ensures.steps in
+    words-stop string_bytes _ c.loop-argument.yielded c.in-Some.argument _ version front turn c.loop-argument.invariant
+    (rw c.in-Version.is at c.in_ok-read.ensures.step)
 
 pub returns-in-Unknown-clause-task : goal.returns-in-Unknown-clause-task
 unfolding task_of

@@ -1,5 +1,5 @@
 -- The words, one after another.
-use Rattle.packet_fields.proofs.Printing.{◌then◌, gained, gains_last}
+use Rattle.packet_fields.proofs.Printing.{◌then◌, gained, gained_on_ok, gains_last}
 use Rattle.dump_captures.specs.Heading.{heading}
 use Rattle.dump_captures.proofs.heading.show_heading.Goals as goal
 
@@ -7,6 +7,8 @@ pub returns : goal.returns
 unfolding heading
 returns g c =
     gains_last _ _ _
-    (c.in_ok-write_to.ensures then gained _ _ _ c.in_ok-write_all.ensures.bytes then c.in_ok-show_time.ensures
+    (c.in_ok-put.ensures.text then gained _ _ _ c.in_ok-write_all.ensures.bytes then c.in_ok-show_time.ensures
     then c.in_ok-show_addresses.ensures then c.in_ok-show_tags.ensures then c.in_ok-show_hop_by_hop.ensures
-    then gained _ _ _ c.in_ok-write_all-2.ensures.bytes) (rw (c.name.ensures, c.kind.ensures) at c.line.ensures)
+    then gained _ _ _ c.in_ok-write_all-2.ensures.bytes
+    then (rw (c.name.ensures, c.kind.ensures) at c.in_ok-put-2.ensures.text))
+    (gained_on_ok _ _ _ _ c.write_all-3.ensures.bytes)

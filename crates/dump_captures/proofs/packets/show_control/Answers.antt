@@ -1,11 +1,11 @@
 -- The packet is passed over, only counted, or printed.
-use Rattle.std.proofs.Common.{◌≡◌, ℕ, [], List, ◌++◌, Option, refl, sym, ◌∙◌}
+use Rattle.std.proofs.Common.{◌≡◌, [], List, Option, refl, sym, ◌∙◌}
 use Rattle.capture.specs.Capture.{packet_of}
+use Rattle.packet_fields.specs.Fields.{Item}
 use Rattle.packet_fields.specs.Output.{GainsSome}
-use Rattle.packet_fields.proofs.Printing.{gains_none, gains_both}
+use Rattle.packet_fields.proofs.Printing.{gains_none}
 use Rattle.dump_captures.specs.Dump.{PacketPrints, printed, counted_alone, passed, outcome_of}
-use Rattle.dump_captures.specs.Heading.{heading}
-use Rattle.dump_captures.specs.Messages.{ListingPrints}
+use Rattle.dump_captures.specs.Messages.{ListingIs}
 use Rattle.dump_captures.specs.Sight.{headers_of, kind_in}
 use Rattle.dump_captures.specs.declared.kind.Reason.{Reason}
 use Rattle.dump_captures.proofs.Printing.{if_ok}
@@ -21,12 +21,13 @@ returns-then-not-chooses g c = (
 pub returns-then-not-options : goal.returns-then-not-options
 returns-then-not-options g c =
     let h = headers_of c.args.headers.now in
+    let options = c.args.options.now in
     let number = c.args.captured.now.number in
     let p = packet_of c.args.captured.now c.args.octets.now in
     let before = g.W.Write.contents c.args.output.now in
-    if_ok (λ outcome. (listing : List ℕ) × (why : Option Reason) × ListingPrints h listing why
+    if_ok (λ outcome. (items : List Item) × (why : Option Reason) × ListingIs options h items why
     × (outcome ≡ outcome_of (kind_in h.content) why))
-    (λ outcome. GainsSome before before (λ text. PacketPrints c.args.options.now number p text outcome))
+    (λ outcome. GainsSome before before (λ text. PacketPrints options number p text outcome))
     c.count_alone.result
     (λ outcome told. (
       [],
@@ -37,13 +38,10 @@ returns-then-not-options g c =
 
 pub returns : goal.returns
 returns g c =
-    let h = headers_of c.args.headers.now in
-    let p = packet_of c.args.captured.now c.args.octets.now in
-    let title = heading c.args.captured.now.number p h in
-    let listing = c.in_ok-why.ensures in (
-      title ++ listing.0,
-      printed h listing.0 c.in_ok-why.why c.requires.sight
-          (sym c.chooses.ensures ∙ c.if-not-chooses.false) c.if-not-options.false listing.1 refl
+    let shown = c.in_ok-why.ensures in (
+      shown.0,
+      printed (headers_of c.args.headers.now) c.in_ok-why.why c.requires.sight
+          (sym c.chooses.ensures ∙ c.if-not-chooses.false) c.if-not-options.false shown.1
           (rw c.kind.ensures at c.outcome.ensures),
-      gains_both _ _ _ title listing.0 c.in_ok-show_heading.ensures listing.2,
+      shown.2,
     )

@@ -12,7 +12,7 @@ with_tab reason = codes "\t" ++ reason_text reason
 
 pub loop-reason-preserved : goal.loop-reason-preserved
 loop-reason-preserved g c =
-    let name = rw c.name.ensures at c.in_ok-write_to.ensures in
+    let name = rw c.name.ensures at c.in_ok-put.ensures.text in
     rw (one_more with_tab reasons c.loop-reason.reason-index Cut c.loop-reason-test.true)
     (gains_both _ _ _ _ _ c.loop-reason.invariant (gained _ _ _ c.in_ok-write_all.ensures.bytes then name))
 

@@ -10,20 +10,24 @@ fn lists_of_kinds() {
     const T: bool = true;
     const F: bool = false;
     // Whether each kind is chosen, and whether those with hop-by-hop options are.
-    const ROWS: &[(&str, [bool; 7], bool)] = &[
-        ("icmp4", [T, F, F, F, F, F, F], F),
-        ("igmp", [F, T, F, F, F, F, F], F),
-        ("icmp6", [F, F, T, F, F, F, F], F),
-        ("dns", [F, F, F, T, F, F, F], F),
-        ("mdns", [F, F, F, F, T, F, F], F),
-        ("dhcp", [F, F, F, F, F, T, F], F),
-        ("frame", [F, F, F, F, F, F, T], F),
-        ("hbh", [F, F, F, F, F, F, F], T),
-        ("dns,mdns", [F, F, F, T, T, F, F], F),
-        ("mdns,hbh,dns,mdns", [F, F, F, T, T, F, F], T),
+    const ROWS: &[(&str, [bool; 9], bool)] = &[
+        ("icmp4", [T, F, F, F, F, F, F, F, F], F),
+        ("igmp", [F, T, F, F, F, F, F, F, F], F),
+        ("icmp6", [F, F, T, F, F, F, F, F, F], F),
+        ("dns", [F, F, F, T, F, F, F, F, F], F),
+        ("mdns", [F, F, F, F, T, F, F, F, F], F),
+        ("llmnr", [F, F, F, F, F, T, F, F, F], F),
+        ("nbns", [F, F, F, F, F, F, T, F, F], F),
+        ("dhcp", [F, F, F, F, F, F, F, T, F], F),
+        ("frame", [F, F, F, F, F, F, F, F, T], F),
+        ("hbh", [F, F, F, F, F, F, F, F, F], T),
+        ("icmp", [T, F, T, F, F, F, F, F, F], F),
+        ("igmp,icmp", [T, T, T, F, F, F, F, F, F], F),
+        ("dns,mdns", [F, F, F, T, T, F, F, F, F], F),
+        ("mdns,hbh,dns,mdns", [F, F, F, T, T, F, F, F, F], T),
         (
-            "frame,dhcp,mdns,dns,icmp6,igmp,icmp4",
-            [T, T, T, T, T, T, T],
+            "frame,dhcp,nbns,llmnr,mdns,dns,icmp6,igmp,icmp4",
+            [T, T, T, T, T, T, T, T, T],
             F,
         ),
     ];
@@ -49,7 +53,7 @@ fn lists_with_what_is_no_kind() {
         ("DNS", "DNS"),
         ("dns mdns", "dns mdns"),
         ("dns, mdns", " mdns"),
-        ("dns,icmp,tcp,mdns", "icmp"),
+        ("dns,icmp,tcp,mdns", "tcp"),
         ("hbh,tcp,icmp", "tcp"),
         ("dns;", "dns;"),
         ("icmp44", "icmp44"),

@@ -3,6 +3,8 @@
 
 use crate::testing::{holds_of, same_of};
 use dump_captures::time::Clock;
+use packet_fields::Form;
+use packet_fields::value::put_text;
 #[allow(unused_imports)]
 use rattle_std::prelude::*;
 
@@ -48,12 +50,14 @@ fn times_by_one_clock() {
     let mut clock = Clock::new();
     for (seconds, nanoseconds, want) in TIMES {
         let mut output = Vec::new();
-        let written = clock.write(&mut output, *seconds, *nanoseconds);
+        let time = clock.time(*seconds, *nanoseconds);
+        let written = put_text(&mut output, Form::Lines, time);
         holds_of(want, written.is_ok());
         same_of(want, output.as_slice(), want.as_bytes());
     }
     let mut output = Vec::new();
-    let written = clock.write(&mut output, u64::MAX, 999_999_999);
+    let time = clock.time(u64::MAX, 999_999_999);
+    let written = put_text(&mut output, Form::Lines, time);
     holds_of(LAST, written.is_ok());
     same_of(LAST, output.as_slice(), LAST.as_bytes());
 }

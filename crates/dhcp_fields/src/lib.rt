@@ -1,0 +1,12 @@
+//! The fields of DHCP packets, in lines or in JSON.
+#![tactic(auto)]
+
+pub mod dhcp;
+mod header;
+mod kinds;
+mod options;
+pub mod refusal;
+mod texts;
+
+pub use dhcp::show_dhcp;
+pub use refusal::Refusal;

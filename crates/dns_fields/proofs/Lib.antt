@@ -1,0 +1,4 @@
+pub mod EncodedNames
+pub mod Entries
+pub mod NodeTexts
+pub mod TextLists

@@ -1,0 +1,10 @@
+pub mod Edns
+pub mod Header
+pub mod Kind
+pub mod Message
+pub mod Nbns
+pub mod Netbios
+pub mod Node
+pub mod Record
+pub mod Unread
+pub mod private

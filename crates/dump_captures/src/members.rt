@@ -1,0 +1,196 @@
+//! The members of a control packet's object in JSON that its heading has in lines.
+
+#![tactic(auto, using(packet_fields::proofs::Fields::prints_both, packet_fields::proofs::Printing::gained, packet_fields::proofs::Printing::gains_both, packet_fields::proofs::Printing::gains_none))]
+
+ghost use Rattle.std.specs.Prelude.{◌<◌, ◌≤◌, IfSome, OnOk, length, true};
+ghost use Rattle.std.specs.Option.{option_map};
+ghost use Rattle.capture.specs.Capture.{packet_of};
+ghost use Rattle.capture.specs.Time.{value_of};
+ghost use Rattle.packet_fields.specs.Fields.{AllFit, comma_unless, leaf_text, numbers};
+ghost use Rattle.packet_fields.specs.Output.{Gains};
+ghost use Rattle.packet_fields.specs.Prints.{Prints};
+ghost use Rattle.dump_captures.specs.Heading.{addresses_items, ends_items, head_items, length_items, link_items};
+ghost use Rattle.dump_captures.specs.Heading.{path_items, port_items, time_items, vlans_of};
+ghost use Rattle.dump_captures.specs.private.Vlans.{one_of, run_from};
+ghost use Rattle.dump_captures.specs.Sight.{headers_of};
+
+use crate::heading::{TAG_LEN, destination_port, show_vlan, source_port};
+use crate::sight::Headers;
+use crate::time::Clock;
+use capture::{Record, Time};
+use frame_wire::Addresses;
+use frame_wire::names::link_name;
+use packet_fields::Form;
+use packet_fields::field::{field, named};
+use packet_fields::value::Value;
+use std::io;
+use std::io::Write;
+
+/// Prints the members. Requires that the packet's time, where it has one, is in order.
+pub fn show_members<W: Write>(
+    output: &mut W,
+    clock: &mut Clock,
+    captured: &Record,
+    octets: &[u8],
+    headers: &Headers<'_>,
+) -> io::Result<()>
+    requires { IfSome captured.now.time (λ time. time.nanoseconds < 1000000000) }
+    ensures { OnOk result (Prints Form.Json (W.contents output.old) (W.contents output.new)
+        (head_items (packet_of captured.now octets.now) (headers_of headers.now))) }
+{
+    show_time(output, clock, captured.time)?;
+    show_link(output, captured.link_type)?;
+    show_lengths(output, octets.len() as u64, captured.original_len)?;
+    field(output, Form::Json, "vlans", Vlans(headers.tags))?;
+    show_path(output, headers.addresses, headers.ports)?;
+    field(output, Form::Json, "kind", headers.content.kind().name())
+}
+
+// Prints the time at which the packet was captured.
+fn show_time<W: Write>(output: &mut W, clock: &mut Clock, time: Option<Time>) -> io::Result<()>
+    requires { IfSome time (λ time. time.nanoseconds < 1000000000) }
+    ensures { OnOk result (Prints Form.Json (W.contents output.old) (W.contents output.new)
+        (time_items (option_map value_of time))) }
+{
+    match time {
+        Some(time) => {
+            let text = clock.time(time.seconds, time.nanoseconds);
+            field(output, Form::Json, "time", text)
+        }
+        None => field(output, Form::Json, "time", None::<&str>),
+    }
+}
+
+// Prints the type of the link.
+fn show_link<W: Write>(output: &mut W, link_type: u16) -> io::Result<()>
+    ensures { OnOk result (Prints Form.Json (W.contents output.old) (W.contents output.new)
+        (link_items link_type)) }
+{
+    let name = link_name(link_type);
+    named(output, Form::Json, "link", link_type as u64, name)
+}
+
+// Prints how many bytes of the packet were captured, and how many it had.
+fn show_lengths<W: Write>(output: &mut W, len: u64, original_len: u32) -> io::Result<()>
+    ensures { OnOk result (Prints Form.Json (W.contents output.old) (W.contents output.new)
+        (length_items len original_len)) }
+{
+    field(output, Form::Json, "length", len)?;
+    field(output, Form::Json, "original_length", original_len)
+}
+
+// Prints the addresses and the ports.
+fn show_path<W: Write>(
+    output: &mut W,
+    addresses: Option<Addresses>,
+    ports: Option<(u16, u16)>,
+) -> io::Result<()>
+    ensures { OnOk result (Prints Form.Json (W.contents output.old) (W.contents output.new)
+        (path_items addresses ports)) }
+{
+    show_addresses(output, addresses)?;
+    show_ports(output, ports)
+}
+
+fn show_ports<W: Write>(output: &mut W, ports: Option<(u16, u16)>) -> io::Result<()>
+    ensures { OnOk result (Prints Form.Json (W.contents output.old) (W.contents output.new)
+        (port_items ports)) }
+{
+    field(output, Form::Json, "src_port", source_port(ports))?;
+    field(output, Form::Json, "dst_port", destination_port(ports))
+}
+
+fn show_addresses<W: Write>(output: &mut W, addresses: Option<Addresses>) -> io::Result<()>
+    ensures { OnOk result (Prints Form.Json (W.contents output.old) (W.contents output.new)
+        (addresses_items addresses)) }
+{
+    match addresses {
+        Some(Addresses::V4(source, destination)) => show_ends(output, source, destination),
+        Some(Addresses::V6(source, destination)) => show_ends(output, source, destination),
+        None => show_ends(output, None::<&str>, None::<&str>),
+    }
+}
+
+// Prints the source and the destination.
+fn show_ends<V: Value, W: Write>(output: &mut W, source: V, destination: V) -> io::Result<()>
+    ensures { OnOk result (Prints Form.Json (W.contents output.old) (W.contents output.new)
+        (ends_items (V.leaf source) (V.leaf destination))) }
+{
+    field(output, Form::Json, "src_addr", source)?;
+    field(output, Form::Json, "dst_addr", destination)
+}
+
+// The numbers of the VLANs of tags of four bytes each.
+#[derive(Clone, Copy)]
+struct Vlans<'a>(&'a [u8]);
+
+impl Value for Vlans<'_> {
+    ghost leaf = { λ vlans. numbers (vlans_of vlans.0.now) };
+
+    fn put<W: Write>(self, output: &mut W, form: Form) -> io::Result<()> {
+        are_small(self.0);
+        match form {
+            Form::Lines => put_words(output, self.0),
+            Form::Json => put_array(output, self.0),
+        }
+    }
+}
+
+// VLANs have numbers below 4096. For proofs alone.
+fn are_small(tags: &[u8])
+    ensures { AllFit (vlans_of tags.now) }
+{}
+
+// Prints the numbers as lines have them.
+fn put_words<W: Write>(output: &mut W, tags: &[u8]) -> io::Result<()>
+    ensures { OnOk result (Gains (W.contents output.old) (W.contents output.new)
+        (leaf_text Form.Lines (numbers (vlans_of tags.now)))) }
+{
+    if tags.len() < TAG_LEN {
+        return output.write_all(b"-");
+    }
+    put_numbers(output, tags)
+}
+
+// Prints the numbers as an array.
+fn put_array<W: Write>(output: &mut W, tags: &[u8]) -> io::Result<()>
+    ensures { OnOk result (Gains (W.contents output.old) (W.contents output.new)
+        (leaf_text Form.Json (numbers (vlans_of tags.now)))) }
+{
+    output.write_all(b"[")?;
+    put_numbers(output, tags)?;
+    output.write_all(b"]")
+}
+
+// Prints the numbers with commas between them.
+fn put_numbers<W: Write>(output: &mut W, tags: &[u8]) -> io::Result<()>
+    ensures { OnOk result (Gains (W.contents output.old) (W.contents output.new) (run_from true tags.now)) }
+{
+    let mut left = tags;
+    let mut is_first = true;
+    while left.len() >= TAG_LEN {
+        let (tag, rest) = left.split_at(TAG_LEN);
+        put_number_of(output, is_first, tag)?;
+        left = rest;
+        is_first = false;
+    }
+    Ok(())
+}
+
+// Prints the number of a tag, after a comma where it is not the first.
+fn put_number_of<W: Write>(output: &mut W, is_first: bool, tag: &[u8]) -> io::Result<()>
+    requires { 4 ≤ length tag.now }
+    ensures { OnOk result (Gains (W.contents output.old) (W.contents output.new) (one_of is_first tag.now)) }
+{
+    put_comma(output, is_first)?;
+    show_vlan(output, tag)
+}
+
+fn put_comma<W: Write>(output: &mut W, is_first: bool) -> io::Result<()>
+    ensures { OnOk result (Gains (W.contents output.old) (W.contents output.new) (comma_unless is_first)) }
+{
+    if is_first {
+        return Ok(());
+    }
+    output.write_all(b",")
+}

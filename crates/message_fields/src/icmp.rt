@@ -1,0 +1,267 @@
+//! Messages of ICMPv4, of ICMPv6 and of IGMP.
+
+#![tactic(auto, using(packet_fields::proofs::Fields::prints_both, packet_fields::proofs::Fields::prints_none))]
+
+ghost use Rattle.std.specs.Prelude.{◌≡◌, IfOk, OnOk};
+ghost use Rattle.packet_fields.specs.Prints.{Prints, PrintsSome};
+ghost use Rattle.message_fields.specs.Icmp.{Icmp4Is, Icmp6Is, IgmpIs, IgmpTold, NdiscTold, NeighborIs, OthersAre, unless_short, group_items, if_group_items, mistake_items, unless_version_3};
+ghost use Rattle.message_fields.specs.Icmp.{has_mld_type, has_ndisc_type, short_of};
+
+use crate::refusal::Refusal;
+use crate::show::{show_phrase, show_refused};
+use icmp_fields::{icmp4, icmp6};
+use icmp4_wire::igmp;
+use icmp6_wire::icmpv6;
+use neighbor_fields::igmp::show_igmp as show_igmp_fields;
+use neighbor_fields::mld::show_mld;
+use neighbor_fields::ndisc::show_ndisc;
+use packet_fields::Form;
+use quote_wire::message::{Icmpv4Message, Icmpv6Message, Icmpv6Refusal};
+use std::alloc::Global;
+use std::io;
+use std::io::Write;
+use wirebase::{ChecksumCapabilities, Ipv6Address};
+
+// The length of the fixed part of every message.
+const HEADER_LEN: usize = 8;
+
+// The type of a membership report of version 3 (RFC 3376 section 4.2).
+const MEMBERSHIP_REPORT_V3: u8 = 0x22;
+
+/// Prints an ICMPv4 message, and returns why it is refused. Of a message whose reader refuses it the type, the code and
+/// the octets are printed.
+pub(crate) fn show_icmp4<W: Write>(
+    output: &mut W,
+    form: Form,
+    alloc: Global,
+    octets: &[u8],
+) -> io::Result<Option<Refusal>>
+    ensures { IfOk result (λ told. PrintsSome form (W.contents output.old) (W.contents output.new)
+        (λ items. Icmp4Is octets.now items told)) }
+{
+    match Icmpv4Message::parse_or_refusal(octets, &ChecksumCapabilities::ignored()) {
+        Ok(Icmpv4Message::Error(error)) => {
+            icmp4::show_error(output, form, &error)?;
+            Ok(None)
+        }
+        Ok(Icmpv4Message::Message(message)) => {
+            icmp4::show_message(output, form, &message, octets)?;
+            Ok(None)
+        }
+        Err(refusal) => {
+            let refusal = Refusal::Icmp4(refusal);
+            icmp4::show_unread(output, form, octets)?;
+            show_mistake(output, form, alloc, &refusal)?;
+            Ok(Some(refusal))
+        }
+    }
+}
+
+// Prints why a message is refused; a type that is not known is no mistake of the message.
+fn show_mistake<W: Write>(
+    output: &mut W,
+    form: Form,
+    alloc: Global,
+    refusal: &Refusal,
+) -> io::Result<()>
+    ensures { OnOk result (Prints form (W.contents output.old) (W.contents output.new)
+        (mistake_items refusal.now)) }
+{
+    if refusal.is_unknown() {
+        return Ok(());
+    }
+    show_refused(output, form, alloc, refusal)
+}
+
+/// Prints an IGMP message, and returns why it is refused.
+pub(crate) fn show_igmp<W: Write>(
+    output: &mut W,
+    form: Form,
+    alloc: Global,
+    octets: &[u8],
+) -> io::Result<Option<Refusal>>
+    ensures { IfOk result (λ told. PrintsSome form (W.contents output.old) (W.contents output.new)
+        (λ items. IgmpIs octets.now items told)) }
+{
+    let told = why_igmp(octets);
+    show_igmp_fields(output, form, octets)?;
+    show_group(output, form, alloc, told)?;
+    Ok(told)
+}
+
+// Why an IGMP message is refused. Of version 3 each is read.
+fn why_igmp(octets: &[u8]) -> Option<Refusal>
+    ensures { IgmpTold octets.now result }
+{
+    match igmp::Repr::refusal(&igmp::Packet::new_unchecked(octets)) {
+        Some(refusal) => unless_version_3(refusal),
+        None => None,
+    }
+}
+
+fn unless_version_3(refusal: igmp::Refusal) -> Option<Refusal>
+    ensures { result ≡ unless_version_3 refusal }
+{
+    if refusal == igmp::Refusal::UnknownType(MEMBERSHIP_REPORT_V3) {
+        return None;
+    }
+    Some(Refusal::Igmp(refusal))
+}
+
+// Prints why a group is none, where it is; the fields tell every other reason.
+fn show_group<W: Write>(
+    output: &mut W,
+    form: Form,
+    alloc: Global,
+    told: Option<Refusal>,
+) -> io::Result<()>
+    ensures { OnOk result (Prints form (W.contents output.old) (W.contents output.new) (group_items told)) }
+{
+    match told {
+        Some(refusal) => show_if_group(output, form, alloc, &refusal),
+        None => Ok(()),
+    }
+}
+
+fn show_if_group<W: Write>(
+    output: &mut W,
+    form: Form,
+    alloc: Global,
+    refusal: &Refusal,
+) -> io::Result<()>
+    ensures { OnOk result (Prints form (W.contents output.old) (W.contents output.new)
+        (if_group_items refusal.now)) }
+{
+    if !refusal.is_group() {
+        return Ok(());
+    }
+    show_phrase(output, form, alloc, "group_refused", refusal)
+}
+
+/// Prints an ICMPv6 message from one address to another, and returns why it is refused.
+pub(crate) fn show_icmp6<W: Write>(
+    output: &mut W,
+    form: Form,
+    alloc: Global,
+    src_addr: &Ipv6Address,
+    dst_addr: &Ipv6Address,
+    octets: &[u8],
+) -> io::Result<Option<Refusal>>
+    ensures { IfOk result (λ told. PrintsSome form (W.contents output.old) (W.contents output.new)
+        (λ items. Icmp6Is src_addr.now dst_addr.now octets.now items told)) }
+{
+    if has_mld_type(octets) {
+        show_mld(output, form, octets)?;
+        return Ok(short_of(octets));
+    }
+    if has_ndisc_type(octets) {
+        return show_neighbor(output, form, alloc, src_addr, dst_addr, octets);
+    }
+    show_others(output, form, alloc, src_addr, dst_addr, octets)
+}
+
+// Whether the type is that of multicast listeners, of version 1 or 2 (RFC 2710 section 3, RFC 3810 section 5).
+fn has_mld_type(octets: &[u8]) -> bool
+    ensures { result ≡ has_mld_type octets.now }
+{
+    matches!(octets, [130..=132 | 143, ..])
+}
+
+// Whether the type is that of neighbor discovery (RFC 4861 section 4).
+fn has_ndisc_type(octets: &[u8]) -> bool
+    ensures { result ≡ has_ndisc_type octets.now }
+{
+    matches!(octets, [133..=137, ..])
+}
+
+// Why a message of multicast listeners is refused.
+fn short_of(octets: &[u8]) -> Option<Refusal>
+    ensures { result ≡ short_of octets.now }
+{
+    if octets.len() < HEADER_LEN {
+        return Some(Refusal::Icmp6(Icmpv6Refusal::Message(icmpv6::Refusal::Short)));
+    }
+    None
+}
+
+// Prints a message of neighbor discovery, and returns why it is refused. The fields tell where it is too short.
+fn show_neighbor<W: Write>(
+    output: &mut W,
+    form: Form,
+    alloc: Global,
+    src_addr: &Ipv6Address,
+    dst_addr: &Ipv6Address,
+    octets: &[u8],
+) -> io::Result<Option<Refusal>>
+    ensures { IfOk result (λ told. PrintsSome form (W.contents output.old) (W.contents output.new)
+        (λ items. NeighborIs src_addr.now dst_addr.now octets.now items told)) }
+{
+    let told = why_ndisc(src_addr, dst_addr, octets);
+    show_ndisc(output, form, octets)?;
+    show_unless_short(output, form, alloc, told)?;
+    Ok(told)
+}
+
+// Prints why a message of neighbor discovery is refused, but for one that is too short.
+fn show_unless_short<W: Write>(
+    output: &mut W,
+    form: Form,
+    alloc: Global,
+    told: Option<Refusal>,
+) -> io::Result<()>
+    ensures { OnOk result (Prints form (W.contents output.old) (W.contents output.new) (unless_short told)) }
+{
+    match told {
+        Some(Refusal::Icmp6(Icmpv6Refusal::Message(icmpv6::Refusal::Ndisc(why)))) => {
+            let refusal = Refusal::Icmp6(Icmpv6Refusal::Message(icmpv6::Refusal::Ndisc(why)));
+            show_refused(output, form, alloc, &refusal)
+        }
+        Some(Refusal::Icmp6(Icmpv6Refusal::Message(icmpv6::Refusal::Code(code)))) => {
+            let refusal = Refusal::Icmp6(Icmpv6Refusal::Message(icmpv6::Refusal::Code(code)));
+            show_refused(output, form, alloc, &refusal)
+        }
+        _ => Ok(()),
+    }
+}
+
+// Why a message of neighbor discovery is refused.
+fn why_ndisc(src_addr: &Ipv6Address, dst_addr: &Ipv6Address, octets: &[u8]) -> Option<Refusal>
+    ensures { NdiscTold src_addr.now dst_addr.now octets.now result }
+{
+    let checksums = ChecksumCapabilities::ignored();
+    match Icmpv6Message::refusal(src_addr, dst_addr, octets, &checksums) {
+        Some(refusal) => Some(Refusal::Icmp6(refusal)),
+        None => None,
+    }
+}
+
+// Prints a message of another type, and returns why it is refused.
+fn show_others<W: Write>(
+    output: &mut W,
+    form: Form,
+    alloc: Global,
+    src_addr: &Ipv6Address,
+    dst_addr: &Ipv6Address,
+    octets: &[u8],
+) -> io::Result<Option<Refusal>>
+    ensures { IfOk result (λ told. PrintsSome form (W.contents output.old) (W.contents output.new)
+        (λ items. OthersAre src_addr.now dst_addr.now octets.now items told)) }
+{
+    let checksums = ChecksumCapabilities::ignored();
+    match Icmpv6Message::parse_or_refusal(src_addr, dst_addr, octets, &checksums) {
+        Ok(Icmpv6Message::Error(error)) => {
+            icmp6::show_error(output, form, &error)?;
+            Ok(None)
+        }
+        Ok(Icmpv6Message::Message(message)) => {
+            icmp6::show_message(output, form, &message, octets)?;
+            Ok(None)
+        }
+        Err(refusal) => {
+            let refusal = Refusal::Icmp6(refusal);
+            icmp6::show_unread(output, form, octets)?;
+            show_mistake(output, form, alloc, &refusal)?;
+            Ok(Some(refusal))
+        }
+    }
+}

@@ -1,0 +1,163 @@
+//! What UDP datagrams of a service hold.
+
+#![tactic(auto, using(packet_fields::proofs::Fields::prints_both, packet_fields::proofs::Fields::prints_none))]
+
+ghost use Rattle.std.specs.Prelude.{◌≡◌, IfOk, OnOk, Some};
+ghost use Rattle.std.specs.Option.{option_map};
+ghost use Rattle.message_fields.specs.declared.refusal.Refusal.TheVariants as refusal;
+ghost use Rattle.packet_fields.specs.Prints.{Prints, PrintsSome};
+ghost use Rattle.frame_wire.specs.UdpCaptured.{captured_of};
+ghost use Rattle.message_fields.specs.Udp.{DatagramIs, DhcpIs, DnsIs, ServiceIs, UdpIs, extent_items, told_by, unopened_items};
+
+use crate::message::Service;
+use crate::refusal::Refusal;
+use crate::show::{show_cut, show_refused};
+use dhcp_fields::show_dhcp;
+use dns_fields::kind::Kind;
+use dns_fields::message::show_message;
+use dns_fields::unread::Unread;
+use frame_wire::{CapturedUdp, Extent};
+use packet_fields::Form;
+use packet_fields::field::field;
+use std::alloc::Global;
+use std::io;
+use std::io::Write;
+
+/// Prints what a UDP datagram of a service holds, and returns why it is refused. Where fewer bytes are there than its
+/// header says, their number is printed if `tells_cut` holds.
+pub(crate) fn show_udp<W: Write>(
+    output: &mut W,
+    form: Form,
+    alloc: Global,
+    service: Service,
+    octets: &[u8],
+    tells_cut: bool,
+) -> io::Result<Option<Refusal>>
+    ensures { IfOk result (λ told. PrintsSome form (W.contents output.old) (W.contents output.new)
+        (λ items. UdpIs tells_cut service octets.now items told)) }
+{
+    match CapturedUdp::parse(octets) {
+        Ok(datagram) => show_datagram(output, form, service, &datagram, tells_cut),
+        Err(refusal) => show_unopened(output, form, alloc, &Refusal::Udp(refusal), octets),
+    }
+}
+
+// Prints why a datagram is refused, and its octets.
+fn show_unopened<W: Write>(
+    output: &mut W,
+    form: Form,
+    alloc: Global,
+    refusal: &Refusal,
+    octets: &[u8],
+) -> io::Result<Option<Refusal>>
+    ensures { IfOk result (λ told. Prints form (W.contents output.old) (W.contents output.new)
+        (unopened_items refusal.now octets.now) × (told ≡ Some refusal.now)) }
+{
+    show_refused(output, form, alloc, refusal)?;
+    field(output, form, "octets", octets)?;
+    Ok(Some(*refusal))
+}
+
+// Prints what a datagram holds, as far as it is there.
+fn show_datagram<W: Write>(
+    output: &mut W,
+    form: Form,
+    service: Service,
+    datagram: &CapturedUdp<'_>,
+    tells_cut: bool,
+) -> io::Result<Option<Refusal>>
+    ensures { IfOk result (λ told. PrintsSome form (W.contents output.old) (W.contents output.new)
+        (λ items. DatagramIs tells_cut service (captured_of datagram.now) items told)) }
+{
+    show_extent(output, form, datagram.extent, tells_cut)?;
+    let told = show_service(output, form, service, datagram.payload)?;
+    Ok(told_by(datagram.extent, told))
+}
+
+// Prints how many bytes are missing, where that is to be told.
+fn show_extent<W: Write>(
+    output: &mut W,
+    form: Form,
+    extent: Extent,
+    tells_cut: bool,
+) -> io::Result<()>
+    ensures { OnOk result (Prints form (W.contents output.old) (W.contents output.new)
+        (extent_items tells_cut extent)) }
+{
+    match extent {
+        Extent::Cut { missing } if tells_cut => show_cut(output, form, missing as u64),
+        _ => Ok(()),
+    }
+}
+
+// Why a datagram of this extent is refused: the first of two reasons.
+fn told_by(extent: Extent, told: Option<Refusal>) -> Option<Refusal>
+    ensures { result ≡ told_by extent told }
+{
+    match extent {
+        Extent::Cut { .. } => Some(Refusal::Cut),
+        _ => told,
+    }
+}
+
+// Prints a message of a service, and returns why it is refused or read in part.
+fn show_service<W: Write>(
+    output: &mut W,
+    form: Form,
+    service: Service,
+    octets: &[u8],
+) -> io::Result<Option<Refusal>>
+    ensures { IfOk result (λ told. PrintsSome form (W.contents output.old) (W.contents output.new)
+        (λ items. ServiceIs service octets.now items told)) }
+{
+    match service {
+        Service::Dns => show_dns(output, form, Kind::Dns, octets),
+        Service::Mdns => show_dns(output, form, Kind::Mdns, octets),
+        Service::Llmnr => show_dns(output, form, Kind::Llmnr, octets),
+        Service::Nbns => show_dns(output, form, Kind::Nbns, octets),
+        Service::Dhcp => show_dhcp_packet(output, form, octets),
+    }
+}
+
+fn show_dns<W: Write>(
+    output: &mut W,
+    form: Form,
+    kind: Kind,
+    octets: &[u8],
+) -> io::Result<Option<Refusal>>
+    ensures { IfOk result (λ told. PrintsSome form (W.contents output.old) (W.contents output.new)
+        (λ items. DnsIs kind octets.now items told)) }
+{
+    let unread = show_message(output, form, kind, octets)?;
+    Ok(of_dns(unread))
+}
+
+fn of_dns(unread: Option<Unread>) -> Option<Refusal>
+    ensures { result ≡ option_map refusal.Dns unread }
+{
+    match unread {
+        Some(unread) => Some(Refusal::Dns(unread)),
+        None => None,
+    }
+}
+
+fn show_dhcp_packet<W: Write>(
+    output: &mut W,
+    form: Form,
+    octets: &[u8],
+) -> io::Result<Option<Refusal>>
+    ensures { IfOk result (λ told. PrintsSome form (W.contents output.old) (W.contents output.new)
+        (λ items. DhcpIs octets.now items told)) }
+{
+    let why = show_dhcp(output, form, octets)?;
+    Ok(of_dhcp(why))
+}
+
+fn of_dhcp(why: Option<dhcp_fields::Refusal>) -> Option<Refusal>
+    ensures { result ≡ option_map refusal.Dhcp why }
+{
+    match why {
+        Some(refusal) => Some(Refusal::Dhcp(refusal)),
+        None => None,
+    }
+}

@@ -1,0 +1,6 @@
+-- The address by its octets.
+use Rattle.neighbor_fields.proofs.ndisc.show_target.Goals as goal
+
+pub returns : goal.returns
+returns g c =
+    rw c.field-addr.ensures.value at c.field.ensures

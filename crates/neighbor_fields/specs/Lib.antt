@@ -1,0 +1,6 @@
+pub mod HopByHop
+pub mod Igmp
+pub mod Messages
+pub mod Mld
+pub mod Ndisc
+pub mod Records

@@ -1,0 +1,10 @@
+//! The fields of IPv6 hop-by-hop options, of neighbor discovery, and of multicast listeners and groups, in lines or in
+//! JSON.
+#![tactic(auto)]
+
+pub mod hop_by_hop;
+pub mod igmp;
+mod messages;
+pub mod mld;
+pub mod ndisc;
+mod records;

@@ -1,0 +1,190 @@
+//! Messages of multicast listener discovery, versions 1 and 2 (RFC 2710 section 3, RFC 3810 section 5).
+
+ghost use Rattle.std.specs.Prelude.{◌≤◌, OnOk, length};
+ghost use Rattle.packet_fields.specs.Prints.{Prints};
+ghost use Rattle.neighbor_fields.specs.Mld.{any_query_items, body_items, counted_items, group_items, message_items};
+ghost use Rattle.neighbor_fields.specs.Mld.{old_items, query_front, query_items, report_items, version_1_items};
+
+use crate::messages::{HEAD_LEN, millis, show_additional, show_cut, show_head};
+use crate::records::{RecordsV6, long_code_number, show_querier, show_records, show_sources};
+use packet_fields::Form;
+use packet_fields::field::field;
+use packet_fields::texts::Address;
+use std::io;
+use std::io::Write;
+use wirebase::Octets;
+
+const QUERY: u8 = 130;
+
+const REPORT: u8 = 131;
+
+const DONE: u8 = 132;
+
+const REPORT_V2: u8 = 143;
+
+// The fields of messages.
+mod place {
+    use wirebase::octets::Field;
+
+    pub const MAX_RESP_CODE: Field = 4..6;
+
+    pub const MCAST_ADDR: Field = 8..24;
+
+    pub const VERSION_1_LEN: usize = 24;
+
+    pub const SQRV: Field = 24..25;
+
+    pub const QQIC: Field = 25..26;
+
+    pub const NUM_SRCS: Field = 26..28;
+
+    pub const SOURCES: usize = 28;
+
+    pub const NUM_RECORDS: Field = 6..8;
+
+    pub const RECORDS: usize = 8;
+}
+
+/// Prints a message of multicast listener discovery, by its octets from the type on. A query of 24 octets is one of
+/// version 1 (RFC 3810 section 8.1). What is cut says so: a message within its fields, with the octets that are there;
+/// its sources; a record, with its octets. Of a message of another type the octets are printed.
+pub fn show_mld<W: Write>(output: &mut W, form: Form, message: &[u8]) -> io::Result<()>
+    ensures { OnOk result (Prints form (W.contents output.old) (W.contents output.new)
+        (message_items message.now)) }
+{
+    if message.len() < HEAD_LEN {
+        return show_cut(output, form, message);
+    }
+    show_head(output, form, message)?;
+    show_body(output, form, message)
+}
+
+// Prints what follows the checksum.
+fn show_body<W: Write>(output: &mut W, form: Form, message: &[u8]) -> io::Result<()>
+    requires { 4 ≤ length message.now }
+    ensures { OnOk result (Prints form (W.contents output.old) (W.contents output.new)
+        (body_items message.now)) }
+{
+    let (_, octets) = message.split_at(HEAD_LEN);
+    match message[0] {
+        QUERY => show_any_query(output, form, message),
+        REPORT => show_old(output, form, message),
+        DONE => show_old(output, form, message),
+        REPORT_V2 => show_report(output, form, message),
+        _ => field(output, form, "data", octets),
+    }
+}
+
+// Prints a query of version 1 or 2.
+fn show_any_query<W: Write>(output: &mut W, form: Form, message: &[u8]) -> io::Result<()>
+    requires { 4 ≤ length message.now }
+    ensures { OnOk result (Prints form (W.contents output.old) (W.contents output.new)
+        (any_query_items message.now)) }
+{
+    if message.len() == place::VERSION_1_LEN {
+        return show_version_1(output, form, message);
+    }
+    if message.len() < place::SOURCES {
+        let (_, octets) = message.split_at(HEAD_LEN);
+        return show_cut(output, form, octets);
+    }
+    show_query(output, form, message)
+}
+
+// Prints a report or done of version 1.
+fn show_old<W: Write>(output: &mut W, form: Form, message: &[u8]) -> io::Result<()>
+    requires { 4 ≤ length message.now }
+    ensures { OnOk result (Prints form (W.contents output.old) (W.contents output.new)
+        (old_items message.now)) }
+{
+    if message.len() < place::VERSION_1_LEN {
+        let (_, octets) = message.split_at(HEAD_LEN);
+        return show_cut(output, form, octets);
+    }
+    show_version_1(output, form, message)
+}
+
+// Prints the fields of version 1.
+fn show_version_1<W: Write>(output: &mut W, form: Form, message: &[u8]) -> io::Result<()>
+    requires { 24 ≤ length message.now }
+    ensures { OnOk result (Prints form (W.contents output.old) (W.contents output.new)
+        (version_1_items message.now)) }
+{
+    let delay = millis(message.u16_at(place::MAX_RESP_CODE) as u32);
+    let (_, additional) = message.split_at(place::VERSION_1_LEN);
+    field(output, form, "version", 1u8)?;
+    field(output, form, "max_resp_delay", delay)?;
+    show_group(output, form, message)?;
+    show_additional(output, form, additional)
+}
+
+// Prints a query of version 2.
+fn show_query<W: Write>(output: &mut W, form: Form, message: &[u8]) -> io::Result<()>
+    requires { 28 ≤ length message.now }
+    ensures { OnOk result (Prints form (W.contents output.old) (W.contents output.new)
+        (query_items message.now)) }
+{
+    let count = message.u16_at(place::NUM_SRCS);
+    let (_, sources) = message.split_at(place::SOURCES);
+    show_query_front(output, form, message)?;
+    show_querier(
+        output,
+        form,
+        message.u8_at(place::SQRV),
+        message.u8_at(place::QQIC),
+    )?;
+    show_sources(output, form, 16, count, sources)
+}
+
+// Prints a query of version 2 up to its group.
+fn show_query_front<W: Write>(output: &mut W, form: Form, message: &[u8]) -> io::Result<()>
+    requires { 28 ≤ length message.now }
+    ensures { OnOk result (Prints form (W.contents output.old) (W.contents output.new)
+        (query_front message.now)) }
+{
+    let code = message.u16_at(place::MAX_RESP_CODE);
+    field(output, form, "version", 2u8)?;
+    field(output, form, "max_resp_code", code)?;
+    field(
+        output,
+        form,
+        "max_resp_delay",
+        millis(long_code_number(code)),
+    )?;
+    show_group(output, form, message)
+}
+
+// Prints the multicast address.
+fn show_group<W: Write>(output: &mut W, form: Form, message: &[u8]) -> io::Result<()>
+    requires { 24 ≤ length message.now }
+    ensures { OnOk result (Prints form (W.contents output.old) (W.contents output.new)
+        (group_items message.now)) }
+{
+    let addr = message.field(place::MCAST_ADDR);
+    field(output, form, "mcast_addr", Address(addr))
+}
+
+// Prints a report of version 2, or the octets of one that is cut.
+fn show_report<W: Write>(output: &mut W, form: Form, message: &[u8]) -> io::Result<()>
+    requires { 4 ≤ length message.now }
+    ensures { OnOk result (Prints form (W.contents output.old) (W.contents output.new)
+        (report_items message.now)) }
+{
+    if message.len() < place::RECORDS {
+        let (_, octets) = message.split_at(HEAD_LEN);
+        return show_cut(output, form, octets);
+    }
+    show_counted(output, form, message)
+}
+
+// Prints a report of version 2.
+fn show_counted<W: Write>(output: &mut W, form: Form, message: &[u8]) -> io::Result<()>
+    requires { 8 ≤ length message.now }
+    ensures { OnOk result (Prints form (W.contents output.old) (W.contents output.new)
+        (counted_items message.now)) }
+{
+    let count = message.u16_at(place::NUM_RECORDS);
+    let (_, records) = message.split_at(place::RECORDS);
+    field(output, form, "version", 2u8)?;
+    show_records::<RecordsV6, W>(output, form, count, records)
+}

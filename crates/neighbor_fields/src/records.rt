@@ -1,0 +1,319 @@
+//! Records and sources of multicast groups (RFC 3810 section 5, RFC 3376 section 4).
+
+#![tactic(auto, using(packet_fields::proofs::Fields::prints_none, packet_fields::proofs::Fields::cells_none))]
+
+ghost use Rattle.std.specs.Prelude.{◌≡◌, ◌≤◌, ◌+◌, ◌^◌, OnOk, length};
+ghost use Rattle.std.specs.Option.{option_map};
+ghost use Rattle.packet_fields.specs.Entries.{PrintsEntry};
+ghost use Rattle.packet_fields.specs.Labels.{label_text};
+ghost use Rattle.packet_fields.specs.Prints.{Prints, PrintsCells};
+ghost use Rattle.neighbor_fields.specs.Records.{aux_cells, code_number, counted_len, cut_entry, label_of};
+ghost use Rattle.neighbor_fields.specs.Records.{long_code_number, querier_items, record_entry, record_len};
+ghost use Rattle.neighbor_fields.specs.Records.{records_items, sources_end, sources_items, whole_entry};
+
+use crate::messages::{show_additional, show_lack};
+use packet_fields::Form;
+use packet_fields::entries::show_octets;
+use packet_fields::entry::{close_entry, first_cell, hidden_number, keyed_cell, open_entry};
+use packet_fields::field::field;
+use packet_fields::label::Label;
+use packet_fields::names::{Row, name_in};
+use packet_fields::parts::{Part, behind_parts, show_parts};
+use packet_fields::texts::{Address, Addresses};
+use packet_fields::value::Seconds;
+use std::io;
+use std::io::Write;
+use wirebase::Octets;
+
+// The octets before the group of a record.
+const HEAD_LEN: usize = 4;
+
+// The octets of a word of auxiliary data.
+const WORD: usize = 4;
+
+// The fields of a record.
+mod place {
+    use wirebase::octets::Field;
+
+    pub const AUX_DATA_LEN: Field = 1..2;
+
+    pub const NUM_SRCS: Field = 2..4;
+}
+
+// Prints `count` records of a kind, and what stands behind them.
+pub(crate) fn show_records<P: Part, W: Write>(
+    output: &mut W,
+    form: Form,
+    count: u16,
+    octets: &[u8],
+) -> io::Result<()>
+    ensures { OnOk result (Prints form (W.contents output.old) (W.contents output.new)
+        (records_items P.part_len P.entry_of count octets.now)) }
+{
+    show_parts::<P, W>(output, form, "records", count as usize, octets)?;
+    let behind = behind_parts::<P>(count as usize, octets);
+    let why = "fewer records than the report counts";
+    show_lack(output, form, behind.missing > 0, why)?;
+    show_additional(output, form, behind.octets)
+}
+
+// Records with addresses of IPv6.
+pub(crate) struct RecordsV6;
+
+impl Part for RecordsV6 {
+    ghost part_len = { record_len 16 };
+
+    ghost entry_of = { record_entry 16 };
+
+    fn len_of(octets: &[u8]) -> usize {
+        record_len(16, octets)
+    }
+
+    fn show<W: Write>(output: &mut W, form: Form, is_first: bool, part: &[u8]) -> io::Result<()> {
+        show_record(output, form, is_first, 16, part)
+    }
+}
+
+// Records with addresses of IPv4.
+pub(crate) struct RecordsV4;
+
+impl Part for RecordsV4 {
+    ghost part_len = { record_len 4 };
+
+    ghost entry_of = { record_entry 4 };
+
+    fn len_of(octets: &[u8]) -> usize {
+        record_len(4, octets)
+    }
+
+    fn show<W: Write>(output: &mut W, form: Form, is_first: bool, part: &[u8]) -> io::Result<()> {
+        show_record(output, form, is_first, 4, part)
+    }
+}
+
+// The octets of the first record.
+fn record_len(width: usize, octets: &[u8]) -> usize
+    requires some { 1 ≤ length octets.now }
+    requires small { width ≤ 16 }
+    ensures value { result ≡ record_len width octets.now }
+    ensures some { 1 ≤ result }
+    ensures within { result ≤ length octets.now }
+{
+    if octets.len() < HEAD_LEN {
+        return octets.len();
+    }
+    octets.len().min(counted_len(width, octets))
+}
+
+// Where the sources of a record end.
+fn sources_end(width: usize, record: &[u8]) -> usize
+    requires room { 4 ≤ length «record».now }
+    requires small { width ≤ 16 }
+    ensures value { result ≡ sources_end width «record».now }
+    ensures some { 4 + width ≤ result }
+    ensures small { result ≤ 1048580 }
+{
+    HEAD_LEN + width + width * record.u16_at(place::NUM_SRCS) as usize
+}
+
+// The octets that a record counts.
+fn counted_len(width: usize, record: &[u8]) -> usize
+    requires room { 4 ≤ length «record».now }
+    requires small { width ≤ 16 }
+    ensures value { result ≡ counted_len width «record».now }
+    ensures some { 4 ≤ result }
+{
+    sources_end(width, record) + WORD * record.u8_at(place::AUX_DATA_LEN) as usize
+}
+
+// Prints a record.
+fn show_record<W: Write>(
+    output: &mut W,
+    form: Form,
+    is_first: bool,
+    width: usize,
+    record: &[u8],
+) -> io::Result<()>
+    requires some { 1 ≤ length «record».now }
+    requires wide { 1 ≤ width }
+    requires small { width ≤ 16 }
+    ensures { OnOk result (PrintsEntry form is_first (W.contents output.old) (W.contents output.new)
+        (record_entry width «record».now)) }
+{
+    if record.len() < HEAD_LEN || record.len() != counted_len(width, record) {
+        return show_cut_record(output, form, is_first, record);
+    }
+    show_whole(output, form, is_first, width, record)
+}
+
+// Prints a record that is cut.
+fn show_cut_record<W: Write>(
+    output: &mut W,
+    form: Form,
+    is_first: bool,
+    record: &[u8],
+) -> io::Result<()>
+    requires { 1 ≤ length «record».now }
+    ensures { OnOk result (PrintsEntry form is_first (W.contents output.old) (W.contents output.new)
+        (cut_entry «record».now)) }
+{
+    let (_, data) = record.split_at(1);
+    let why = Some("fewer bytes than the record counts");
+    show_octets(
+        output,
+        form,
+        is_first,
+        "record",
+        label_of(record[0]),
+        data,
+        why,
+    )
+}
+
+// Prints a record that is whole.
+fn show_whole<W: Write>(
+    output: &mut W,
+    form: Form,
+    is_first: bool,
+    width: usize,
+    record: &[u8],
+) -> io::Result<()>
+    requires some { 4 ≤ length «record».now }
+    requires wide { 1 ≤ width }
+    requires small { width ≤ 16 }
+    requires whole { length «record».now ≡ counted_len width «record».now }
+    ensures { OnOk result (PrintsEntry form is_first (W.contents output.old) (W.contents output.new)
+        (whole_entry width «record».now)) }
+{
+    let group_end = HEAD_LEN + width;
+    let sources_end = sources_end(width, record);
+    let group = Address(record.range(HEAD_LEN, group_end));
+    let octets = record.range(group_end, sources_end);
+    let (_, aux_data) = record.split_at(sources_end);
+    open_entry(output, form, is_first, "record", label_of(record[0]))?;
+    first_cell(output, form, "group_addr", group)?;
+    keyed_cell(output, form, "sources", Addresses { width, octets })?;
+    show_aux_data(output, form, aux_data)?;
+    hidden_number(output, form, "type", record[0] as u64)?;
+    close_entry(output, form)
+}
+
+// Prints auxiliary data, where there is any.
+fn show_aux_data<W: Write>(output: &mut W, form: Form, data: &[u8]) -> io::Result<()>
+    ensures { OnOk result (PrintsCells form (W.contents output.old) (W.contents output.new)
+        (aux_cells «data».now)) }
+{
+    if data.is_empty() {
+        return Ok(());
+    }
+    keyed_cell(output, form, "aux_data", data)
+}
+
+// Prints `count` sources of a query, and what stands behind them.
+pub(crate) fn show_sources<W: Write>(
+    output: &mut W,
+    form: Form,
+    width: usize,
+    count: u16,
+    octets: &[u8],
+) -> io::Result<()>
+    requires wide { 1 ≤ width }
+    requires small { width ≤ 16 }
+    ensures { OnOk result (Prints form (W.contents output.old) (W.contents output.new)
+        (sources_items width count octets.now)) }
+{
+    let len = width * count as usize;
+    let is_short = octets.len() < len;
+    let (octets, behind) = octets.split_at(len.min(octets.len()));
+    field(output, form, "sources", Addresses { width, octets })?;
+    show_lack(
+        output,
+        form,
+        is_short,
+        "fewer sources than the query counts",
+    )?;
+    show_additional(output, form, behind)
+}
+
+// Prints what a query says of its querier.
+pub(crate) fn show_querier<W: Write>(
+    output: &mut W,
+    form: Form,
+    flags: u8,
+    code: u8,
+) -> io::Result<()>
+    ensures { OnOk result (Prints form (W.contents output.old) (W.contents output.new)
+        (querier_items flags code)) }
+{
+    field(output, form, "s_flag", flags / 8 % 2 == 1)?;
+    field(output, form, "qrv", flags % 8)?;
+    field(output, form, "qqic", code)?;
+    field(
+        output,
+        form,
+        "querier_query_interval",
+        Seconds(code_number(code)),
+    )
+}
+
+// The number that a code stands for (RFC 3376 sections 4.1.1 and 4.1.7).
+pub(crate) fn code_number(code: u8) -> u32
+    ensures value { result ≡ code_number code }
+    ensures small { result ≤ 31744 }
+{
+    if code < 128 {
+        return code as u32;
+    }
+    (16 + (code % 16) as u32) * scale(code / 16 % 8)
+}
+
+// The number that a code of 16 bits stands for (RFC 3810 section 5.1.3).
+pub(crate) fn long_code_number(code: u16) -> u32
+    ensures { result ≡ long_code_number code }
+{
+    if code < 32768 {
+        return code as u32;
+    }
+    (4096 + (code % 4096) as u32) * scale((code / 4096 % 8) as u8)
+}
+
+// Two to a power of three more.
+fn scale(exponent: u8) -> u32
+    requires { exponent ≤ 7 }
+    ensures value { result ≡ 2 ^ (exponent + 3) }
+    ensures small { result ≤ 1024 }
+{
+    match exponent {
+        0 => 8,
+        1 => 16,
+        2 => 32,
+        3 => 64,
+        4 => 128,
+        5 => 256,
+        6 => 512,
+        _ => 1024,
+    }
+}
+
+// What a record is called.
+fn label_of(type_: u8) -> Label<'static>
+    ensures value { label_text (option_map (λ name. name.now) result.name) result.kind.now result.number
+        ≡ label_of type_ }
+    ensures number { result.number ≡ type_ }
+{
+    Label {
+        name: name_in(RECORDS, type_ as u16),
+        kind: "record",
+        number: type_,
+    }
+}
+
+// The types of records (RFC 3810 section 5.2.12, RFC 3376 section 4.2.12).
+const RECORDS: &[Row] = &[
+    (1, "mode_is_include"),
+    (2, "mode_is_exclude"),
+    (3, "change_to_include_mode"),
+    (4, "change_to_exclude_mode"),
+    (5, "allow_new_sources"),
+    (6, "block_old_sources"),
+];

@@ -1,0 +1,11 @@
+//! The tests of `neighbor_fields`, over its public calls.
+#![tactic(auto)]
+
+#[cfg(test)]
+mod groups;
+#[cfg(test)]
+mod neighbors;
+#[cfg(test)]
+mod printed;
+#[cfg(test)]
+mod testing;

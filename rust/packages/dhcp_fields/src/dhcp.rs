@@ -1,0 +1,84 @@
+// Made from crates/dhcp_fields/src/dhcp.rt by rust/erase.
+//! Packets of DHCP (RFC 2131 section 2).
+
+use crate::header::{show_fixed, show_names};
+use crate::options::show_options;
+use crate::refusal::{Refusal, first_cut, show_refused};
+use control_wire::dhcp_options::{Overload, Parts};
+use control_wire::{Field, Octets};
+use packet_fields::Form;
+use packet_fields::field::field;
+use rattle_std::io;
+use rattle_std::io::Write;
+
+// Where the fields up to the hardware address end.
+const FIXED_END: usize = 44;
+
+const MAGIC_NUMBER: Field = 236..240;
+
+// Where the options begin.
+const OPTIONS: usize = 240;
+
+// The number before the options (RFC 2131 section 3).
+const MAGIC_COOKIE: u32 = 0x6382_5363;
+
+/// Prints a packet: its fields, and a list of its options, also of those in the fields `file` and `sname` where option
+/// 52 says that these hold options (RFC 2132 section 9.3), each joined from its parts (RFC 3396), in the order of their
+/// first parts. An option in several parts that have more than 1,500 bytes is printed without its value. Of a packet
+/// that can't be read whole it prints what can be read, and why, which is also the result: it has too few bytes, or no
+/// magic cookie, or this is the first of its options that is cut.
+pub fn show_dhcp<W: Write>(
+    output: &mut W,
+    form: Form,
+    octets: &[u8],
+) -> io::Result<Option<Refusal>> {
+    if octets.len() < OPTIONS {
+        show_short(output, form, octets)?;
+        return Ok(Some(Refusal::Short));
+    }
+    if octets.u32_at(MAGIC_NUMBER) != MAGIC_COOKIE {
+        show_bare(output, form, octets)?;
+        return Ok(Some(Refusal::MagicCookie));
+    }
+    show_fixed(output, form, octets)?;
+    show_names(output, form, Overload::of(octets), octets)?;
+    show_options(output, form, octets)?;
+    let refused = first_cut(Parts::of(octets));
+    show_refused(output, form, refused)?;
+    Ok(refused)
+}
+
+// Prints fewer than 240 bytes.
+fn show_short<W: Write>(output: &mut W, form: Form, octets: &[u8]) -> io::Result<()> {
+    if octets.len() < FIXED_END {
+        show_unread(output, form, Refusal::Short, octets)
+    } else {
+        show_cut(output, form, octets)
+    }
+}
+
+// Prints the fields that are there of a packet that is cut behind the hardware address.
+fn show_cut<W: Write>(output: &mut W, form: Form, octets: &[u8]) -> io::Result<()> {
+    let (_, rest) = octets.split_at(FIXED_END);
+    show_fixed(output, form, octets)?;
+    show_unread(output, form, Refusal::Short, rest)
+}
+
+// Prints a packet without the magic cookie.
+fn show_bare<W: Write>(output: &mut W, form: Form, octets: &[u8]) -> io::Result<()> {
+    let (_, rest) = octets.split_at(MAGIC_NUMBER.start);
+    show_fixed(output, form, octets)?;
+    show_names(output, form, None, octets)?;
+    show_unread(output, form, Refusal::MagicCookie, rest)
+}
+
+// Prints why octets are not read, and the octets.
+fn show_unread<W: Write>(
+    output: &mut W,
+    form: Form,
+    refused: Refusal,
+    octets: &[u8],
+) -> io::Result<()> {
+    show_refused(output, form, Some(refused))?;
+    field(output, form, "rest", octets)
+}

@@ -1,0 +1,156 @@
+// Made from crates/dns_fields/src/edns.rt by rust/erase.
+//! OPT records (RFC 6891 section 6.1), an entry each.
+
+use crate::kind::{Kind, NameOf, TypeOf};
+use crate::lists::{put_closing, put_none, put_opening};
+use crate::record::{label_of, show_refused_record};
+use crate::unread::Unread;
+use crate::words::{OptionWord, Why, Word};
+use control_wire::dns::Packet;
+use control_wire::record::{Edns, EdnsOptions, Name, Record, Section, TextRefusal};
+use packet_fields::Form;
+use packet_fields::entry::{cell, close_entry, first_cell, keyed_cell, open_entry};
+use packet_fields::value::{Texts, Value, put_text};
+use rattle_std::io;
+use rattle_std::io::Write;
+
+// The flag DO, the highest (RFC 3225 section 3).
+const DNSSEC_OK: u16 = 0x8000;
+
+/// Prints an OPT record with these fields, and with its options up to one that is cut.
+pub(crate) fn show_opt<'a, W: Write>(
+    output: &mut W,
+    form: Form,
+    is_first: bool,
+    kind: Kind,
+    packet: &Packet<&'a [u8]>,
+    section: Section,
+    record: &Record<'a>,
+    edns: &Edns<'a>,
+) -> io::Result<Option<Unread>> {
+    match Name::read_or_refusal(packet, record.name) {
+        Ok(name) => {
+            show_says(output, form, is_first, kind, section, record, edns, &name)?;
+            Ok(why_cut(edns.options()))
+        }
+        Err(refusal) => {
+            let unread = Unread::Record(TextRefusal::Owner(refusal));
+            show_refused_record(
+                output, form, is_first, kind, packet, section, record, unread,
+            )?;
+            Ok(Some(unread))
+        }
+    }
+}
+
+// Prints an OPT record whose name is read.
+fn show_says<W: Write>(
+    output: &mut W,
+    form: Form,
+    is_first: bool,
+    kind: Kind,
+    section: Section,
+    record: &Record<'_>,
+    edns: &Edns<'_>,
+    name: &Name,
+) -> io::Result<()> {
+    open_entry(output, form, is_first, "section", label_of(section))?;
+    first_cell(output, form, "name", Word(NameOf(kind, name)))?;
+    cell(output, form, "type", Word(TypeOf(kind, record.type_)))?;
+    show_sender(output, form, edns)?;
+    keyed_cell(output, form, "options", Options(edns.options))?;
+    show_reserved(output, form, edns.flags % DNSSEC_OK)?;
+    show_cut(
+        output,
+        form,
+        why_cut(EdnsOptions::new(edns.options)),
+        record.data,
+    )?;
+    close_entry(output, form)
+}
+
+// Prints the fields about the sender.
+fn show_sender<W: Write>(output: &mut W, form: Form, edns: &Edns<'_>) -> io::Result<()> {
+    keyed_cell(output, form, "udp_size", edns.payload_size)?;
+    keyed_cell(output, form, "extended_rcode", edns.extended_rcode)?;
+    keyed_cell(output, form, "version", edns.version)?;
+    keyed_cell(output, form, "flags", Texts(flag_names(edns.dnssec_ok)))
+}
+
+// The name of the flag of DNSSEC, where it is set.
+fn flag_names(dnssec_ok: bool) -> &'static [&'static str] {
+    if dnssec_ok {
+        return &["do"];
+    }
+    &[]
+}
+
+// Prints the flags that are reserved, where some are set.
+fn show_reserved<W: Write>(output: &mut W, form: Form, bits: u16) -> io::Result<()> {
+    if bits == 0 {
+        return Ok(());
+    }
+    keyed_cell(output, form, "reserved_flags", bits)
+}
+
+/// Prints why data is cut, where it is, and all its octets.
+pub(crate) fn show_cut<W: Write>(
+    output: &mut W,
+    form: Form,
+    unread: Option<Unread>,
+    data: &[u8],
+) -> io::Result<()> {
+    let Some(unread) = unread else {
+        return Ok(());
+    };
+    keyed_cell(output, form, "why", Word(Why(unread)))?;
+    keyed_cell(output, form, "octets", data)
+}
+
+// Why an option is cut; None where all are whole.
+fn why_cut(mut options: EdnsOptions<'_>) -> Option<Unread> {
+    while let Some(answer) = options.next() {
+        if let Err(refusal) = answer {
+            return Some(Unread::Option(refusal));
+        }
+    }
+    None
+}
+
+// Options by their octets, up to one that is cut.
+#[derive(Clone, Copy)]
+struct Options<'a>(&'a [u8]);
+
+impl Value for Options<'_> {
+    fn put<W: Write>(self, output: &mut W, form: Form) -> io::Result<()> {
+        put_options(output, form, EdnsOptions::new(self.0))
+    }
+}
+
+// Prints options with commas between them.
+fn put_options<W: Write>(
+    output: &mut W,
+    form: Form,
+    mut options: EdnsOptions<'_>,
+) -> io::Result<()> {
+    let Some(Ok(first)) = options.next() else {
+        return put_none(output, form);
+    };
+    put_opening(output, form)?;
+    put_text(output, form, OptionWord(first))?;
+    put_others(output, form, options)?;
+    put_closing(output, form)
+}
+
+// Prints each option that is left after a comma.
+fn put_others<W: Write>(
+    output: &mut W,
+    form: Form,
+    mut options: EdnsOptions<'_>,
+) -> io::Result<()> {
+    while let Some(Ok(option)) = options.next() {
+        output.write_all(b",")?;
+        put_text(output, form, OptionWord(option))?;
+    }
+    Ok(())
+}

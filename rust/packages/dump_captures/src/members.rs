@@ -1,0 +1,136 @@
+// Made from crates/dump_captures/src/members.rt by rust/erase.
+//! The members of a control packet's object in JSON that its heading has in lines.
+
+use crate::heading::{TAG_LEN, destination_port, show_vlan, source_port};
+use crate::sight::Headers;
+use crate::time::Clock;
+use capture::{Record, Time};
+use control_wire::frames::Addresses;
+use control_wire::frames::names::link_name;
+use packet_fields::Form;
+use packet_fields::field::{field, named};
+use packet_fields::value::Value;
+use rattle_std::io;
+use rattle_std::io::Write;
+
+/// Prints the members. Requires that the packet's time, where it has one, is in order.
+pub fn show_members<W: Write>(
+    output: &mut W,
+    clock: &mut Clock,
+    captured: &Record,
+    octets: &[u8],
+    headers: &Headers<'_>,
+) -> io::Result<()> {
+    show_time(output, clock, captured.time)?;
+    show_link(output, captured.link_type)?;
+    show_lengths(output, octets.len() as u64, captured.original_len)?;
+    field(output, Form::Json, "vlans", Vlans(headers.tags))?;
+    show_path(output, headers.addresses, headers.ports)?;
+    field(output, Form::Json, "kind", headers.content.kind().name())
+}
+
+// Prints the time at which the packet was captured.
+fn show_time<W: Write>(output: &mut W, clock: &mut Clock, time: Option<Time>) -> io::Result<()> {
+    match time {
+        Some(time) => {
+            let text = clock.time(time.seconds, time.nanoseconds);
+            field(output, Form::Json, "time", text)
+        }
+        None => field(output, Form::Json, "time", None::<&str>),
+    }
+}
+
+// Prints the type of the link.
+fn show_link<W: Write>(output: &mut W, link_type: u16) -> io::Result<()> {
+    let name = link_name(link_type);
+    named(output, Form::Json, "link", link_type as u64, name)
+}
+
+// Prints how many bytes of the packet were captured, and how many it had.
+fn show_lengths<W: Write>(output: &mut W, len: u64, original_len: u32) -> io::Result<()> {
+    field(output, Form::Json, "length", len)?;
+    field(output, Form::Json, "original_length", original_len)
+}
+
+// Prints the addresses and the ports.
+fn show_path<W: Write>(
+    output: &mut W,
+    addresses: Option<Addresses>,
+    ports: Option<(u16, u16)>,
+) -> io::Result<()> {
+    show_addresses(output, addresses)?;
+    show_ports(output, ports)
+}
+
+fn show_ports<W: Write>(output: &mut W, ports: Option<(u16, u16)>) -> io::Result<()> {
+    field(output, Form::Json, "src_port", source_port(ports))?;
+    field(output, Form::Json, "dst_port", destination_port(ports))
+}
+
+fn show_addresses<W: Write>(output: &mut W, addresses: Option<Addresses>) -> io::Result<()> {
+    match addresses {
+        Some(Addresses::V4(source, destination)) => show_ends(output, source, destination),
+        Some(Addresses::V6(source, destination)) => show_ends(output, source, destination),
+        None => show_ends(output, None::<&str>, None::<&str>),
+    }
+}
+
+// Prints the source and the destination.
+fn show_ends<V: Value, W: Write>(output: &mut W, source: V, destination: V) -> io::Result<()> {
+    field(output, Form::Json, "src_addr", source)?;
+    field(output, Form::Json, "dst_addr", destination)
+}
+
+// The numbers of the VLANs of tags of four bytes each.
+#[derive(Clone, Copy)]
+struct Vlans<'a>(&'a [u8]);
+
+impl Value for Vlans<'_> {
+    fn put<W: Write>(self, output: &mut W, form: Form) -> io::Result<()> {
+        match form {
+            Form::Lines => put_words(output, self.0),
+            Form::Json => put_array(output, self.0),
+        }
+    }
+}
+
+// Prints the numbers as lines have them.
+fn put_words<W: Write>(output: &mut W, tags: &[u8]) -> io::Result<()> {
+    if tags.len() < TAG_LEN {
+        return output.write_all(b"-");
+    }
+    put_numbers(output, tags)
+}
+
+// Prints the numbers as an array.
+fn put_array<W: Write>(output: &mut W, tags: &[u8]) -> io::Result<()> {
+    output.write_all(b"[")?;
+    put_numbers(output, tags)?;
+    output.write_all(b"]")
+}
+
+// Prints the numbers with commas between them.
+fn put_numbers<W: Write>(output: &mut W, tags: &[u8]) -> io::Result<()> {
+    let mut left = tags;
+    let mut is_first = true;
+    while left.len() >= TAG_LEN {
+        let (tag, rest) = left.split_at(TAG_LEN);
+        put_number_of(output, is_first, tag)?;
+        left = rest;
+        is_first = false;
+    }
+    Ok(())
+}
+
+// Prints the number of a tag, after a comma where it is not the first.
+fn put_number_of<W: Write>(output: &mut W, is_first: bool, tag: &[u8]) -> io::Result<()> {
+    put_comma(output, is_first)?;
+    show_vlan(output, tag)
+}
+
+fn put_comma<W: Write>(output: &mut W, is_first: bool) -> io::Result<()> {
+    if is_first {
+        return Ok(());
+    }
+    output.write_all(b",")
+}
