@@ -50,13 +50,15 @@ pub(crate) fn show_question<'a, W: Write>(
     ensures { IfOk result (λ unread. PrintsSomeEntry form is_first (W.contents output.old) (W.contents output.new)
         (λ e. QuestionIs kind (view_octets packet.now) (question_of question.now) e unread)) }
 {
-    match Name::read_or_refusal(packet, question.name) {
+    // By reference, since the name is large.
+    let read = Name::read_or_refusal(packet, question.name);
+    match &read {
         Ok(name) => {
-            show_asked(output, form, is_first, kind, question, &name)?;
+            show_asked(output, form, is_first, kind, question, name)?;
             Ok(None)
         }
         Err(refusal) => {
-            let unread = Unread::Question(refusal);
+            let unread = Unread::Question(*refusal);
             show_refused_question(output, form, is_first, kind, question, unread)?;
             Ok(Some(unread))
         }
@@ -191,14 +193,16 @@ pub(crate) fn show_record<'a, W: Write>(
     ensures { IfOk result (λ unread. PrintsSomeEntry form is_first (W.contents output.old) (W.contents output.new)
         (λ e. RecordIs kind (view_octets packet.now) section (record_of «record».now) e unread)) }
 {
-    match read_text(kind, packet, record) {
+    // By reference, since the record is large.
+    let read = read_text(kind, packet, record);
+    match &read {
         Ok(text) => {
             let is_marked = kind.flushes_cache(record);
-            show_read(output, form, is_first, kind, section, &text, is_marked)?;
+            show_read(output, form, is_first, kind, section, text, is_marked)?;
             Ok(None)
         }
         Err(refusal) => {
-            let unread = Unread::Record(refusal);
+            let unread = Unread::Record(*refusal);
             show_refused_record(
                 output, form, is_first, kind, packet, section, record, unread,
             )?;

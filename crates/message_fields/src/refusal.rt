@@ -37,14 +37,14 @@ impl Refusal {
     pub fn is_unknown(self) -> bool
         ensures { result ≡ is_unknown self }
     {
-        match self {
+        matches!(
+            self,
             Refusal::Icmp4(Icmpv4Refusal::Error(icmpv4_error::Refusal::UnknownType(_)))
-            | Refusal::Icmp4(Icmpv4Refusal::Message(icmpv4::Refusal::UnknownType(_)))
-            | Refusal::Icmp6(Icmpv6Refusal::Error(icmpv6_error::Refusal::UnknownType(_)))
-            | Refusal::Icmp6(Icmpv6Refusal::Message(icmpv6::Refusal::UnknownType(_)))
-            | Refusal::Igmp(igmp::Refusal::UnknownType(_)) => true,
-            _ => false,
-        }
+                | Refusal::Icmp4(Icmpv4Refusal::Message(icmpv4::Refusal::UnknownType(_)))
+                | Refusal::Icmp6(Icmpv6Refusal::Error(icmpv6_error::Refusal::UnknownType(_)))
+                | Refusal::Icmp6(Icmpv6Refusal::Message(icmpv6::Refusal::UnknownType(_)))
+                | Refusal::Igmp(igmp::Refusal::UnknownType(_))
+        )
     }
 }
 

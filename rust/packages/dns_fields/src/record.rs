@@ -28,13 +28,15 @@ pub(crate) fn show_question<'a, W: Write>(
     packet: &Packet<&'a [u8]>,
     question: &Question<'a>,
 ) -> io::Result<Option<Unread>> {
-    match Name::read_or_refusal(packet, question.name) {
+    // By reference, since the name is large.
+    let read = Name::read_or_refusal(packet, question.name);
+    match &read {
         Ok(name) => {
-            show_asked(output, form, is_first, kind, question, &name)?;
+            show_asked(output, form, is_first, kind, question, name)?;
             Ok(None)
         }
         Err(refusal) => {
-            let unread = Unread::Question(refusal);
+            let unread = Unread::Question(*refusal);
             show_refused_question(output, form, is_first, kind, question, unread)?;
             Ok(Some(unread))
         }
@@ -148,14 +150,16 @@ pub(crate) fn show_record<'a, W: Write>(
     section: Section,
     record: &Record<'a>,
 ) -> io::Result<Option<Unread>> {
-    match read_text(kind, packet, record) {
+    // By reference, since the record is large.
+    let read = read_text(kind, packet, record);
+    match &read {
         Ok(text) => {
             let is_marked = kind.flushes_cache(record);
-            show_read(output, form, is_first, kind, section, &text, is_marked)?;
+            show_read(output, form, is_first, kind, section, text, is_marked)?;
             Ok(None)
         }
         Err(refusal) => {
-            let unread = Unread::Record(refusal);
+            let unread = Unread::Record(*refusal);
             show_refused_record(
                 output, form, is_first, kind, packet, section, record, unread,
             )?;

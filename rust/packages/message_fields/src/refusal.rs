@@ -33,14 +33,14 @@ pub enum Refusal {
 impl Refusal {
     /// Whether the type of the message is not known, which is no mistake of the message.
     pub fn is_unknown(self) -> bool {
-        match self {
+        matches!(
+            self,
             Refusal::Icmp4(Icmpv4Refusal::Error(icmpv4_error::Refusal::UnknownType(_)))
-            | Refusal::Icmp4(Icmpv4Refusal::Message(icmpv4::Refusal::UnknownType(_)))
-            | Refusal::Icmp6(Icmpv6Refusal::Error(icmpv6_error::Refusal::UnknownType(_)))
-            | Refusal::Icmp6(Icmpv6Refusal::Message(icmpv6::Refusal::UnknownType(_)))
-            | Refusal::Igmp(igmp::Refusal::UnknownType(_)) => true,
-            _ => false,
-        }
+                | Refusal::Icmp4(Icmpv4Refusal::Message(icmpv4::Refusal::UnknownType(_)))
+                | Refusal::Icmp6(Icmpv6Refusal::Error(icmpv6_error::Refusal::UnknownType(_)))
+                | Refusal::Icmp6(Icmpv6Refusal::Message(icmpv6::Refusal::UnknownType(_)))
+                | Refusal::Igmp(igmp::Refusal::UnknownType(_))
+        )
     }
 }
 
