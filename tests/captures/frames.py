@@ -124,7 +124,7 @@ def nflog(octets):
 
 
 def frame_relay(octets):
-    """Frame relay (RFC 2427): an address of two to four octets, of which the last alone is odd (Q.922 section 3.3),
+    """Frame relay (RFC 2427 section 3): an address of two to four octets, of which the last alone is odd,
     and unnumbered information, whose control octet may be padded."""
     need(octets, 2)
     length = next((at for at, octet in enumerate(octets[:4], 1) if octet % 2), None)

@@ -176,7 +176,7 @@ pub record IsNflog (bytes : List ℕ) (v : FrameValue) : Type 0 where
 
 -- ---- frame relay (RFC 2427)
 
--- An address has two to four bytes, of which the last alone has its lowest bit set (Q.922 section 3.3).
+-- An address has two to four bytes (RFC 2427 section 3), of which the last alone has its lowest bit set.
 pub data IsAddress (bytes : List ℕ) (n : ℕ) : Type 0 where
   two_bytes : 2 ≤ length bytes → slice_index bytes 0 % 2 ≢ 1 → slice_index bytes 1 % 2 ≡ 1 → n ≡ 2 → IsAddress bytes n
   three_bytes : 3 ≤ length bytes → slice_index bytes 0 % 2 ≢ 1 → slice_index bytes 1 % 2 ≢ 1

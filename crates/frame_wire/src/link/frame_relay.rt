@@ -26,7 +26,7 @@ pub(super) fn read(octets: &[u8]) -> result::Result<Frame<'_>, Refusal>
     unnumbered(behind(octets, end))
 }
 
-// The number of bytes of the address, which ends with the first byte whose lowest bit is set (Q.922 section 3.3).
+// The number of bytes of the address, which ends with the first byte whose lowest bit is set (RFC 2427 section 3).
 fn address_len(octets: &[u8]) -> result::Result<usize, Refusal>
     ensures sound { IfOk result (λ n. IsAddress octets.now n) }
     ensures complete { (n : ℕ) → IsAddress octets.now n → IsOkAnd result (λ m. m ≡ n) }

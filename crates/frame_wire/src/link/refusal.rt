@@ -26,7 +26,7 @@ pub enum Refusal {
     SessionType(u8),
     /// The PPPoE code is not 0, the code of session data; this is its number.
     SessionCode(u8),
-    /// The address of frame relay has one byte, or more than four (Q.922 section 3.3).
+    /// The address of frame relay has one byte, or more than four (RFC 2427 section 3).
     FrameRelayAddress,
     /// The control byte of frame relay is not 3, that of unnumbered information (RFC 2427 section 3); this is its
     /// number.

@@ -18,7 +18,7 @@ pub(super) fn read(octets: &[u8]) -> result::Result<Frame<'_>, Refusal> {
     unnumbered(behind(octets, end))
 }
 
-// The number of bytes of the address, which ends with the first byte whose lowest bit is set (Q.922 section 3.3).
+// The number of bytes of the address, which ends with the first byte whose lowest bit is set (RFC 2427 section 3).
 fn address_len(octets: &[u8]) -> result::Result<usize, Refusal> {
     if octets.len() < 2 {
         return Err(Refusal::Short);
