@@ -2,6 +2,7 @@ pub mod Attributes
 pub mod Ends
 pub mod Headers
 pub mod Jumbograms
+pub mod Messages
 pub mod TagLists
 pub mod Tags
 pub mod UdpFormat

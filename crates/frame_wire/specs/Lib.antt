@@ -10,6 +10,9 @@ pub mod LinkEthernet
 pub mod LinkRefusal
 pub mod LinkVlans
 pub mod Names
+pub mod Tcp
+pub mod TcpDisplay
+pub mod TcpPrefixed
 pub mod Tunnel
 pub mod TunnelDisplay
 pub mod Udp

@@ -1,8 +1,7 @@
 -- A datagram is read up to its end.
-use Rattle.frame_wire.proofs.Words.{◌+◌, ◌≤◌, arith, common_steps, length, refl, rules, subst}
-use Rattle.frame_wire.specs.Datagram.{EndsAt6, HasHeader6, IsHeaded6, IsJumbogram, counted, short, value_of}
-use Rattle.frame_wire.proofs.Ends.{refuses_whole}
-use Rattle.frame_wire.proofs.Tags.{if_err, if_ok, told_not}
+use Rattle.frame_wire.proofs.Words.{◌+◌, arith, common_steps, rules}
+use Rattle.frame_wire.specs.Datagram.{HasHeader6, counted, short}
+use Rattle.frame_wire.proofs.Tags.{told_not}
 use Rattle.frame_wire.proofs.datagram.Datagram.parse_v6.Goals as goal
 
 pub returns-then-octets-len-clause-refuses : goal.returns-then-octets-len-clause-refuses
