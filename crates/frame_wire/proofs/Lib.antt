@@ -1,5 +1,6 @@
 pub mod Attributes
 pub mod Ends
+pub mod Fragments
 pub mod Headers
 pub mod Jumbograms
 pub mod Messages

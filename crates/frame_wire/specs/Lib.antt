@@ -3,6 +3,7 @@ pub mod Captured
 pub mod Datagram
 pub mod DatagramDisplay
 pub mod DatagramHeaders
+pub mod DatagramJoined
 pub mod DatagramJumbogram
 pub mod Link
 pub mod LinkDisplay

@@ -1,6 +1,6 @@
 -- Frames of links: what their headers say of the network, VLAN tags, and the bytes after them.
 use Rattle.std.specs.Prelude.{◌≡◌, ◌≢◌, ◌+◌, ◌*◌, ◌/◌, ◌%◌, ◌≤◌, ◌⊎◌, [], ◌∷◌, ◌++◌, List, None, Option, Some, ℕ, drop}
-use Rattle.std.specs.Prelude.{Bool, ◌==◌, if◌then◌else◌, length, nat_lt, slice_index, slice_range, take}
+use Rattle.std.specs.Prelude.{Bool, ◌==◌, false, if◌then◌else◌, length, nat_lt, slice_index, slice_range, take, true}
 use Rattle.frame_wire.specs.Words.{Link, Network, field, number_of, part}
 use Rattle.byteorder.specs.Endian.{big_number, little_number}
 use Rattle.frame_wire.specs.declared.link.Frame.{Frame}
@@ -244,6 +244,16 @@ IsFrame Link.FrameRelay bytes v = IsFrameRelay bytes v
 IsFrame Link.Ipnet bytes v = IsIpnet bytes v
 IsFrame Link.Nflog bytes v = IsNflog bytes v
 IsFrame Link.Ipoib bytes v = (44 ≤ length bytes) × IsTypedFrame (number_of (field 40 42) bytes) (drop 44 bytes) v
+
+-- The links whose frames have an EtherType, in which a network `Other` has it as its number, with two exceptions: below
+-- 0x0600 it is the length of a frame of IEEE 802.3, and in a session of PPPoE it is a protocol of PPP.
+abbrev pub has_ether_types : Link → Bool
+has_ether_types Link.Ethernet = true
+has_ether_types Link.LinuxSll = true
+has_ether_types Link.LinuxSll2 = true
+has_ether_types Link.CHdlc = true
+has_ether_types Link.Ipoib = true
+has_ether_types _ = false
 
 -- the number of the VLAN of a tag, and whether there is one at a place
 abbrev pub vlan_in : List ℕ → ℕ → ℕ

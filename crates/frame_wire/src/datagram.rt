@@ -1,19 +1,15 @@
 //! Datagrams of IPv4 and IPv6.
 
 ghost use Rattle.std.specs.Prelude.{◌≡◌, ◌≤◌, ◌+◌, ◌↔◌, ℕ, IsTrue, IfOk, IfErr, IfSome, IsNone, length};
-ghost use Rattle.wirebase.specs.Bytes.{bytes_of};
 ghost use Rattle.wirebase.specs.Checksum.{fold};
-ghost use Rattle.wirebase.specs.Ipv6.{dst_addr_field};
-ghost use Rattle.wirebase.specs.Ipv6Address.{octets_of};
 ghost use Rattle.frame_wire.specs.Addresses.{sum_before, IsV4};
 ghost use Rattle.frame_wire.specs.Datagram.{value_of, HasHeader4, IsDatagram4, Refuses4, IsHead4};
-ghost use Rattle.frame_wire.specs.Datagram.{next_header_in, behind6, IsJumbogram, EndsAt6, IsBroken6, IsHeaded6};
+ghost use Rattle.frame_wire.specs.Datagram.{behind6, IsJumbogram, EndsAt6, IsBroken6, IsHeaded6};
 ghost use Rattle.frame_wire.specs.Datagram.{HasHeader6, IsDatagram6, IsHead6, RefusesBehind6, Refuses6};
-ghost use Rattle.frame_wire.specs.DatagramHeaders.{HasAtomic, Passes};
+ghost use Rattle.frame_wire.specs.DatagramHeaders.{HasAtomic};
+ghost use Rattle.frame_wire.specs.private.Parts.{TellsFragment};
 
-use self::headers::{
-    FRAGMENT_HEADER_LEN, Upper, has_extension, is_fragment, options_of, pass_headers,
-};
+use self::headers::{FRAGMENT_HEADER_LEN, has_extension, is_fragment, options_of, pass_headers};
 use crate::link::behind;
 use wirebase::{
     IPV6_HEADER_LEN, IpProtocol, Ipv4Address, Ipv4Packet, Ipv6Address, Ipv6Packet, Octets, checksum,
@@ -22,6 +18,7 @@ use wirebase::{
 mod captured;
 mod display;
 mod headers;
+mod joined;
 mod jumbogram;
 
 pub use captured::{Captured, Extent};
@@ -356,7 +353,7 @@ fn read_unbroken<'a>(octets: &[u8], behind: &'a [u8]) -> Result<Datagram<'a>, Re
         Err(protocol) => return Err(Refusal::Extension(protocol)),
     };
     if is_fragment(upper.protocol) {
-        return Err(fragment_v6(octets, behind, upper));
+        return Err(told_of_fragment(packet.src_addr(), upper.dst_addr, upper.payload));
     }
     Ok(Datagram {
         addresses: Addresses::V6(packet.src_addr(), upper.dst_addr),
@@ -367,25 +364,18 @@ fn read_unbroken<'a>(octets: &[u8], behind: &'a [u8]) -> Result<Datagram<'a>, Re
     })
 }
 
-// What the fragment header that the IPv6 headers lead to tells (RFC 8200 section 4.5).
+// What is told of the fragment header that the IPv6 headers lead to (RFC 8200 section 4.5).
 #[inline(never)]
-fn fragment_v6(octets: &[u8], behind: &[u8], upper: Upper<'_>) -> Refusal
-    requires fixed { 40 ≤ length octets.now }
-    requires passes { Passes (next_header_in octets.now) behind.now (bytes_of dst_addr_field octets.now)
-        upper.protocol upper.payload.now (octets_of upper.dst_addr) }
-    requires fragment { upper.protocol ≡ IpProtocol.Ipv6Frag }
-    requires no_atomic { HasAtomic upper.payload.now → ⊥ }
-    requires unbroken { IsBroken6 octets.now behind.now → ⊥ }
-    ensures { RefusesBehind6 octets.now behind.now result }
+fn told_of_fragment(src_addr: Ipv6Address, dst_addr: Ipv6Address, header: &[u8]) -> Refusal
+    requires { HasAtomic header.now → ⊥ }
+    ensures { TellsFragment src_addr dst_addr header.now result }
 {
-    let header = upper.payload;
     if header.len() < FRAGMENT_HEADER_LEN {
-        return Refusal::Extension(upper.protocol);
+        return Refusal::Extension(IpProtocol::Ipv6Frag);
     }
-    let packet = Ipv6Packet::new_unchecked(octets);
     let offset_and_flag = header.u16_at(2..4);
     Refusal::Fragment(Head {
-        addresses: Addresses::V6(packet.src_addr(), upper.dst_addr),
+        addresses: Addresses::V6(src_addr, dst_addr),
         protocol: IpProtocol::from(header[0]),
         ident: Some(header.u32_at(4..8)),
         frag_offset: 8 * (offset_and_flag / 8),

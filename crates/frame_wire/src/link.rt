@@ -5,7 +5,7 @@ ghost use Rattle.std.specs.Prelude.{drop};
 ghost use Rattle.frame_wire.specs.Link.{FrameValue, value_of, network_of_type, IsTagType, TypedValue, IsTagged};
 ghost use Rattle.frame_wire.specs.Link.{network_of_protocol, IsProtocol, IsPpp, IsSession, IsPayload, IsTypedFrame};
 ghost use Rattle.frame_wire.specs.Link.{link_of, IsFrame, IsRaw, IsFamily, family_in, network_of_family, vlan_in};
-ghost use Rattle.frame_wire.specs.Link.{IsIpnet, network_of_solaris};
+ghost use Rattle.frame_wire.specs.Link.{IsIpnet, has_ether_types, network_of_solaris};
 ghost use Rattle.frame_wire.specs.private.Parts.{typed_of};
 ghost use Rattle.frame_wire.specs.LinkRefusal.{IsTagCut, IsProtocolCut, RefusesPpp, IsSessionCut};
 ghost use Rattle.frame_wire.specs.declared.link.refusal.Refusal.TheVariants as refusals;
@@ -88,6 +88,18 @@ impl Link {
             276 => Some(Link::LinuxSll2),
             _ => None,
         }
+    }
+
+    /// Whether a frame of this link has an EtherType, which is then the number of a [`Network::Other`]; below 0x0600
+    /// that is the length of a frame of IEEE 802.3, and in a session of PPPoE a protocol of PPP. Frame relay has
+    /// EtherTypes among other numbers, and so the answer for it is false.
+    pub fn has_ether_types(self) -> bool
+        ensures { result ≡ has_ether_types self }
+    {
+        matches!(
+            self,
+            Link::Ethernet | Link::LinuxSll | Link::LinuxSll2 | Link::CHdlc | Link::Ipoib
+        )
     }
 
     /// The frame in these octets. Refused where its headers are cut short; where a PPPoE session packet has another
