@@ -26,10 +26,12 @@
 pub mod datagram;
 pub mod link;
 pub mod names;
+pub mod tcp;
 pub mod tunnel;
 pub mod udp;
 
 pub use datagram::{Addresses, Captured, Datagram, Extent, Head, Refusal};
 pub use link::{EthernetHeader, Frame, Link, Network, VlanTag, VlanTags};
+pub use tcp::TcpSegment;
 pub use tunnel::{Inner, Tunnel};
 pub use udp::{CapturedUdp, UdpPacket, UdpRepr};

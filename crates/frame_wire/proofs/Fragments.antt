@@ -52,7 +52,8 @@ refuses_behind bytes behind source final q header Refusal.Short unbroken from fr
 refuses_behind bytes behind source final q header (Refusal.Version n) unbroken from fragment passes tells = absurd tells
 refuses_behind bytes behind source final q header (Refusal.HeaderLen n) unbroken from fragment passes tells =
     absurd tells
-refuses_behind bytes behind source final q header (Refusal.TotalLen n) unbroken from fragment passes tells = absurd tells
+refuses_behind bytes behind source final q header (Refusal.TotalLen n) unbroken from fragment passes tells =
+    absurd tells
 refuses_behind bytes behind source final q header (Refusal.Cut h) unbroken from fragment passes tells = absurd tells
 refuses_behind bytes behind source final q header Refusal.Jumbogram unbroken from fragment passes tells = absurd tells
 

@@ -22,7 +22,8 @@ behind-drop (suc n) (x ∷ bytes) = behind-drop n bytes
 -- ---- the message at the start
 
 first_by : (n : ℕ) (message rest : List ℕ) → n ≡ length message
-    → (if nat_le n (length (message ++ rest)) then take n (message ++ rest) ∷ messages_behind n (message ++ rest) else [])
+    → (if nat_le n (length (message ++ rest))
+    then take n (message ++ rest) ∷ messages_behind n (message ++ rest) else [])
     ≡ message ∷ messages_in rest
 first_by n message rest e = rw (
   le-leb n (length (message ++ rest)) (simp length-append (omega arith)),

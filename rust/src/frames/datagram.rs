@@ -1,9 +1,7 @@
 // Made from crates/frame_wire/src/datagram.rt by rust/erase.
 //! Datagrams of IPv4 and IPv6.
 
-use self::headers::{
-    FRAGMENT_HEADER_LEN, Upper, has_extension, is_fragment, options_of, pass_headers,
-};
+use self::headers::{FRAGMENT_HEADER_LEN, has_extension, is_fragment, options_of, pass_headers};
 use crate::frames::link::behind;
 use crate::wirebase::{
     IPV6_HEADER_LEN, IpProtocol, Ipv4Address, Ipv4Packet, Ipv6Address, Ipv6Packet, Octets, checksum,
@@ -12,6 +10,7 @@ use crate::wirebase::{
 mod captured;
 mod display;
 mod headers;
+mod joined;
 mod jumbogram;
 
 pub use captured::{Captured, Extent};
@@ -294,7 +293,11 @@ fn read_unbroken<'a>(octets: &[u8], behind: &'a [u8]) -> Result<Datagram<'a>, Re
         Err(protocol) => return Err(Refusal::Extension(protocol)),
     };
     if is_fragment(upper.protocol) {
-        return Err(fragment_v6(octets, behind, upper));
+        return Err(told_of_fragment(
+            packet.src_addr(),
+            upper.dst_addr,
+            upper.payload,
+        ));
     }
     Ok(Datagram {
         addresses: Addresses::V6(packet.src_addr(), upper.dst_addr),
@@ -305,17 +308,15 @@ fn read_unbroken<'a>(octets: &[u8], behind: &'a [u8]) -> Result<Datagram<'a>, Re
     })
 }
 
-// What the fragment header that the IPv6 headers lead to tells (RFC 8200 section 4.5).
+// What is told of the fragment header that the IPv6 headers lead to (RFC 8200 section 4.5).
 #[inline(never)]
-fn fragment_v6(octets: &[u8], behind: &[u8], upper: Upper<'_>) -> Refusal {
-    let header = upper.payload;
+fn told_of_fragment(src_addr: Ipv6Address, dst_addr: Ipv6Address, header: &[u8]) -> Refusal {
     if header.len() < FRAGMENT_HEADER_LEN {
-        return Refusal::Extension(upper.protocol);
+        return Refusal::Extension(IpProtocol::Ipv6Frag);
     }
-    let packet = Ipv6Packet::new_unchecked(octets);
     let offset_and_flag = header.u16_at(2..4);
     Refusal::Fragment(Head {
-        addresses: Addresses::V6(packet.src_addr(), upper.dst_addr),
+        addresses: Addresses::V6(src_addr, dst_addr),
         protocol: IpProtocol::from(header[0]),
         ident: Some(header.u32_at(4..8)),
         frag_offset: 8 * (offset_and_flag / 8),

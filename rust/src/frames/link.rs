@@ -78,6 +78,16 @@ impl Link {
         }
     }
 
+    /// Whether a frame of this link has an EtherType, which is then the number of a [`Network::Other`]; below 0x0600
+    /// that is the length of a frame of IEEE 802.3, and in a session of PPPoE a protocol of PPP. Frame relay has
+    /// EtherTypes among other numbers, and so the answer for it is false.
+    pub fn has_ether_types(self) -> bool {
+        matches!(
+            self,
+            Link::Ethernet | Link::LinuxSll | Link::LinuxSll2 | Link::CHdlc | Link::Ipoib
+        )
+    }
+
     /// The frame in these octets. Refused where its headers are cut short; where a PPPoE session packet has another
     /// version, type or code than data; where frame relay has an address of another length than two to four bytes, or
     /// another control byte than 3, that of unnumbered information; and where NFLOG has another version than 0, an

@@ -226,6 +226,9 @@ fn link_types() {
     ];
     for &(link_type, link) in TYPES {
         same_of(link_type, Link::of(link_type), link);
+        let has_ether_types = link.is_some_and(Link::has_ether_types);
+        let want = matches!(link_type, 1 | 104 | 113 | 242 | 276);
+        same_of(link_type, has_ether_types, want);
     }
 }
 
