@@ -4,7 +4,7 @@ use crate::measure::{Case, measured, reads, writes};
 use crate::messages::{ipv4_header, ipv6_header};
 use crate::random::{Random, many};
 use control_wire::frames::{Addresses, Datagram, Link, UdpPacket, UdpRepr};
-use control_wire::{ChecksumCapabilities, IpProtocol, Ipv6Packet, Ipv6Repr, checksum};
+use control_wire::{ChecksumCapabilities, IpProtocol, Ipv6Address, Ipv6Packet, Ipv6Repr, checksum};
 use std::hint::black_box;
 
 /// A datagram of UDP, and the addresses that its checksum counts.
@@ -255,4 +255,48 @@ fn later(frames: &[Vec<u8>], v4: &[Vec<u8>], v6: &[Vec<u8>]) {
     reads("ipv6_header_refusal", &headers, |octets| {
         Ipv6Repr::refusal(&Ipv6Packet::new_unchecked(octets))
     });
+    let addresses = Addresses::V6(Ipv6Address::UNSPECIFIED, Ipv6Address::UNSPECIFIED);
+    reads("datagram_joined", v6, |octets| {
+        Datagram::joined(addresses, IpProtocol::from(octets[6]), &octets[40..])
+    });
+    segments_of_tcp();
+}
+
+// A segment of TCP with some words of options, and two messages of DNS behind their lengths.
+#[cfg(feature = "later")]
+fn segment(random: &mut Random, place: usize) -> Vec<u8> {
+    let header_len = 20 + 4 * (place % 5);
+    let mut octets = random.octets(header_len);
+    octets[12] = 4 * header_len as u8;
+    for len in [12 + place % 20, 40] {
+        octets.extend_from_slice(&(len as u16).to_be_bytes());
+        octets.extend_from_slice(&random.octets(len));
+    }
+    octets
+}
+
+#[cfg(feature = "later")]
+fn segments_of_tcp() {
+    use crate::measure::iterates;
+    use control_wire::frames::TcpSegment;
+    use control_wire::frames::tcp::{self, Prefixed};
+
+    let segments = many(113, segment);
+    reads("tcp_parse", &segments, |octets| TcpSegment::parse(octets));
+    let addresses = Addresses::V6(Ipv6Address::UNSPECIFIED, Ipv6Address::UNSPECIFIED);
+    reads("tcp_verify_checksum", &segments, |octets| {
+        tcp::verify_checksum(&addresses, octets)
+    });
+    let payloads: Vec<_> = segments
+        .iter()
+        .map(|octets| TcpSegment::parse(octets).unwrap().payload)
+        .collect();
+    reads("tcp_prefixed", &payloads, |octets| {
+        Prefixed::new(octets, 12)
+    });
+    let messages: Vec<_> = payloads
+        .iter()
+        .map(|octets| Prefixed::new(octets, 12).unwrap())
+        .collect();
+    iterates("tcp_messages", &messages, |prefixed| prefixed.messages());
 }
