@@ -6,6 +6,7 @@ pub mod Jumbograms
 pub mod Messages
 pub mod TagLists
 pub mod Tags
+pub mod TypedLinks
 pub mod UdpFormat
 pub mod UdpSeals
 pub mod Witnesses

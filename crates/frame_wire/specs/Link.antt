@@ -245,8 +245,12 @@ IsFrame Link.Ipnet bytes v = IsIpnet bytes v
 IsFrame Link.Nflog bytes v = IsNflog bytes v
 IsFrame Link.Ipoib bytes v = (44 ≤ length bytes) × IsTypedFrame (number_of (field 40 42) bytes) (drop 44 bytes) v
 
--- The links whose frames have an EtherType, in which a network `Other` has it as its number, with two exceptions: below
--- 0x0600 it is the length of a frame of IEEE 802.3, and in a session of PPPoE it is a protocol of PPP.
+-- a frame of an EtherType
+abbrev pub IsTyped : FrameValue → Type 0
+IsTyped v = (type : ℕ) × (bytes : List ℕ) × IsTypedFrame type bytes v
+
+-- The links whose frames have an EtherType, which is the number of a network `Other`, with two exceptions: below 0x0600
+-- it is the length of a frame of IEEE 802.3, and in a session of PPPoE the number is a protocol of PPP.
 abbrev pub has_ether_types : Link → Bool
 has_ether_types Link.Ethernet = true
 has_ether_types Link.LinuxSll = true

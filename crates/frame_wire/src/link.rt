@@ -1,11 +1,11 @@
 //! Frames of the links that captures have.
 
 ghost use Rattle.std.specs.Prelude.{◌≡◌, ◌<◌, ◌≤◌, ◌↔◌, ◌+◌, ◌*◌, ◌/◌, ◌%◌, [], IfOk, IfErr, IsOkAnd, IsTrue, length};
-ghost use Rattle.std.specs.Prelude.{drop};
+ghost use Rattle.std.specs.Prelude.{List, drop, ℕ};
 ghost use Rattle.frame_wire.specs.Link.{FrameValue, value_of, network_of_type, IsTagType, TypedValue, IsTagged};
 ghost use Rattle.frame_wire.specs.Link.{network_of_protocol, IsProtocol, IsPpp, IsSession, IsPayload, IsTypedFrame};
 ghost use Rattle.frame_wire.specs.Link.{link_of, IsFrame, IsRaw, IsFamily, family_in, network_of_family, vlan_in};
-ghost use Rattle.frame_wire.specs.Link.{IsIpnet, has_ether_types, network_of_solaris};
+ghost use Rattle.frame_wire.specs.Link.{IsIpnet, IsTyped, has_ether_types, network_of_solaris};
 ghost use Rattle.frame_wire.specs.private.Parts.{typed_of};
 ghost use Rattle.frame_wire.specs.LinkRefusal.{IsTagCut, IsProtocolCut, RefusesPpp, IsSessionCut};
 ghost use Rattle.frame_wire.specs.declared.link.refusal.Refusal.TheVariants as refusals;
@@ -93,8 +93,10 @@ impl Link {
     /// Whether a frame of this link has an EtherType, which is then the number of a [`Network::Other`]; below 0x0600
     /// that is the length of a frame of IEEE 802.3, and in a session of PPPoE a protocol of PPP. Frame relay has
     /// EtherTypes among other numbers, and so the answer for it is false.
+    #[tactic(auto, using(crate::proofs::TypedLinks::frames_typed))]
     pub fn has_ether_types(self) -> bool
-        ensures { result ≡ has_ether_types self }
+        ensures is { result ≡ has_ether_types self }
+        ensures typed { IsTrue result → (bytes : List ℕ) (v : FrameValue) → IsFrame self bytes v → IsTyped v }
     {
         matches!(
             self,
