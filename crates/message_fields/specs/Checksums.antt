@@ -5,6 +5,7 @@ use Rattle.wirebase.specs.Checksum.{IsGood}
 use Rattle.wirebase.specs.declared.ipv6.address.Ipv6Address.{Ipv6Address}
 use Rattle.icmp6_wire.specs.Icmpv6Packet.{message_sum}
 use Rattle.frame_wire.specs.Addresses.{IsV4}
+use Rattle.frame_wire.specs.Tcp.{IsSealed as IsSegmentSealed}
 use Rattle.frame_wire.specs.Udp.{BeginsWhole, IsSealed, checksum_field}
 use Rattle.frame_wire.specs.declared.datagram.Addresses.{Addresses}
 use Rattle.message_fields.specs.declared.message.ChecksumState.{ChecksumState}
@@ -13,18 +14,21 @@ use Rattle.message_fields.specs.declared.message.Message.{Message}
 use Rattle.message_fields.specs.declared.message.Message.TheVariants as message
 use Rattle.message_fields.specs.declared.message.Service.{Service}
 
--- a message by its octets, as far as they are there, with the addresses that its checksum covers; of UDP from its header on
+-- a message by its octets, as far as they are there, with the addresses that its checksum covers; of UDP from its header
+-- on, and of DNS over TCP the segment from its header on and the message in it
 pub data MessageValue : Type 0 where
   icmp4 : List ℕ → MessageValue
   igmp : List ℕ → MessageValue
   icmp6 : Ipv6Address → Ipv6Address → List ℕ → MessageValue
   udp : Service → Addresses → List ℕ → MessageValue
+  tcp : Addresses → List ℕ → List ℕ → MessageValue
 
 abbrev pub value_of : Message → MessageValue
 value_of (message.Icmp4 octets) = icmp4 octets.now
 value_of (message.Igmp octets) = igmp octets.now
 value_of (message.Icmp6 source destination octets) = icmp6 source destination octets.now
 value_of (message.Udp service addresses octets) = udp service addresses octets.now
+value_of (message.Tcp addresses segment octets) = tcp addresses segment.now octets.now
 
 -- what a checksum says, by whether it can't be verified, whether there is none, and whether it holds
 abbrev pub Says : Type 0 → Type 0 → Type 0 → ChecksumState → Type 0
@@ -46,6 +50,7 @@ HasState (igmp octets) = Says (length octets < 4) ⊥ (IsGood octets 0)
 HasState (icmp6 source destination octets) =
     Says (length octets < 4) ⊥ (IsGood octets (message_sum source destination (length octets)))
 HasState (udp service addresses octets) = UdpSays addresses octets
+HasState (tcp addresses segment octets) = Says ⊥ ⊥ (IsSegmentSealed addresses segment)
 
 abbrev pub state_text : ChecksumState → List ℕ
 state_text state.Good = codes "good"

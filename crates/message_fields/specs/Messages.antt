@@ -3,11 +3,12 @@ use Rattle.std.specs.Prelude.{◌≡◌, [], ◌∷◌, ◌++◌, Bool, List, No
 use Rattle.packet_fields.specs.Fields.{Item, field, text}
 use Rattle.packet_fields.specs.declared.form.Form.{Form}
 use Rattle.packet_fields.specs.declared.form.Form.TheVariants.{Lines, Json}
-use Rattle.message_fields.specs.Checksums.{MessageValue, HasState, icmp4, icmp6, igmp, state_text, udp}
+use Rattle.message_fields.specs.Checksums.{MessageValue, HasState, icmp4, icmp6, igmp, state_text, tcp, udp}
+use Rattle.dns_fields.specs.declared.kind.Kind.{Kind}
 use Rattle.neighbor_fields.specs.HopByHop as hop_by_hop
 use Rattle.message_fields.specs.Icmp.{Icmp4Is, Icmp6Is, IgmpIs}
 use Rattle.message_fields.specs.Refusals.{cut_items, refused_items}
-use Rattle.message_fields.specs.Udp.{UdpIs}
+use Rattle.message_fields.specs.Udp.{DnsIs, UdpIs}
 use Rattle.message_fields.specs.declared.message.ChecksumState.{ChecksumState}
 use Rattle.message_fields.specs.declared.message.ChecksumState.TheVariants as state
 use Rattle.message_fields.specs.declared.refusal.Refusal.{Refusal}
@@ -30,6 +31,7 @@ BodyIs tells_cut (icmp4 octets) = Icmp4Is octets
 BodyIs tells_cut (igmp octets) = IgmpIs octets
 BodyIs tells_cut (icmp6 source destination octets) = Icmp6Is source destination octets
 BodyIs tells_cut (udp service addresses octets) = UdpIs tells_cut service octets
+BodyIs tells_cut (tcp addresses segment octets) = DnsIs Kind.Dns octets
 
 -- the hop-by-hop options of a packet, where it has any
 abbrev pub options_items : Option (List ℕ) → List Item

@@ -11,7 +11,8 @@ ghost use Rattle.message_fields.specs.Messages.{BodyIs, options_items};
 use crate::icmp::{show_icmp4, show_icmp6, show_igmp};
 use crate::message::Message;
 use crate::refusal::Refusal;
-use crate::udp::show_udp;
+use crate::udp::{show_dns, show_udp};
+use dns_fields::kind::Kind;
 use neighbor_fields::hop_by_hop;
 use packet_fields::Form;
 use std::alloc::Global;
@@ -39,6 +40,7 @@ pub(crate) fn show_body<W: Write>(
         Message::Udp(service, _, octets) => {
             show_udp(output, form, alloc, *service, octets, tells_cut)
         }
+        Message::Tcp(_, _, message) => show_dns(output, form, Kind::Dns, message),
     }
 }
 

@@ -2,10 +2,12 @@
 
 ghost use Rattle.std.specs.Prelude.{◌≡◌, ◌<◌, length};
 ghost use Rattle.wirebase.specs.Checksum.{IsGood};
+ghost use Rattle.frame_wire.specs.Tcp.{IsSealed as IsSegmentSealed};
 ghost use Rattle.icmp6_wire.specs.Icmpv6Packet.{message_sum};
 ghost use Rattle.message_fields.specs.Checksums.{HasState, Says, UdpSays, value_of};
 ghost use Rattle.message_fields.specs.private.Missing.{without_checksum};
 
+use frame_wire::tcp::verify_checksum;
 use frame_wire::{Addresses, UdpPacket};
 use icmp4_wire::icmpv4;
 use icmp6_wire::icmpv6;
@@ -37,6 +39,8 @@ pub enum Message<'a> {
     Icmp6(Ipv6Address, Ipv6Address, &'a [u8]),
     /// A UDP datagram of a service, from its header on.
     Udp(Service, Addresses, &'a [u8]),
+    /// A DNS message over TCP: the segment that it is in, from its header on, and the message.
+    Tcp(Addresses, &'a [u8], &'a [u8]),
 }
 
 /// What the checksum of a message says.
@@ -81,6 +85,7 @@ impl Message<'_> {
             Message::Icmp4(octets) | Message::Igmp(octets) => plain_state(octets),
             Message::Icmp6(src_addr, dst_addr, octets) => icmp6_state(src_addr, dst_addr, octets),
             Message::Udp(_, addresses, octets) => udp_state(addresses, octets),
+            Message::Tcp(addresses, segment, _) => tcp_state(addresses, segment),
         }
     }
 }
@@ -122,6 +127,15 @@ fn udp_state(addresses: &Addresses, octets: &[u8]) -> ChecksumState
         return without_checksum(addresses.is_v4());
     }
     if packet.verify_checksum(addresses) {
+        return ChecksumState::Good;
+    }
+    ChecksumState::Bad
+}
+
+fn tcp_state(addresses: &Addresses, segment: &[u8]) -> ChecksumState
+    ensures { Says ⊥ ⊥ (IsSegmentSealed addresses.now segment.now) result }
+{
+    if verify_checksum(addresses, segment) {
         return ChecksumState::Good;
     }
     ChecksumState::Bad

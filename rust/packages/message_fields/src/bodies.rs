@@ -4,7 +4,8 @@
 use crate::icmp::{show_icmp4, show_icmp6, show_igmp};
 use crate::message::Message;
 use crate::refusal::Refusal;
-use crate::udp::show_udp;
+use crate::udp::{show_dns, show_udp};
+use dns_fields::kind::Kind;
 use neighbor_fields::hop_by_hop;
 use packet_fields::Form;
 use rattle_std::io;
@@ -25,6 +26,7 @@ pub(crate) fn show_body<W: Write>(
             show_icmp6(output, form, src_addr, dst_addr, octets)
         }
         Message::Udp(service, _, octets) => show_udp(output, form, *service, octets, tells_cut),
+        Message::Tcp(_, _, message) => show_dns(output, form, Kind::Dns, message),
     }
 }
 

@@ -2,6 +2,7 @@
 //! Messages by their octets, and their checksums.
 
 use control_wire::Ipv6Address;
+use control_wire::frames::tcp::verify_checksum;
 use control_wire::frames::{Addresses, UdpPacket};
 use control_wire::icmpv4;
 use control_wire::icmpv6;
@@ -32,6 +33,8 @@ pub enum Message<'a> {
     Icmp6(Ipv6Address, Ipv6Address, &'a [u8]),
     /// A UDP datagram of a service, from its header on.
     Udp(Service, Addresses, &'a [u8]),
+    /// A DNS message over TCP: the segment that it is in, from its header on, and the message.
+    Tcp(Addresses, &'a [u8], &'a [u8]),
 }
 
 /// What the checksum of a message says.
@@ -69,6 +72,7 @@ impl Message<'_> {
             Message::Icmp4(octets) | Message::Igmp(octets) => plain_state(octets),
             Message::Icmp6(src_addr, dst_addr, octets) => icmp6_state(src_addr, dst_addr, octets),
             Message::Udp(_, addresses, octets) => udp_state(addresses, octets),
+            Message::Tcp(addresses, segment, _) => tcp_state(addresses, segment),
         }
     }
 }
@@ -103,6 +107,13 @@ fn udp_state(addresses: &Addresses, octets: &[u8]) -> ChecksumState {
         return without_checksum(addresses.is_v4());
     }
     if packet.verify_checksum(addresses) {
+        return ChecksumState::Good;
+    }
+    ChecksumState::Bad
+}
+
+fn tcp_state(addresses: &Addresses, segment: &[u8]) -> ChecksumState {
+    if verify_checksum(addresses, segment) {
         return ChecksumState::Good;
     }
     ChecksumState::Bad

@@ -91,7 +91,8 @@ fn show_service<W: Write>(
     }
 }
 
-fn show_dns<W: Write>(
+/// Prints a message of a kind of DNS, and returns why it is read in part.
+pub(crate) fn show_dns<W: Write>(
     output: &mut W,
     form: Form,
     kind: Kind,

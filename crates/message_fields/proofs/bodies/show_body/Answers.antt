@@ -12,3 +12,6 @@ returns-in-Icmp6 g c = rw c.in-Icmp6.is c.show_icmp6.ensures
 
 pub returns-in-Udp : goal.returns-in-Udp
 returns-in-Udp g c = rw c.in-Udp.is c.show_udp.ensures
+
+pub returns-in-Tcp : goal.returns-in-Tcp
+returns-in-Tcp g c = rw c.in-Tcp.is c.show_dns.ensures
