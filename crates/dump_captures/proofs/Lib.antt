@@ -1,11 +1,16 @@
+pub mod Countings
 pub mod EachFile
 pub mod Faults
 pub mod Headings
+pub mod MessageTexts
 pub mod Names
+pub mod NumberRuns
+pub mod Places
 pub mod Printing
 pub mod Running
 pub mod Summaries
 pub mod Tallies
 pub mod Times
+pub mod TunnelEntries
 pub mod Words
 pub mod Vlans

@@ -10,7 +10,7 @@ use Rattle.dump_captures.specs.Arguments.{chooses_none, kind_named, then_name, w
 use Rattle.dump_captures.specs.Kinds.{kind_place}
 use Rattle.dump_captures.specs.declared.kind.Kind.{Kind}
 use Rattle.dump_captures.specs.declared.options.Only.{Only}
-use Rattle.dump_captures.specs.Tally.{changed_at}
+use Rattle.dump_captures.specs.Numbers.{changed_at}
 use Rattle.dump_captures.proofs.Tallies.{changed_at-length, changed_at-set}
 
 -- ---- the kind of a name

@@ -8,11 +8,12 @@ use Rattle.capture.specs.declared.capture.Stage.TheVariants.{Start}
 use Rattle.capture.specs.declared.capture.Record.{Record}
 use Rattle.capture.specs.declared.ending.Ending.{Ending}
 use Rattle.packet_fields.specs.Output.{Gains, GainsSome}
+use Rattle.reassembly.specs.Partial.{PartialValue}
 use Rattle.packet_fields.proofs.Printing.{gains_none, gains_both}
 use Rattle.dump_captures.specs.Dump.{PacketPrints, PacketsPrint, InputPrints}
 use Rattle.dump_captures.specs.Tally.{TallyValue, counted}
 use Rattle.dump_captures.specs.declared.options.Options.{Options}
-use Rattle.dump_captures.specs.declared.tally.Outcome.{Outcome}
+use Rattle.dump_captures.specs.declared.tally.Counted.{Counted}
 
 -- These packets were read, and are followed by those that `left`, the rest of the input, holds.
 abbrev pub HasRead : List ℕ → Option (List ℕ) → State → List PacketValue → Type 0
@@ -46,41 +47,43 @@ read-all None left remaining s new seen ending octets reads gives = tt
 read-all (Some all) left remaining s new seen ending octets reads gives =
     let given = rw reads.1 at gives in rw (append-nil seen) at (reads.2 [] ending given.0)
 
--- How far a run has come, with `left` of the input `start`: it has read packets and printed a text, and what further
--- packets print follows it.
-pub record SoFar (options : Options) (start left : Option (List ℕ)) (s : State) (n : ℕ) (first tally : TallyValue)
-    (before now : Option (List ℕ)) : Type 0 where
+-- How far a run has come, with `left` of the input `start`: it has read packets, printed a text and kept fragments, and
+-- what further packets print follows it.
+pub record SoFar (options : Options) (start left : Option (List ℕ)) (s : State) (n : ℕ) (kept : List PartialValue)
+    (first tally : TallyValue) (before now : Option (List ℕ)) : Type 0 where
   pub seen : List PacketValue
   pub text : List ℕ
   pub reads : IfSome start (λ all. HasRead all left s seen)
   pub gains : Gains before now text
   pub goes_on : (packets : List PacketValue) (more : List ℕ) (new : TallyValue)
-      → PacketsPrint options n tally packets more new
-      → PacketsPrint options 0 first (seen ++ packets) (text ++ more) new
+      → PacketsPrint options n kept tally packets more new
+      → PacketsPrint options 0 [] first (seen ++ packets) (text ++ more) new
 
-pub so_far-init : (options : Options) (start : Option (List ℕ)) (s : State) (n : ℕ) (tally : TallyValue)
-    (before : Option (List ℕ)) → s ≡ state Start [] → n ≡ 0 → SoFar options start start s n tally tally before before
-so_far-init options start s n tally before begins none =
+pub so_far-init : (options : Options) (start : Option (List ℕ)) (s : State) (n : ℕ) (kept : List PartialValue)
+    (tally : TallyValue) (before : Option (List ℕ)) → s ≡ state Start [] → n ≡ 0 → kept ≡ []
+    → SoFar options start start s n kept tally tally before before
+so_far-init options start s n kept tally before begins none empty =
     record {
       seen = [];
       text = [];
       reads = read-none start s begins;
       gains = gains_none before;
-      goes_on = λ packets more new prints. rw none at prints;
+      goes_on = λ packets more new prints. rw (none, empty) at prints;
     }
 
-module _ (options : Options) (start left : Option (List ℕ)) (s : State) (n : ℕ) (first tally : TallyValue)
-    (before now : Option (List ℕ)) (so_far : SoFar options start left s n first tally before now)
+module _ (options : Options) (start left : Option (List ℕ)) (s : State) (n : ℕ) (kept : List PartialValue)
+    (first tally : TallyValue) (before now : Option (List ℕ))
+    (so_far : SoFar options start left s n kept first tally before now)
     (flushed : Option (List ℕ)) (wrote : Gains now flushed []) where
   -- what was printed is written out, and then a packet more is read and printed
   pub so_far-more : (later remaining : Option (List ℕ)) (r : Record) (octets : List ℕ) (new : State) (count : ℕ)
-      (outcome : Outcome) (new_tally : TallyValue)
+      (c : Counted) (left_kept : List PartialValue) (new_tally : TallyValue)
       → IfSome left (λ bytes. GivesNext s bytes (next.Record r) octets new remaining)
       → IsInOrder r octets n count
-      → GainsSome flushed later (λ text. PacketPrints options r.number (packet_of r octets) text outcome)
-      → new_tally ≡ counted outcome r.link_type (length octets) tally
-      → SoFar options start remaining new count first new_tally before later
-  so_far-more later remaining r octets new count outcome new_tally gives order shows counts =
+      → GainsSome flushed later (λ text. PacketPrints options r.number (packet_of r octets) kept text c left_kept)
+      → new_tally ≡ counted c r.link_type (length octets) tally
+      → SoFar options start remaining new count left_kept first new_tally before later
+  so_far-more later remaining r octets new count c left_kept new_tally gives order shows counts =
       let p = packet_of r octets in
       record {
         seen = so_far.seen ++ p ∷ [];
@@ -93,7 +96,8 @@ module _ (options : Options) (start left : Option (List ℕ)) (s : State) (n : �
             (so_far.goes_on (p ∷ packets) (shows.0 ++ more) last (
               shows.0,
               more,
-              outcome,
+              c,
+              left_kept,
               rw order.number at shows.1,
               rw (counts, order.count_is, order.number) at prints,
               refl,

@@ -5,13 +5,17 @@ use Rattle.std.proofs.lemmas.Bool.{ne_eqb}
 use Rattle.std.proofs.lemmas.Grind.{flat_map-append}
 use Rattle.std.proofs.lemmas.List.{append-nil, take_all, take_more}
 use Rattle.std.proofs.lemmas.List.Sums.{fold_more}
-use Rattle.std.specs.Prelude.{flat_map, if◌then◌else◌}
+use Rattle.std.specs.Prelude.{◌==◌, ◌&&◌, flat_map, if◌then◌else◌}
 use Rattle.packet_fields.proofs.Printing.{gains_both}
 use Rattle.packet_fields.specs.Output.{Gains}
 use Rattle.dump_captures.specs.Kinds.{reason_text}
-use Rattle.dump_captures.specs.Summary.{in_brackets, reason_parts, refused_for, sum_up}
-use Rattle.dump_captures.specs.Tally.{TallyValue, more_by}
+use Rattle.dump_captures.specs.Counts.{further_parts, row_part}
+use Rattle.dump_captures.specs.Numbers.{in_brackets, more_by}
+use Rattle.dump_captures.specs.Summary.{reason_parts, refused_for, sum_up}
+use Rattle.dump_captures.specs.Tally.{TallyValue}
+use Rattle.dump_captures.specs.declared.counts.Count.{Count}
 use Rattle.dump_captures.specs.declared.kind.Reason.{Reason}
+use Rattle.dump_captures.specs.private.Brackets.{appended, before, is_none, opened, row_parts}
 
 -- ---- sums
 
@@ -32,15 +36,6 @@ sum_all number xs i sum all so_far = so_far ∙ ap (sum_up number) (take_all i x
 abbrev with_comma : List ℕ → List ℕ
 with_comma part = codes ", " ++ part
 
--- the parts so far, before the bracket after them
-abbrev pub opened : List (List ℕ) → List ℕ
-opened [] = []
-opened (part ∷ parts) = codes " (" ++ part ++ flat_map (λ further. codes ", " ++ further) parts
-
-abbrev pub is_none : List (List ℕ) → Bool
-is_none [] = true
-is_none (part ∷ parts) = false
-
 is_none-more : (parts : List (List ℕ)) (part : List ℕ) → is_none (parts ++ part ∷ []) ≡ false
 is_none-more [] part = refl
 is_none-more (first ∷ parts) part = refl
@@ -49,7 +44,7 @@ flat_map-one : {X A : Type 0} (f : X → List A) (xs : List X) (x : X) → flat_
 flat_map-one f xs x = flat_map-append f xs (x ∷ []) ∙ ap (λ more. flat_map f xs ++ more) (append-nil (f x))
 
 opened-more : (parts : List (List ℕ)) (part : List ℕ)
-    → opened (parts ++ part ∷ []) ≡ opened parts ++ ((if is_none parts then codes " (" else codes ", ") ++ part)
+    → opened (parts ++ part ∷ []) ≡ opened parts ++ (before (is_none parts) ++ part)
 opened-more [] part = append-nil _
 opened-more (first ∷ parts) part =
     ap (λ more. codes " (" ++ first ++ more) (flat_map-one with_comma parts part)
@@ -91,7 +86,7 @@ pub parts-some : (t : TallyValue) (reasons : List Reason) (i count : ℕ) (d : R
     (a b c : Option (List ℕ)) → i < length reasons
     → count ≡ refused_for t (get_or reasons i d) → (count ≡ 0 → ⊥) → is_first ≡ is_none (parts_so_far t reasons i)
     → Gains a b (opened (parts_so_far t reasons i))
-    → Gains b c ((if is_first then codes " (" else codes ", ")
+    → Gains b c (before is_first
     ++ (decimal count ++ codes " " ++ reason_text (get_or reasons i d)))
     → (false ≡ is_none (parts_so_far t reasons (i + 1))) × Gains a c (opened (parts_so_far t reasons (i + 1)))
 parts-some t reasons i count d is_first a b c within is some first gains more =
@@ -102,4 +97,54 @@ parts-some t reasons i count d is_first a b c within is some first gains more =
     let behind = rw first at more in (
       sym (ap is_none all ∙ is_none-more (parts_so_far t reasons i) part),
       rw (all, opened-more (parts_so_far t reasons i) part) (gains_both _ _ _ _ _ gains behind),
+    )
+
+-- ---- the packets of each category
+
+-- others after the parts so far, and the bracket behind all
+opened-appended : (parts others : List (List ℕ)) → opened parts ++ appended (is_none parts) others ≡ opened (parts ++ others)
+opened-appended [] [] = refl
+opened-appended [] (other ∷ others) = refl
+opened-appended (part ∷ parts) [] = append-nil _ ∙ ap opened (sym (append-nil (part ∷ parts)))
+opened-appended (part ∷ parts) (other ∷ others) =
+    append_assoc (codes " (" ++ part) (flat_map with_comma parts) (appended false (other ∷ others))
+    ∙ ap (λ more. codes " (" ++ part ++ more) (sym (flat_map-append with_comma parts (other ∷ others)))
+
+is_none-both : (parts others : List (List ℕ)) → is_none (parts ++ others) ≡ (is_none parts && is_none others)
+is_none-both [] others = refl
+is_none-both (part ∷ parts) others = refl
+
+closed : (parts : List (List ℕ)) → opened parts ++ (if is_none parts then [] else codes ")") ≡ in_brackets parts
+closed [] = refl
+closed (part ∷ parts) = refl
+
+none_further : (n : ℕ) → is_none (further_parts n) ≡ (n == 0)
+none_further n =
+    elim (n == 0) as (λ is. is_none (if is then [] else (decimal n ++ codes " further") ∷ []) ≡ is) [
+      | true ↦ refl
+      | false ↦ refl
+    ]
+
+pub brackets-whole : (parts : List (List ℕ)) (further : ℕ) (is_first : Bool) → is_first ≡ is_none parts
+    → (opened parts ++ appended is_first (further_parts further)) ++ (if is_first && (further == 0) then [] else codes ")")
+    ≡ in_brackets (parts ++ further_parts further)
+brackets-whole parts further is_first is =
+    let others = further_parts further in
+    let none : is_none (parts ++ others) ≡ (is_none parts && (further == 0)) =
+    is_none-both parts others ∙ ap (λ none. is_none parts && none) (none_further further) in
+    rw (is, opened-appended parts others, ← none) (closed (parts ++ others))
+
+-- one row more
+pub rows-more : (rows : List Count) (i : ℕ) (d : Count) (is_first : Bool) (a b c : Option (List ℕ)) → i < length rows
+    → is_first ≡ is_none (row_parts (take i rows)) → Gains a b (opened (row_parts (take i rows)))
+    → Gains b c (before is_first ++ row_part (get_or rows i d))
+    → (false ≡ is_none (row_parts (take (i + 1) rows))) × Gains a c (opened (row_parts (take (i + 1) rows)))
+rows-more rows i d is_first a b c within first gains more =
+    let parts = row_parts (take i rows) in
+    let part = row_part (get_or rows i d) in
+    let all : row_parts (take (i + 1) rows) ≡ parts ++ part ∷ [] =
+    ap row_parts (take_more rows i d within)
+    ∙ flat_map-append (λ row. row_part row ∷ []) (take i rows) (get_or rows i d ∷ []) in (
+      sym (ap is_none all ∙ is_none-more parts part),
+      rw (all, opened-more parts part) (gains_both _ _ _ _ _ gains (rw first at more)),
     )

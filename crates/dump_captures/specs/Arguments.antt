@@ -5,7 +5,7 @@ use Rattle.std.specs.List.{fold, slice_split}
 use Rattle.std.specs.Option.{ok_or, option_and_then}
 use Rattle.packet_fields.specs.declared.form.Form.TheVariants.{Json, Lines}
 use Rattle.dump_captures.specs.Kinds.{kinds, kind_place, kind_text}
-use Rattle.dump_captures.specs.Tally.{changed_at}
+use Rattle.dump_captures.specs.Numbers.{changed_at}
 use Rattle.dump_captures.specs.declared.arguments.Step.TheVariants as step
 use Rattle.dump_captures.specs.declared.arguments.Task.{Task}
 use Rattle.dump_captures.specs.declared.arguments.Task.TheVariants as task

@@ -1,5 +1,6 @@
 -- The heading of a control packet, and what is in its place in JSON.
-use Rattle.std.specs.Prelude.{ℕ, ◌/◌, ◌%◌, List, [], ◌∷◌, ◌++◌, Option, None, Some, codes, decimal, length}
+use Rattle.std.specs.Prelude.{ℕ, ◌/◌, ◌%◌, List, [], ◌∷◌, ◌++◌, Option, None, Some, codes, decimal, flat_map, length}
+use Rattle.std.specs.Prelude.{Bool, false, if◌then◌else◌, map, true}
 use Rattle.std.specs.Option.{option_map}
 use Rattle.capture.specs.Packet.{PacketValue}
 use Rattle.capture.specs.Time.{TimeValue}
@@ -10,10 +11,18 @@ use Rattle.wirebase.specs.EndpointText.{v4_text, v6_text}
 use Rattle.frame_wire.specs.Names.{link_names, name_in}
 use Rattle.wirebase.specs.Ipv4 as ipv4
 use Rattle.wirebase.specs.Ipv6Address as ipv6
-use Rattle.packet_fields.specs.Fields.{Item, Leaf, field, leaf_or_missing, missing, named, number, numbers, text}
+use Rattle.frame_wire.specs.declared.tunnel.Tunnel.{Tunnel}
+use Rattle.frame_wire.specs.declared.tunnel.Tunnel.TheVariants as tunnel
+use Rattle.packet_fields.specs.Entries.{keyed_value}
+use Rattle.packet_fields.specs.Fields.{Entry, Item, Leaf, entries, field, leaf_or_missing, leaf_text, missing, named, number}
+use Rattle.packet_fields.specs.Fields.{numbers, text}
+use Rattle.packet_fields.specs.declared.form.Form.TheVariants.{Lines}
+use Rattle.message_fields.specs.Checksums.{tcp}
+use Rattle.dump_captures.specs.Content.{ContentValue, kind_in, whole}
 use Rattle.dump_captures.specs.Kinds.{kind_text}
-use Rattle.dump_captures.specs.Sight.{HeadersValue, kind_in}
+use Rattle.dump_captures.specs.Sight.{HeadersValue}
 use Rattle.dump_captures.specs.TimeText.{time_text}
+use Rattle.dump_captures.specs.declared.path.Passage.{Passage}
 
 -- the time of a packet, where it has one
 abbrev pub packet_time : Option TimeValue → List ℕ
@@ -43,15 +52,53 @@ abbrev pub tags_text : List ℕ → List ℕ
 tags_text (a ∷ b ∷ c ∷ d ∷ rest) = tag_text (a ∷ b ∷ c ∷ d ∷ []) ++ tags_text rest
 tags_text _ = []
 
+abbrev pub tunnel_name : Tunnel → List ℕ
+tunnel_name tunnel.Ipv4 = codes "ipv4"
+tunnel_name tunnel.Ipv6 = codes "ipv6"
+tunnel_name tunnel.Gre = codes "gre"
+
+abbrev pub source_leaf : Addresses → Leaf
+source_leaf (V4 source destination) = text (ipv4.address_text source)
+source_leaf (V6 source destination) = text (ipv6.address_text source)
+
+abbrev pub destination_leaf : Addresses → Leaf
+destination_leaf (V4 source destination) = text (ipv4.address_text destination)
+destination_leaf (V6 source destination) = text (ipv6.address_text destination)
+
+abbrev pub ends_text : Leaf → Leaf → List ℕ
+ends_text source destination = codes "," ++ leaf_text Lines source ++ codes "," ++ leaf_text Lines destination
+
+-- a tunnel, and the addresses of the datagram outside
+abbrev pub tunnel_text : Passage → List ℕ
+tunnel_text p =
+    codes " in=" ++ tunnel_name p.tunnel ++ ends_text (source_leaf p.addresses) (destination_leaf p.addresses)
+
+abbrev pub tunnels_text : List Passage → List ℕ
+tunnels_text tunnels = flat_map tunnel_text tunnels
+
+-- the numbers of the packets that the fragments of a datagram came in
+abbrev pub frames_text : List ℕ → List ℕ
+frames_text [] = []
+frames_text frames = codes " frames=" ++ leaf_text Lines (numbers frames)
+
 abbrev pub hop_by_hop_text : Option (List ℕ) → List ℕ
 hop_by_hop_text None = []
 hop_by_hop_text (Some options) = codes " hbh"
 
+-- a message over TCP
+abbrev pub is_over_tcp : ContentValue → Bool
+is_over_tcp (whole (tcp addresses segment message)) = true
+is_over_tcp _ = false
+
+abbrev pub transport_text : Bool → List ℕ
+transport_text over_tcp = if over_tcp then codes " tcp" else []
+
 -- the heading of the packet of a number
 unfoldable pub heading : ℕ → PacketValue → HeadersValue → List ℕ
 heading n p h =
-    decimal n ++ codes " " ++ packet_time p.time ++ addresses_text h.addresses h.ports ++ tags_text h.tags
-    ++ hop_by_hop_text h.hop_by_hop ++ codes " " ++ kind_text (kind_in h.content) ++ codes "\n"
+    decimal n ++ codes " " ++ packet_time p.time ++ addresses_text h.addresses h.ports ++ tags_text h.path.tags
+    ++ tunnels_text h.path.tunnels ++ frames_text h.path.frames ++ hop_by_hop_text h.hop_by_hop
+    ++ transport_text (is_over_tcp h.content) ++ codes " " ++ kind_text (kind_in h.content) ++ codes "\n"
 
 -- ---- in JSON
 
@@ -77,18 +124,46 @@ ends_items source destination = field (codes "src_addr") source ∷ field (codes
 
 abbrev pub addresses_items : Option Addresses → List Item
 addresses_items None = ends_items missing missing
-addresses_items (Some (V4 source destination)) =
-    ends_items (text (ipv4.address_text source)) (text (ipv4.address_text destination))
-addresses_items (Some (V6 source destination)) =
-    ends_items (text (ipv6.address_text source)) (text (ipv6.address_text destination))
+addresses_items (Some addresses) = ends_items (source_leaf addresses) (destination_leaf addresses)
 
 abbrev pub port_items : Option (ℕ × ℕ) → List Item
 port_items ports =
     field (codes "src_port") (leaf_or_missing number (source_port ports))
     ∷ field (codes "dst_port") (leaf_or_missing number (destination_port ports)) ∷ []
 
-abbrev pub path_items : Option Addresses → Option (ℕ × ℕ) → List Item
-path_items addresses ports = addresses_items addresses ++ port_items ports
+-- a tunnel as an object
+abbrev pub entry_between : List ℕ → Leaf → Leaf → Entry
+entry_between name source destination = record {
+  label_key = codes "tunnel";
+  label = name;
+  first_key = codes "src_addr";
+  first = source;
+  rest = keyed_value (codes "dst_addr") destination;
+}
+
+abbrev pub tunnel_entry : Passage → Entry
+tunnel_entry p =
+    entry_between (tunnel_name p.tunnel) (source_leaf p.addresses) (destination_leaf p.addresses)
+
+abbrev pub tunnel_items : List Passage → List Item
+tunnel_items [] = []
+tunnel_items tunnels = entries (codes "tunnels") (map tunnel_entry tunnels) ∷ []
+
+abbrev pub frame_items : List ℕ → List Item
+frame_items [] = []
+frame_items frames = field (codes "frames") (numbers frames) ∷ []
+
+abbrev pub transport_items : Bool → List Item
+transport_items over_tcp = if over_tcp then field (codes "transport") (text (codes "tcp")) ∷ [] else []
+
+abbrev pub path_items : HeadersValue → List Item
+path_items h =
+    (field (codes "vlans") (numbers (vlans_of h.path.tags)) ∷ [])
+    ++ tunnel_items h.path.tunnels
+    ++ addresses_items h.addresses
+    ++ port_items h.ports
+    ++ frame_items h.path.frames
+    ++ transport_items (is_over_tcp h.content)
 
 -- all members after the number
 abbrev pub head_items : PacketValue → HeadersValue → List Item
@@ -96,6 +171,5 @@ head_items p h =
     time_items p.time
     ++ link_items p.link_type
     ++ length_items (length p.octets) p.original_len
-    ++ (field (codes "vlans") (numbers (vlans_of h.tags)) ∷ [])
-    ++ path_items h.addresses h.ports
+    ++ path_items h
     ++ (field (codes "kind") (text (kind_text (kind_in h.content))) ∷ [])

@@ -1,10 +1,16 @@
 pub mod Arguments
+pub mod Content
+pub mod Counts
 pub mod Dump
 pub mod Fault
 pub mod Files
+pub mod Fragments
 pub mod Heading
 pub mod Kinds
 pub mod Messages
+pub mod Numbers
+pub mod Path
+pub mod Place
 pub mod Refusals
 pub mod Sight
 pub mod Summary

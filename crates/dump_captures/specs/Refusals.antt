@@ -1,5 +1,5 @@
 -- Why control packets are refused: what the library's refusals print, and the reason under which each is counted.
-use Rattle.std.specs.Prelude.{ℕ, Bool, if◌then◌else◌, List}
+use Rattle.std.specs.Prelude.{ℕ, ◌++◌, Bool, codes, if◌then◌else◌, List}
 use Rattle.frame_wire.specs.DatagramDisplay as datagram_texts
 use Rattle.frame_wire.specs.LinkDisplay as link_texts
 use Rattle.frame_wire.specs.declared.datagram.Refusal.{Refusal as DatagramRefusal}
@@ -25,6 +25,7 @@ use Rattle.dhcp_fields.specs.declared.refusal.Refusal.TheVariants as dhcp
 use Rattle.dns_fields.specs.declared.unread.Unread.{Unread}
 use Rattle.dns_fields.specs.declared.unread.Unread.TheVariants as unread
 use Rattle.record_wire.specs.declared.text.refusal.TextRefusal.TheVariants as text
+use Rattle.reassembly.specs.AnswerDisplay as fragment_texts
 use Rattle.dump_captures.specs.declared.kind.Reason.{Reason}
 use Rattle.dump_captures.specs.declared.kind.Reason.TheVariants as reason
 use Rattle.dump_captures.specs.declared.refusal.Refusal.{Refusal}
@@ -110,6 +111,9 @@ message_reason (message.Dns u) = dns_reason u
 abbrev pub reason_of : Bool → Refusal → Reason
 reason_of is_cut (refusal.Frame r) = frame_reason is_cut r
 reason_of is_cut (refusal.Datagram r) = datagram_reason is_cut r
+reason_of is_cut refusal.Header = reason.Checksum
+reason_of is_cut (refusal.Fragment r) = reason.Fragment
+reason_of is_cut refusal.Nested = reason.Fragment
 reason_of is_cut (refusal.Message r) = message_reason r
 
 -- ---- what they print
@@ -117,4 +121,7 @@ reason_of is_cut (refusal.Message r) = message_reason r
 abbrev pub refusal_display : Refusal → List ℕ
 refusal_display (refusal.Frame r) = link_texts.refusal_display r
 refusal_display (refusal.Datagram r) = datagram_texts.refusal_display r
+refusal_display refusal.Header = codes "the checksum of the IPv4 header does not hold"
+refusal_display (refusal.Fragment r) = codes "a fragment: " ++ fragment_texts.refusal_display r
+refusal_display refusal.Nested = codes "a fragment in a datagram that was put together"
 refusal_display (refusal.Message r) = message_texts.refusal_display r

@@ -1,163 +1,159 @@
 -- What the headers of a packet tell: whether it is a control packet and of which kind, and what its heading says of it.
-use Rattle.std.specs.Prelude.{◌≡◌, ℕ, ◌==◌, ◌||◌, ◌&&◌, nat_lt, Bool, true, false, if◌then◌else◌, List, [], length}
-use Rattle.std.specs.Prelude.{drop, Option, None, Some}
+use Rattle.std.specs.Prelude.{◌≡◌, ◌≤◌, ◌↔◌, ℕ, ◌==◌, nat_lt, Bool, false, if◌then◌else◌, List, [], length}
+use Rattle.std.specs.Prelude.{drop, IsTrue, Option, None, Some}
 use Rattle.std.specs.Option.{option_map}
-use Rattle.wirebase.specs.Ipv4.{header_len_in}
+use Rattle.wirebase.specs.Bytes.{Reaches, bytes_of}
+use Rattle.wirebase.specs.Checksum.{IsGood}
+use Rattle.wirebase.specs.Ip.{protocol_number}
+use Rattle.wirebase.specs.Ipv4.{header_field, header_len_in}
 use Rattle.wirebase.specs.declared.ip.IpProtocol.{IpProtocol}
-use Rattle.wirebase.specs.declared.ip.IpProtocol.TheVariants.{HopByHop, Icmp, Igmp, Udp, Ipv6Route, Ipv6Frag, Icmpv6}
-use Rattle.wirebase.specs.declared.ip.IpProtocol.TheVariants.{Ipv6Opts}
 use Rattle.capture.specs.Packet.{PacketValue}
 use Rattle.frame_wire.specs.Captured.{CapturedValue, IsCaptured4, RefusesCaptured4, IsCaptured6, RefusesCaptured6}
+use Rattle.frame_wire.specs.Datagram.{value_of as datagram_of}
 use Rattle.frame_wire.specs.Datagram.{DatagramValue, IsDatagram4, Refuses4, IsDatagram6, Refuses6}
-use Rattle.frame_wire.specs.Link.{FrameValue, link_of, IsFrame}
+use Rattle.frame_wire.specs.Link.{FrameValue, link_of, IsFrame, has_ether_types}
 use Rattle.frame_wire.specs.LinkRefusal.{Refuses}
+use Rattle.frame_wire.specs.TcpPrefixed.{messages_of}
 use Rattle.frame_wire.specs.declared.datagram.Addresses.{Addresses}
-use Rattle.frame_wire.specs.declared.datagram.Addresses.TheVariants.{V4, V6}
 use Rattle.frame_wire.specs.declared.datagram.Head.{Head}
 use Rattle.frame_wire.specs.declared.datagram.captured.Extent.{Extent}
 use Rattle.frame_wire.specs.declared.datagram.Refusal.{Refusal as DatagramRefusal}
 use Rattle.frame_wire.specs.declared.datagram.Refusal.TheVariants as datagram
 use Rattle.frame_wire.specs.declared.link.Link.{Link}
-use Rattle.frame_wire.specs.declared.link.Network.TheVariants as network
 use Rattle.frame_wire.specs.declared.link.refusal.Refusal.{Refusal as LinkRefusal}
-use Rattle.frame_wire.specs.declared.udp.Refusal.TheVariants.{Short}
 use Rattle.packet_fields.specs.Ports.{ports_in}
-use Rattle.message_fields.specs.Checksums.{MessageValue, icmp4, igmp, icmp6, udp, value_of}
-use Rattle.message_fields.specs.declared.message.Service.{Service}
-use Rattle.message_fields.specs.declared.refusal.Refusal.TheVariants.{Udp as UdpHeader}
+use Rattle.reassembly.specs.Fragment.{FragmentValue, IsFragment4, IsFragment6}
+use Rattle.reassembly.specs.Fragment as fragments
+use Rattle.message_fields.specs.Checksums.{tcp}
+use Rattle.dump_captures.specs.Content.{ContentValue, IsOverTcp, content_by, content_of, cut, kind_in, refused, whole}
+use Rattle.dump_captures.specs.Path.{PathValue, path_of}
+use Rattle.dump_captures.specs.Place.{LeadsTo, PlaceValue, StepValue, packet_in}
+use Rattle.dump_captures.specs.Place as step
 use Rattle.dump_captures.specs.Refusals.{reason_of}
+use Rattle.dump_captures.specs.declared.counts.Category.{Category}
+use Rattle.dump_captures.specs.declared.counts.Category.TheVariants as category
 use Rattle.dump_captures.specs.declared.kind.Kind.{Kind}
 use Rattle.dump_captures.specs.declared.kind.Kind.TheVariants as kind
 use Rattle.dump_captures.specs.declared.kind.Reason.{Reason}
-use Rattle.dump_captures.specs.declared.kind.Reason.TheVariants as reason
+use Rattle.dump_captures.specs.declared.place.Version.TheVariants as version
 use Rattle.dump_captures.specs.declared.refusal.Refusal.{Refusal}
 use Rattle.dump_captures.specs.declared.refusal.Refusal.TheVariants as refusal
-use Rattle.dump_captures.specs.declared.sight.Content.{Content}
-use Rattle.dump_captures.specs.declared.sight.Content.TheVariants as content
+use Rattle.dump_captures.specs.declared.sight.Finding.{Finding}
+use Rattle.dump_captures.specs.declared.sight.Finding.TheVariants as finding
 use Rattle.dump_captures.specs.declared.sight.Headers.{Headers}
+use Rattle.dump_captures.specs.declared.sight.Segment.{Segment}
 use Rattle.dump_captures.specs.declared.sight.Sight.{Sight}
 use Rattle.dump_captures.specs.declared.sight.Sight.TheVariants as sight
 
 -- ---- by content
 
--- what a control packet holds: the message of a whole datagram, or of one of which so many bytes are missing, with the
--- reason under which it is counted; or nothing that can be read: its kind, that reason, and why
-pub data ContentValue : Type 0 where
-  whole : MessageValue → ContentValue
-  cut : MessageValue → ℕ → Reason → ContentValue
-  refused : Kind → Reason → Refusal → ContentValue
-
--- what the headers of a control packet tell: VLAN tags of four bytes each, and the addresses, the ports and the
--- hop-by-hop options where there are any
+-- what the headers of a control packet tell: the way to its datagram, the addresses, the ports and the hop-by-hop options
+-- where there are any, and whether the checksum of the IPv4 header is wrong
 pub record HeadersValue : Type 0 where
-  pub tags : List ℕ
+  pub path : PathValue
   pub addresses : Option Addresses
   pub ports : Option (ℕ × ℕ)
   pub hop_by_hop : Option (List ℕ)
+  pub is_header_bad : Bool
   pub content : ContentValue
 
--- a frame of a link that is not read, a packet of another protocol, or a control packet
+-- a segment of TCP with messages of DNS: the way to its datagram, whether the checksum of the IPv4 header is wrong, the
+-- datagram, and the messages
+pub record StreamValue : Type 0 where
+  pub path : PathValue
+  pub is_header_bad : Bool
+  pub datagram : DatagramValue
+  pub messages : List (List ℕ)
+
+-- a frame of a link that is not read, a packet of another protocol, a control packet, or several messages in a segment
 pub data SightValue : Type 0 where
   unread : SightValue
-  other : SightValue
+  other : Category → SightValue
   control : HeadersValue → SightValue
+  stream : StreamValue → SightValue
 
-abbrev pub content_of : Content → ContentValue
-content_of (content.Whole message) = whole (value_of message)
-content_of (content.Cut message missing counted) = cut (value_of message) missing counted
-content_of (content.Refused kind counted r) = refused kind counted r
+-- that, or a fragment of a datagram and the way to it
+pub data FindingValue : Type 0 where
+  seen : SightValue → FindingValue
+  fragment : PathValue → FragmentValue → FindingValue
 
 abbrev pub headers_of : Headers → HeadersValue
 headers_of h = record {
-  tags = h.tags.now;
+  path = path_of h.path;
   addresses = h.addresses;
   ports = h.ports;
   hop_by_hop = option_map (λ octets. octets.now) h.hop_by_hop;
+  is_header_bad = h.is_header_bad;
   content = content_of h.content;
+}
+
+abbrev pub stream_of : Segment → StreamValue
+stream_of s = record {
+  path = path_of s.path;
+  is_header_bad = s.is_header_bad;
+  datagram = datagram_of s.datagram;
+  messages = messages_of s.messages;
 }
 
 abbrev pub sight_of : Sight → SightValue
 sight_of sight.Unread = unread
-sight_of sight.Other = other
+sight_of (sight.Other category) = other category
 sight_of (sight.Control h) = control (headers_of h)
+sight_of (sight.Segment s) = stream (stream_of s)
 
-abbrev pub kind_of_service : Service → Kind
-kind_of_service Service.Dns = kind.Dns
-kind_of_service Service.Mdns = kind.Mdns
-kind_of_service Service.Llmnr = kind.Llmnr
-kind_of_service Service.Nbns = kind.Nbns
-kind_of_service Service.Dhcp = kind.Dhcp
+abbrev pub finding_of : Finding → FindingValue
+finding_of (finding.Sight s) = seen (sight_of s)
+finding_of (finding.Fragment path f) = fragment (path_of path) (fragments.value_of f)
 
-abbrev pub kind_of_message : MessageValue → Kind
-kind_of_message (icmp4 octets) = kind.Icmp4
-kind_of_message (igmp octets) = kind.Igmp
-kind_of_message (icmp6 source destination octets) = kind.Icmp6
-kind_of_message (udp service addresses octets) = kind_of_service service
+-- ---- packets of other protocols
 
-abbrev pub kind_in : ContentValue → Kind
-kind_in (whole m) = kind_of_message m
-kind_in (cut m missing counted) = kind_of_message m
-kind_in (refused kind counted r) = kind
+-- one of an IP protocol
+abbrev pub protocol_category : IpProtocol → Category
+protocol_category p = category.Protocol (protocol_number p)
 
--- ---- what a datagram holds
-
--- a port is that of the source or of the destination
-abbrev pub has_port : ℕ × ℕ → ℕ → Bool
-has_port ports n = (ports.0 == n) || (ports.1 == n)
-
-abbrev pub is_v4 : Addresses → Bool
-is_v4 (V4 source destination) = true
-is_v4 (V6 source destination) = false
-
--- too little of a datagram can be read to tell its kind
-abbrev pub unknown : ContentValue
-unknown = refused kind.Frame reason.Short (refusal.Message (UdpHeader Short))
-
--- the service over UDP, by its ports and the first row that holds
-abbrev pub service_of : Bool → ℕ × ℕ → Option Service
-service_of over_v4 ports =
-    if has_port ports 53 then Some Service.Dns
-    else if has_port ports 5353 then Some Service.Mdns
-    else if has_port ports 5355 then Some Service.Llmnr
-    else if has_port ports 137 then Some Service.Nbns
-    else if over_v4 && (has_port ports 67 || has_port ports 68) then Some Service.Dhcp
-    else None
-
-abbrev pub content_of_udp : Addresses → Option (ℕ × ℕ) → List ℕ → Option ContentValue
-content_of_udp addresses None payload = Some unknown
-content_of_udp addresses (Some ports) payload =
-    option_map (λ service. whole (udp service addresses payload)) (service_of (is_v4 addresses) ports)
-
--- of a protocol over IPv4 or IPv6, where an IPv6 header that was not passed hides the kind; none is of another protocol
-abbrev pub content_by : Addresses → IpProtocol → Option (ℕ × ℕ) → List ℕ → Option ContentValue
-content_by addresses Udp ports payload = content_of_udp addresses ports payload
-content_by (V4 source destination) Icmp ports payload = Some (whole (icmp4 payload))
-content_by (V4 source destination) Igmp ports payload = Some (whole (igmp payload))
-content_by (V6 source destination) Icmpv6 ports payload = Some (whole (icmp6 source destination payload))
-content_by (V6 source destination) HopByHop ports payload = Some unknown
-content_by (V6 source destination) Ipv6Route ports payload = Some unknown
-content_by (V6 source destination) Ipv6Frag ports payload = Some unknown
-content_by (V6 source destination) Ipv6Opts ports payload = Some unknown
-content_by _ _ ports payload = None
+-- one of a network on a link that is not IP
+abbrev pub network_category : Link → ℕ → Category
+network_category link n = if has_ether_types link then category.EtherType n else category.Network n
 
 -- ---- a datagram that is whole
 
-abbrev pub sight_by : Option ContentValue → (ContentValue → HeadersValue) → SightValue
-sight_by None headers = other
-sight_by (Some content) headers = control (headers content)
+abbrev pub sight_by : IpProtocol → Option ContentValue → (ContentValue → HeadersValue) → SightValue
+sight_by p None headers = other (protocol_category p)
+sight_by p (Some content) headers = control (headers content)
 
-abbrev pub datagram_headers : List ℕ → DatagramValue → ContentValue → HeadersValue
-datagram_headers tags d content = record {
-  tags = tags;
+abbrev pub datagram_headers : PathValue → Bool → DatagramValue → ContentValue → HeadersValue
+datagram_headers path bad d content = record {
+  path = path;
   addresses = Some d.addresses;
   ports = ports_in d.protocol d.payload;
   hop_by_hop = d.hop_by_hop;
+  is_header_bad = bad;
   content = content;
 }
 
-abbrev pub datagram_sight : List ℕ → DatagramValue → SightValue
-datagram_sight tags d =
-    sight_by (content_by d.addresses d.protocol (ports_in d.protocol d.payload) d.payload) (datagram_headers tags d)
+abbrev pub datagram_sight : PathValue → Bool → DatagramValue → SightValue
+datagram_sight path bad d =
+    sight_by d.protocol (content_by d.addresses d.protocol (ports_in d.protocol d.payload) d.payload)
+    (datagram_headers path bad d)
+
+-- what the headers tell of a message in a segment
+abbrev pub stream_headers : StreamValue → List ℕ → HeadersValue
+stream_headers s message =
+    datagram_headers s.path s.is_header_bad s.datagram (whole (tcp s.datagram.addresses s.datagram.payload message))
+
+-- by its messages over TCP, or else by its protocol
+pub data IsWhole (path : PathValue) (bad : Bool) (d : DatagramValue) (s : SightValue) : Type 0 where
+  over_tcp : (messages : List (List ℕ)) → IsOverTcp d messages
+      → s ≡ stream (record { path = path; is_header_bad = bad; datagram = d; messages = messages })
+      → IsWhole path bad d s
+  otherwise : ((messages : List (List ℕ)) → IsOverTcp d messages → ⊥) → s ≡ datagram_sight path bad d
+      → IsWhole path bad d s
+
+-- The IPv4 header at the start of these bytes is there, and its checksum does not hold.
+pub record HasBadHeader (bytes : List ℕ) : Type 0 where
+  pub fixed : 20 ≤ length bytes
+  pub there : Reaches (header_field bytes) bytes
+  pub bad : IsGood (bytes_of (header_field bytes) bytes) 0 → ⊥
 
 -- ---- a datagram that is refused
 
@@ -165,24 +161,29 @@ datagram_sight tags d =
 abbrev pub is_cut : PacketValue → Bool
 is_cut p = nat_lt (length p.octets) p.original_len
 
-abbrev pub refused_headers : List ℕ → Option Addresses → Option (ℕ × ℕ) → Kind → Reason → Refusal → HeadersValue
-refused_headers tags addresses ports kind counted r = record {
-  tags = tags;
+-- nothing is known of the way to it
+abbrev pub no_path : PathValue
+no_path = record { tags = []; tunnels = []; frames = [] }
+
+abbrev pub refused_headers : PathValue → Option Addresses → Option (ℕ × ℕ) → Kind → Reason → Refusal → HeadersValue
+refused_headers path addresses ports kind counted r = record {
+  path = path;
   addresses = addresses;
   ports = ports;
   hop_by_hop = None;
+  is_header_bad = false;
   content = refused kind counted r;
 }
 
--- only the VLAN tags are known
-abbrev pub untold : List ℕ → Reason → Refusal → SightValue
-untold tags counted r = control (refused_headers tags None None kind.Frame counted r)
+-- only the way to it is known
+abbrev pub untold : PathValue → Reason → Refusal → SightValue
+untold path counted r = control (refused_headers path None None kind.Frame counted r)
 
 -- its addresses and its protocol are known, and the ports where they are there: they tell the kind, whatever the payload
-abbrev pub told : List ℕ → Addresses → IpProtocol → Option (ℕ × ℕ) → Reason → Refusal → SightValue
-told tags addresses protocol ports counted r =
-    sight_by (content_by addresses protocol ports [])
-    (λ content. refused_headers tags (Some addresses) ports (kind_in content) counted r)
+abbrev pub told : PathValue → Addresses → IpProtocol → Option (ℕ × ℕ) → Reason → Refusal → SightValue
+told path addresses protocol ports counted r =
+    sight_by protocol (content_by addresses protocol ports [])
+    (λ content. refused_headers path (Some addresses) ports (kind_in content) counted r)
 
 -- what there is of a datagram that is refused, of which this would be the content: the message of one that is cut
 abbrev pub front_content : Extent → Reason → Refusal → ContentValue → ContentValue
@@ -190,11 +191,12 @@ front_content (Extent.Cut missing) counted r (whole m) = cut m missing counted
 front_content extent counted r content = refused (kind_in content) counted r
 
 -- the start of a datagram, as far as the capture has it
-abbrev pub told_front : List ℕ → CapturedValue → Reason → Refusal → SightValue
-told_front tags c counted r =
-    sight_by (content_by c.datagram.addresses c.datagram.protocol (ports_in c.datagram.protocol c.datagram.payload)
+abbrev pub told_front : PathValue → Bool → CapturedValue → Reason → Refusal → SightValue
+told_front path bad c counted r =
+    sight_by c.datagram.protocol
+    (content_by c.datagram.addresses c.datagram.protocol (ports_in c.datagram.protocol c.datagram.payload)
     c.datagram.payload)
-    (λ content. datagram_headers tags c.datagram (front_content c.extent counted r content))
+    (λ content. datagram_headers path bad c.datagram (front_content c.extent counted r content))
 
 -- what is known of a datagram whose start was not captured
 abbrev pub head_of : DatagramRefusal → Option Head
@@ -207,43 +209,68 @@ abbrev pub ports_behind : List ℕ → Head → Option (ℕ × ℕ)
 ports_behind bytes h = if h.frag_offset == 0 then ports_in h.protocol (drop (header_len_in bytes) bytes) else None
 
 -- By the start where it was captured; or else by what is known without it.
-pub data IsRefused4 (tags bytes : List ℕ) (counted : Reason) (r : Refusal) (s : SightValue) : Type 0 where
-  by_front : (c : CapturedValue) → IsCaptured4 bytes c → s ≡ told_front tags c counted r
-      → IsRefused4 tags bytes counted r s
+pub data IsRefused4 (path : PathValue) (bytes : List ℕ) (counted : Reason) (r : Refusal) (s : SightValue) : Type 0 where
+  by_front : (c : CapturedValue) (bad : Bool) → IsCaptured4 bytes c → (IsTrue bad ↔ HasBadHeader bytes)
+      → s ≡ told_front path bad c counted r → IsRefused4 path bytes counted r s
   by_head : (other : DatagramRefusal) (h : Head) → RefusesCaptured4 bytes other → head_of other ≡ Some h
-      → s ≡ told tags h.addresses h.protocol (ports_behind bytes h) counted r → IsRefused4 tags bytes counted r s
+      → s ≡ told path h.addresses h.protocol (ports_behind bytes h) counted r → IsRefused4 path bytes counted r s
   by_none : (other : DatagramRefusal) → RefusesCaptured4 bytes other → head_of other ≡ None
-      → s ≡ untold tags counted r → IsRefused4 tags bytes counted r s
+      → s ≡ untold path counted r → IsRefused4 path bytes counted r s
 
-pub data IsRefused6 (tags bytes : List ℕ) (counted : Reason) (r : Refusal) (s : SightValue) : Type 0 where
-  by_front : (c : CapturedValue) → IsCaptured6 bytes c → s ≡ told_front tags c counted r
-      → IsRefused6 tags bytes counted r s
+pub data IsRefused6 (path : PathValue) (bytes : List ℕ) (counted : Reason) (r : Refusal) (s : SightValue) : Type 0 where
+  by_front : (c : CapturedValue) → IsCaptured6 bytes c → s ≡ told_front path false c counted r
+      → IsRefused6 path bytes counted r s
   by_head : (other : DatagramRefusal) (h : Head) → RefusesCaptured6 bytes other → head_of other ≡ Some h
-      → s ≡ told tags h.addresses h.protocol None counted r → IsRefused6 tags bytes counted r s
+      → s ≡ told path h.addresses h.protocol None counted r → IsRefused6 path bytes counted r s
   by_none : (other : DatagramRefusal) → RefusesCaptured6 bytes other → head_of other ≡ None
-      → s ≡ untold tags counted r → IsRefused6 tags bytes counted r s
+      → s ≡ untold path counted r → IsRefused6 path bytes counted r s
 
--- ---- a packet
+-- ---- a datagram at its place
 
 abbrev pub counted_as : PacketValue → Refusal → Reason
 counted_as p r = reason_of (is_cut p) r
 
--- The frame of a packet by its network, and the packet by its link.
-pub data IsFrameSight (p : PacketValue) (f : FrameValue) (s : SightValue) : Type 0 where
-  whole4 : (d : DatagramValue) → f.network ≡ network.Ipv4 → IsDatagram4 f.payload d → s ≡ datagram_sight f.tags d
-      → IsFrameSight p f s
-  refused4 : (r : DatagramRefusal) → f.network ≡ network.Ipv4 → Refuses4 f.payload r
-      → IsRefused4 f.tags f.payload (counted_as p (refusal.Datagram r)) (refusal.Datagram r) s → IsFrameSight p f s
-  whole6 : (d : DatagramValue) → f.network ≡ network.Ipv6 → IsDatagram6 f.payload d → s ≡ datagram_sight f.tags d
-      → IsFrameSight p f s
-  refused6 : (r : DatagramRefusal) → f.network ≡ network.Ipv6 → Refuses6 f.payload r
-      → IsRefused6 f.tags f.payload (counted_as p (refusal.Datagram r)) (refusal.Datagram r) s → IsFrameSight p f s
-  other_network : (n : ℕ) → f.network ≡ network.Other n → s ≡ other → IsFrameSight p f s
+-- The datagram that begins at a place, of IPv4 and of IPv6: a whole one, a whole fragment of one, or one that is refused.
+pub data IsSight4 (p : PacketValue) (at : PlaceValue) (s : FindingValue) : Type 0 where
+  whole4 : (d : DatagramValue) (bad : Bool) (told : SightValue) → IsDatagram4 at.bytes d
+      → (IsTrue bad ↔ HasBadHeader at.bytes) → IsWhole at.path bad d told → s ≡ seen told → IsSight4 p at s
+  fragment4 : (f : FragmentValue) → IsFragment4 at.bytes f → s ≡ fragment at.path f → IsSight4 p at s
+  refused4 : (r : DatagramRefusal) (told : SightValue) → Refuses4 at.bytes r
+      → ((f : FragmentValue) → IsFragment4 at.bytes f → ⊥)
+      → IsRefused4 at.path at.bytes (counted_as p (refusal.Datagram r)) (refusal.Datagram r) told → s ≡ seen told
+      → IsSight4 p at s
 
-pub data IsSight (p : PacketValue) (s : SightValue) : Type 0 where
-  no_link : link_of p.link_type ≡ None → s ≡ unread → IsSight p s
+pub data IsSight6 (p : PacketValue) (at : PlaceValue) (s : FindingValue) : Type 0 where
+  whole6 : (d : DatagramValue) (told : SightValue) → IsDatagram6 at.bytes d → IsWhole at.path false d told
+      → s ≡ seen told → IsSight6 p at s
+  fragment6 : (f : FragmentValue) → IsFragment6 at.bytes f → s ≡ fragment at.path f → IsSight6 p at s
+  refused6 : (r : DatagramRefusal) (told : SightValue) → Refuses6 at.bytes r
+      → ((f : FragmentValue) → IsFragment6 at.bytes f → ⊥)
+      → IsRefused6 at.path at.bytes (counted_as p (refusal.Datagram r)) (refusal.Datagram r) told → s ≡ seen told
+      → IsSight6 p at s
+
+-- where the tunnels end
+pub data IsEndSight (p : PacketValue) (e : StepValue) (s : FindingValue) : Type 0 where
+  of_v4 : (at : PlaceValue) → e ≡ step.datagram at → at.version ≡ version.V4 → IsSight4 p at s → IsEndSight p e s
+  of_v6 : (at : PlaceValue) → e ≡ step.datagram at → at.version ≡ version.V6 → IsSight6 p at s → IsEndSight p e s
+  of_network : (n : ℕ) → e ≡ step.other n → s ≡ seen (other (category.EtherType n)) → IsEndSight p e s
+
+-- ---- a packet
+
+abbrev pub frame_path : FrameValue → PathValue
+frame_path f = record { tags = f.tags; tunnels = []; frames = [] }
+
+-- The frame of a packet on its link, and the packet by its link.
+pub data IsFrameSight (p : PacketValue) (link : Link) (f : FrameValue) (s : FindingValue) : Type 0 where
+  tunnels_end : (at : PlaceValue) (e : StepValue) → packet_in (frame_path f) f.network f.payload ≡ step.datagram at
+      → LeadsTo (step.datagram at) e → IsEndSight p e s → IsFrameSight p link f s
+  other_network : (n : ℕ) → packet_in (frame_path f) f.network f.payload ≡ step.other n
+      → s ≡ seen (other (network_category link n)) → IsFrameSight p link f s
+
+pub data IsSight (p : PacketValue) (s : FindingValue) : Type 0 where
+  no_link : link_of p.link_type ≡ None → s ≡ seen unread → IsSight p s
   no_frame : (link : Link) (r : LinkRefusal) → link_of p.link_type ≡ Some link
       → ((f : FrameValue) → IsFrame link p.octets f → ⊥) → Refuses link p.octets r
-      → s ≡ untold [] (counted_as p (refusal.Frame r)) (refusal.Frame r) → IsSight p s
+      → s ≡ seen (untold no_path (counted_as p (refusal.Frame r)) (refusal.Frame r)) → IsSight p s
   framed : (link : Link) (f : FrameValue) → link_of p.link_type ≡ Some link → IsFrame link p.octets f
-      → IsFrameSight p f s → IsSight p s
+      → IsFrameSight p link f s → IsSight p s

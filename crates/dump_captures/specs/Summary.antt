@@ -1,10 +1,12 @@
 -- The line that sums up a capture.
 use Rattle.std.specs.Prelude.{ℕ, ◌==◌, if◌then◌else◌, List, [], ◌∷◌, ◌++◌, get_or, codes, decimal, flat_map}
 use Rattle.std.specs.List.{fold}
+use Rattle.dump_captures.specs.Counts.{category_text, counts_text}
 use Rattle.dump_captures.specs.Kinds.{reasons, reason_place, reason_text}
-use Rattle.dump_captures.specs.Tally.{TallyValue, more_by}
+use Rattle.dump_captures.specs.Numbers.{in_brackets, more_by}
+use Rattle.dump_captures.specs.Tally.{TallyValue}
+use Rattle.dump_captures.specs.declared.counts.Count.{Count}
 use Rattle.dump_captures.specs.declared.kind.Reason.{Reason}
-use Rattle.dump_captures.specs.declared.tally.UnreadLink.{UnreadLink}
 
 -- ---- how many packets
 
@@ -31,30 +33,31 @@ reason_parts t reason =
     if refused_for t reason == 0 then []
     else (decimal (refused_for t reason) ++ codes " " ++ reason_text reason) ∷ []
 
--- parts with commas between them and brackets around them, as ` (1 cut, 2 checksum)`, and nothing where there is none
-abbrev pub in_brackets : List (List ℕ) → List ℕ
-in_brackets [] = []
-in_brackets (part ∷ parts) =
-    codes " (" ++ part ++ flat_map (λ further. codes ", " ++ further) parts ++ codes ")"
-
 unfoldable pub reasons_text : TallyValue → List ℕ
 reasons_text t = in_brackets (flat_map (reason_parts t) reasons)
 
 -- the frames of a link that is not read
-abbrev pub link_text : UnreadLink → List ℕ
-link_text l = codes ", " ++ decimal l.frames ++ codes " of link " ++ decimal l.link_type
+abbrev pub link_text : Count → List ℕ
+link_text row = codes ", " ++ decimal row.packets ++ codes " of link " ++ category_text row.category
 
-abbrev pub links_text : List UnreadLink → List ℕ
+abbrev pub links_text : List Count → List ℕ
 links_text links = flat_map link_text links
 
 -- a further number and what it counts, and nothing where there is none
 abbrev pub further_text : ℕ → List ℕ → List ℕ
 further_text count what = if count == 0 then [] else codes ", " ++ decimal count ++ what
 
--- as `5 packets, 2 listed, 1 refused (1 cut), 1 of other protocols, 3 of link 147`
+-- the fragments that were kept, by the protocols that they name
+abbrev pub fragments_text : TallyValue → List ℕ
+fragments_text t =
+    if t.fragments.all == 0 then []
+    else codes ", " ++ decimal t.fragments.all ++ codes " fragments" ++ counts_text t.fragments
+    ++ further_text t.joined (codes " of them put together")
+
+-- as `5 packets, 2 listed, 1 refused (1 cut), 2 of other protocols (1 tcp, 1 arp), 3 of link USER0`
 unfoldable pub summary_text : TallyValue → List ℕ
 summary_text t =
     decimal t.packets ++ codes " packets, " ++ decimal (listed_in t) ++ codes " listed, " ++ decimal (refused_in t)
-    ++ codes " refused" ++ reasons_text t ++ codes ", " ++ decimal t.other ++ codes " of other protocols"
-    ++ further_text t.passed (codes " of kinds that are not printed") ++ links_text t.links
-    ++ further_text t.beyond (codes " of other links")
+    ++ codes " refused" ++ reasons_text t ++ codes ", " ++ decimal t.others.all ++ codes " of other protocols"
+    ++ counts_text t.others ++ further_text t.passed (codes " of kinds that are not printed") ++ fragments_text t
+    ++ links_text t.links.rows ++ further_text t.links.further (codes " of other links")

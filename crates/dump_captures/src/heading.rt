@@ -10,11 +10,14 @@ ghost use Rattle.capture.specs.Capture.{packet_of};
 ghost use Rattle.capture.specs.Time.{value_of};
 ghost use Rattle.packet_fields.specs.Output.{Gains};
 ghost use Rattle.dump_captures.specs.Heading.{heading, packet_time, addresses_text, source_port as source_in};
-ghost use Rattle.dump_captures.specs.Heading.{destination_port as destination_in, tag_text, tags_text, hop_by_hop_text};
+ghost use Rattle.dump_captures.specs.Heading.{destination_port as destination_in, frames_text, tag_text, tags_text, hop_by_hop_text};
+ghost use Rattle.dump_captures.specs.Heading.{transport_text};
 ghost use Rattle.dump_captures.specs.Sight.{headers_of};
 
+use crate::numbers::Numbers;
 use crate::sight::Headers;
 use crate::time::Clock;
+use crate::tunnels::show_tunnels;
 use capture::{Record, Time};
 use frame_wire::Addresses;
 use packet_fields::Form;
@@ -46,8 +49,11 @@ pub fn show_heading<W: Write>(
     output.write_all(b" ")?;
     show_time(output, clock, captured.time)?;
     show_addresses(output, headers.addresses, headers.ports)?;
-    show_tags(output, headers.tags)?;
+    show_tags(output, headers.path.tags)?;
+    show_tunnels(output, &headers.path.tunnels)?;
+    show_frames(output, headers.path.frames)?;
     show_hop_by_hop(output, headers.hop_by_hop)?;
+    show_transport(output, headers.content.is_over_tcp())?;
     output.write_all(b" ")?;
     headers.content.kind().name().put(output, Form::Lines)?;
     output.write_all(b"\n")
@@ -162,6 +168,17 @@ pub(crate) fn show_vlan<W: Write>(output: &mut W, tag: &[u8]) -> io::Result<()>
     (tag.u16_at(VLAN) % 4096).put(output, Form::Lines)
 }
 
+// Prints the numbers of the packets that the fragments of a datagram came in.
+fn show_frames<W: Write>(output: &mut W, frames: &[u64]) -> io::Result<()>
+    ensures { OnOk result (Gains (W.contents output.old) (W.contents output.new) (frames_text frames.now)) }
+{
+    if frames.is_empty() {
+        return Ok(());
+    }
+    output.write_all(b" frames=")?;
+    Numbers(frames).put(output, Form::Lines)
+}
+
 fn show_hop_by_hop<W: Write>(output: &mut W, options: Option<&[u8]>) -> io::Result<()>
     ensures { OnOk result (Gains (W.contents output.old) (W.contents output.new)
         (hop_by_hop_text (option_map (λ octets. octets.now) options.entry))) }
@@ -170,4 +187,13 @@ fn show_hop_by_hop<W: Write>(output: &mut W, options: Option<&[u8]>) -> io::Resu
         Some(_) => output.write_all(b" hbh"),
         None => Ok(()),
     }
+}
+
+fn show_transport<W: Write>(output: &mut W, is_over_tcp: bool) -> io::Result<()>
+    ensures { OnOk result (Gains (W.contents output.old) (W.contents output.new) (transport_text is_over_tcp)) }
+{
+    if !is_over_tcp {
+        return Ok(());
+    }
+    output.write_all(b" tcp")
 }

@@ -32,7 +32,7 @@ The kinds:
   icmp4             ICMP over IPv4
   igmp              IGMP
   icmp6             ICMP over IPv6, with multicast listener and neighbor discovery
-  dns               UDP, where either port is 53; DNS over TCP is not read
+  dns               UDP, or TCP with whole messages, where either port is 53
   mdns              UDP, where either port is 5353
   llmnr             UDP, where either port is 5355
   nbns              UDP, where either port is 137
@@ -46,7 +46,7 @@ which its message is first refused. What can be read of it is printed all the sa
 `refused=PHRASE` that tells what is wrong.
 
   cut               the capture kept less of it than it takes
-  fragment          it is a fragment of a datagram
+  fragment          it is a fragment that is not put together with others
   short             it ends before its header or its own length does
   checksum          its checksum is wrong; so is that of a packet which was captured on the host that sends it, where
                     the network card fills it in

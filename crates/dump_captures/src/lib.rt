@@ -2,15 +2,21 @@
 #![tactic(auto)]
 
 pub mod arguments;
+mod content;
+pub mod counts;
 mod fault;
 mod files;
+mod fragments;
 mod heading;
 mod help;
 pub mod kind;
 mod members;
 mod messages;
+mod numbers;
 pub mod options;
 mod packets;
+mod path;
+mod place;
 mod program;
 pub mod refusal;
 mod reports;
@@ -19,6 +25,7 @@ pub mod summary;
 pub mod table;
 pub mod tally;
 pub mod time;
+mod tunnels;
 
 pub use fault::Fault;
 pub use files::{Captures, dump_all};

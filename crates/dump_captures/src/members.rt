@@ -1,6 +1,6 @@
 //! The members of a control packet's object in JSON that its heading has in lines.
 
-#![tactic(auto, using(packet_fields::proofs::Fields::prints_both, packet_fields::proofs::Printing::gained, packet_fields::proofs::Printing::gains_both, packet_fields::proofs::Printing::gains_none))]
+#![tactic(auto, using(packet_fields::proofs::Fields::prints_both, packet_fields::proofs::Fields::prints_none, packet_fields::proofs::Printing::gained, packet_fields::proofs::Printing::gains_both, packet_fields::proofs::Printing::gains_none))]
 
 ghost use Rattle.std.specs.Prelude.{◌<◌, ◌≤◌, IfSome, OnOk, length, true};
 ghost use Rattle.std.specs.Option.{option_map};
@@ -9,14 +9,16 @@ ghost use Rattle.capture.specs.Time.{value_of};
 ghost use Rattle.packet_fields.specs.Fields.{AllFit, comma_unless, leaf_text, numbers};
 ghost use Rattle.packet_fields.specs.Output.{Gains};
 ghost use Rattle.packet_fields.specs.Prints.{Prints};
-ghost use Rattle.dump_captures.specs.Heading.{addresses_items, ends_items, head_items, length_items, link_items};
-ghost use Rattle.dump_captures.specs.Heading.{path_items, port_items, time_items, vlans_of};
+ghost use Rattle.dump_captures.specs.Heading.{addresses_items, ends_items, frame_items, head_items, length_items};
+ghost use Rattle.dump_captures.specs.Heading.{link_items, path_items, port_items, time_items, transport_items, vlans_of};
 ghost use Rattle.dump_captures.specs.private.Vlans.{one_of, run_from};
 ghost use Rattle.dump_captures.specs.Sight.{headers_of};
 
 use crate::heading::{TAG_LEN, destination_port, show_vlan, source_port};
+use crate::numbers::Numbers;
 use crate::sight::Headers;
 use crate::time::Clock;
+use crate::tunnels::show_tunnel_members;
 use capture::{Record, Time};
 use frame_wire::Addresses;
 use frame_wire::names::link_name;
@@ -41,8 +43,7 @@ pub fn show_members<W: Write>(
     show_time(output, clock, captured.time)?;
     show_link(output, captured.link_type)?;
     show_lengths(output, octets.len() as u64, captured.original_len)?;
-    field(output, Form::Json, "vlans", Vlans(headers.tags))?;
-    show_path(output, headers.addresses, headers.ports)?;
+    show_path(output, headers)?;
     field(output, Form::Json, "kind", headers.content.kind().name())
 }
 
@@ -79,17 +80,37 @@ fn show_lengths<W: Write>(output: &mut W, len: u64, original_len: u32) -> io::Re
     field(output, Form::Json, "original_length", original_len)
 }
 
-// Prints the addresses and the ports.
-fn show_path<W: Write>(
-    output: &mut W,
-    addresses: Option<Addresses>,
-    ports: Option<(u16, u16)>,
-) -> io::Result<()>
+// Prints the way to the datagram, the addresses and the ports.
+fn show_path<W: Write>(output: &mut W, headers: &Headers<'_>) -> io::Result<()>
     ensures { OnOk result (Prints Form.Json (W.contents output.old) (W.contents output.new)
-        (path_items addresses ports)) }
+        (path_items (headers_of headers.now))) }
 {
-    show_addresses(output, addresses)?;
-    show_ports(output, ports)
+    field(output, Form::Json, "vlans", Vlans(headers.path.tags))?;
+    show_tunnel_members(output, &headers.path.tunnels)?;
+    show_addresses(output, headers.addresses)?;
+    show_ports(output, headers.ports)?;
+    show_frames(output, headers.path.frames)?;
+    show_transport(output, headers.content.is_over_tcp())
+}
+
+// Prints that a message came over TCP.
+fn show_transport<W: Write>(output: &mut W, is_over_tcp: bool) -> io::Result<()>
+    ensures { OnOk result (Prints Form.Json (W.contents output.old) (W.contents output.new) (transport_items is_over_tcp)) }
+{
+    if !is_over_tcp {
+        return Ok(());
+    }
+    field(output, Form::Json, "transport", "tcp")
+}
+
+// Prints the numbers of the packets that the fragments of a datagram came in.
+fn show_frames<W: Write>(output: &mut W, frames: &[u64]) -> io::Result<()>
+    ensures { OnOk result (Prints Form.Json (W.contents output.old) (W.contents output.new) (frame_items frames.now)) }
+{
+    if frames.is_empty() {
+        return Ok(());
+    }
+    field(output, Form::Json, "frames", Numbers(frames))
 }
 
 fn show_ports<W: Write>(output: &mut W, ports: Option<(u16, u16)>) -> io::Result<()>

@@ -1,22 +1,26 @@
 //! What a control packet holds, below its heading.
 
-ghost use Rattle.std.specs.Prelude.{◌≡◌, IfOk, Some};
+ghost use Rattle.std.specs.Prelude.{◌≡◌, ◌&&◌, IfOk, OnOk, Some};
 ghost use Rattle.std.specs.Option.{option_map};
 ghost use Rattle.message_fields.specs.Checksums.{value_of};
 ghost use Rattle.packet_fields.specs.Prints.{Prints, PrintsSome};
 ghost use Rattle.dump_captures.specs.Messages.{ContentIs, ListingIs, WholeIs, counted, refused_items};
+ghost use Rattle.dump_captures.specs.Messages.{first_of, header_items, header_reason};
 ghost use Rattle.dump_captures.specs.Refusals.{reason_of};
-ghost use Rattle.dump_captures.specs.Sight.{headers_of, content_of};
+ghost use Rattle.dump_captures.specs.Content.{content_of};
+ghost use Rattle.dump_captures.specs.Sight.{headers_of};
 
 use crate::Fault;
+use crate::content::Content;
 use crate::kind::Reason;
 use crate::options::Options;
 use crate::refusal::Refusal;
-use crate::sight::{Content, Headers};
+use crate::sight::Headers;
 use message_fields::{Message, show_cut_message, show_hop_by_hop, show_message};
 use packet_fields::Form;
 use packet_fields::field::field;
 use std::alloc::Global;
+use std::io;
 use std::io::Write;
 
 /// Prints what a control packet holds: its hop-by-hop options, and its message as far as it can be read. Returns why it
@@ -30,8 +34,51 @@ pub fn show_listing<W: Write>(
     ensures { IfOk result (λ why. PrintsSome options.now.form (W.contents output.old) (W.contents output.new)
         (λ items. ListingIs options.now (headers_of headers.now) items why)) }
 {
+    if is_header_refused(options, headers) {
+        let reason = header_reason(&headers.content);
+        return refuse(output, options.form, alloc, reason, &Refusal::Header);
+    }
+    show_header(output, options.form, headers.is_header_bad)?;
     show_hop_by_hop(output, options.form, headers.hop_by_hop)?;
-    show_content(options, output, alloc, &headers.content)
+    let told = show_content(options, output, alloc, &headers.content)?;
+    Ok(first_of(headers.is_header_bad, &headers.content, told))
+}
+
+// Whether a packet is refused for the checksum of its IPv4 header.
+fn is_header_refused(options: &Options, headers: &Headers<'_>) -> bool
+    ensures { result ≡ (options.now.is_strict && headers.now.is_header_bad) }
+{
+    options.is_strict && headers.is_header_bad
+}
+
+// Prints that the checksum of the IPv4 header is wrong, where it is.
+fn show_header<W: Write>(output: &mut W, form: Form, is_bad: bool) -> io::Result<()>
+    ensures { OnOk result (Prints form (W.contents output.old) (W.contents output.new) (header_items is_bad)) }
+{
+    if !is_bad {
+        return Ok(());
+    }
+    field(output, form, "ip_checksum", "bad")
+}
+
+// The reason under which a packet is counted whose IPv4 header has a wrong checksum.
+fn header_reason(content: &Content<'_>) -> Reason
+    ensures { Some result ≡ header_reason (content_of content.now) }
+{
+    match content {
+        Content::Cut(_, _, reason) => *reason,
+        _ => Reason::Checksum,
+    }
+}
+
+// The first of two reasons: that of the header, and that of the content.
+fn first_of(is_header_bad: bool, content: &Content<'_>, told: Option<Reason>) -> Option<Reason>
+    ensures { result ≡ first_of is_header_bad (content_of content.now) told }
+{
+    if is_header_bad {
+        return Some(header_reason(content));
+    }
+    told
 }
 
 // Prints a message, or why there is none to read.

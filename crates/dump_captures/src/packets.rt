@@ -1,29 +1,39 @@
 //! The packets of a capture, in one pass.
 
-ghost use Rattle.std.specs.Prelude.{◌≡◌, ◌<◌, ◌^◌, List, Option, [], IfOk, IfSome, OnOk};
+ghost use Rattle.std.specs.Prelude.{◌≡◌, ◌<◌, ◌-◌, ◌^◌, length, List, Option, [], IfOk, IfSome, OnOk};
 ghost use Rattle.capture.specs.Capture.{packet_of};
 ghost use Rattle.std.specs.Io.Buffered.{reader_remaining};
 ghost use Rattle.packet_fields.specs.Output.{Gains, GainsSome};
 ghost use Rattle.packet_fields.specs.Fields.{Item};
-ghost use Rattle.dump_captures.specs.Dump.{CapturePrints, ControlPrints, InputPrints, PacketPrints, outcome_of};
+ghost use Rattle.frame_wire.specs.TcpPrefixed.{messages_of};
+ghost use Rattle.reassembly.specs.Fragment.{value_of};
+ghost use Rattle.reassembly.specs.Partial.{whole_of};
+ghost use Rattle.reassembly.specs.Reassembly.{state_of};
+ghost use Rattle.dump_captures.specs.Dump.{CapturePrints, ControlPrints, FragmentAdds, InputPrints, PacketPrints};
+ghost use Rattle.dump_captures.specs.Dump.{EachTells, SightPrints, Tells, WholePrints, first_reason, outcome_of};
 ghost use Rattle.dump_captures.specs.Messages.{ListingIs};
+ghost use Rattle.dump_captures.specs.Path.{path_of};
 ghost use Rattle.dump_captures.specs.private.Objects.{object_front};
-ghost use Rattle.dump_captures.specs.Sight.{headers_of, content_of, kind_in, IsSight, control};
+ghost use Rattle.dump_captures.specs.Sight.{control, headers_of, sight_of, stream, stream_of};
 ghost use Rattle.dump_captures.specs.Tally.{tally_of, empty};
 ghost use Rattle.dump_captures.specs.declared.kind.Reason.{Reason as AnyReason};
 
 use crate::Fault;
+use crate::fragments::{look_at_joined, refused_fragment};
 use crate::heading::show_heading;
 use crate::kind::{Kind, Reason};
 use crate::members::show_members;
 use crate::messages::show_listing;
 use crate::options::Options;
-use crate::sight::{Headers, Sight, look};
-use crate::tally::{Outcome, Tally};
+use crate::path::Path;
+use crate::refusal::Refusal;
+use crate::sight::{Finding, Headers, Segment, Sight, look, protocol_category};
+use crate::tally::{Counted, Outcome, Tally};
 use crate::time::Clock;
 use capture::{Capture, Ending, Next, Record};
 use packet_fields::Form;
 use packet_fields::value::{Value, put_string};
+use reassembly::{Answer, Fragment, Reassembly, Whole};
 use std::alloc::Global;
 use std::io;
 use std::io::{BufReader, BufWriter, Read, Write};
@@ -111,6 +121,13 @@ pub fn dump_readable<R: Read + Drop, W: Write>(
     Ok(ending)
 }
 
+// What is kept from packet to packet of a capture.
+#[derive(Drop)]
+struct Kept {
+    clock: Clock,
+    fragments: Reassembly,
+}
+
 // Prints the packets, and returns what ends them, or None where a read failed. What is printed is written out before
 // the input is waited for.
 fn show_packets<R: Read, W: Write>(
@@ -125,14 +142,17 @@ fn show_packets<R: Read, W: Write>(
         ending)) }
 {
     let mut capture = Capture::new(alloc);
-    let mut clock = Clock::new();
+    let mut kept = Kept {
+        clock: Clock::new(),
+        fragments: Reassembly::new(alloc),
+    };
     'packets: for _ in 0..u64::MAX {
         write_out_before_wait(&capture, input, output)?;
         match capture.next(input) {
             Ok(Next::Record(record)) => {
                 let octets = capture.octets();
-                let outcome = show_packet(options, output, alloc, &mut clock, &record, octets)?;
-                tally.count(outcome, record.link_type, octets.len() as u64);
+                let counted = show_packet(options, output, alloc, &mut kept, &record, octets)?;
+                tally.count(counted, record.link_type, octets.len() as u64);
             }
             Ok(Next::Ended(ending)) => return Ok(Some(ending)),
             Err(capture::Fault::Read) => return Ok(None),
@@ -156,25 +176,195 @@ fn write_out_before_wait<R: Read, W: Write>(
     Ok(())
 }
 
-/// Prints a packet, and returns its outcome. Requires that the record's time is in order.
-pub fn show_packet<W: Write>(
+// Prints a packet, or the datagram that was put together with it. Requires that the record's time is in order.
+fn show_packet<W: Write>(
+    options: &Options,
+    output: &mut W,
+    alloc: Global,
+    kept: &mut Kept,
+    captured: &Record,
+    octets: &[u8],
+) -> Result<Counted, Fault>
+    requires { IfSome captured.now.time (λ time. time.nanoseconds < 1000000000) }
+    ensures { IfOk result (λ counted. GainsSome (W.contents output.old) (W.contents output.new) (λ text.
+        PacketPrints options.now captured.now.number (packet_of captured.now octets.now) (state_of kept.old.fragments)
+        text counted (state_of kept.new.fragments))) }
+{
+    match look(captured, octets) {
+        Finding::Sight(sight) => {
+            let outcome = show_sight(
+                options,
+                output,
+                alloc,
+                &mut kept.clock,
+                captured,
+                octets,
+                &sight,
+            )?;
+            Ok(Counted::alone(outcome))
+        }
+        Finding::Fragment(path, fragment) => {
+            show_fragment(
+                options, output, alloc, kept, captured, octets, &path, &fragment,
+            )
+        }
+    }
+}
+
+// Puts a fragment to those that are kept, and prints the datagram that is then whole, or why the fragment is refused.
+#[inline(never)]
+fn show_fragment<W: Write>(
+    options: &Options,
+    output: &mut W,
+    alloc: Global,
+    kept: &mut Kept,
+    captured: &Record,
+    octets: &[u8],
+    path: &Path<'_>,
+    fragment: &Fragment<'_>,
+) -> Result<Counted, Fault>
+    requires { IfSome captured.now.time (λ time. time.nanoseconds < 1000000000) }
+    ensures { IfOk result (λ counted. GainsSome (W.contents output.old) (W.contents output.new) (λ text.
+        FragmentAdds options.now captured.now.number (packet_of captured.now octets.now) (path_of path.now)
+        (value_of fragment.now) (state_of kept.old.fragments) text counted (state_of kept.new.fragments))) }
+{
+    let Ok(answer) = kept.fragments.add(alloc, captured.number, fragment) else {
+        return Err(Fault::Memory);
+    };
+    let clock = &mut kept.clock;
+    match &answer {
+        Answer::Incomplete(_) => Ok(Counted::alone(Outcome::Kept(protocol_category(
+            fragment.protocol,
+        )))),
+        Answer::Refused(refusal) => {
+            let sight = refused_fragment(path, fragment, Refusal::Fragment(*refusal));
+            let outcome = show_sight(options, output, alloc, clock, captured, octets, &sight)?;
+            Ok(Counted::alone(outcome))
+        }
+        Answer::Whole(whole) => {
+            let counted = show_whole(options, output, alloc, clock, captured, octets, path, whole)?;
+            Ok(counted)
+        }
+    }
+}
+
+// Prints a datagram that was put together with a packet.
+fn show_whole<W: Write>(
     options: &Options,
     output: &mut W,
     alloc: Global,
     clock: &mut Clock,
     captured: &Record,
     octets: &[u8],
+    path: &Path<'_>,
+    whole: &Whole,
+) -> Result<Counted, Fault>
+    requires { IfSome captured.now.time (λ time. time.nanoseconds < 1000000000) }
+    ensures { IfOk result (λ counted. GainsSome (W.contents output.old) (W.contents output.new) (λ text.
+        WholePrints options.now captured.now.number (packet_of captured.now octets.now) (path_of path.now)
+        (whole_of whole.now) text counted)) }
+{
+    let path = Path {
+        tags: path.tags,
+        tunnels: path.tunnels,
+        frames: whole.numbers.as_slice(),
+    };
+    let sight = look_at_joined(captured, octets, &path, whole);
+    let outcome = show_sight(options, output, alloc, clock, captured, octets, &sight)?;
+    Ok(Counted {
+        outcome,
+        joined: all_but_one(whole.numbers.as_slice()),
+    })
+}
+
+// How many of these packets came before the last one.
+fn all_but_one(numbers: &[u64]) -> u64
+    ensures { result ≡ length numbers.now - 1 }
+{
+    (numbers.len() as u64).saturating_sub(1)
+}
+
+// Prints a packet by what its headers tell, and returns its outcome.
+fn show_sight<W: Write>(
+    options: &Options,
+    output: &mut W,
+    alloc: Global,
+    clock: &mut Clock,
+    captured: &Record,
+    octets: &[u8],
+    sight: &Sight<'_>,
 ) -> Result<Outcome, Fault>
     requires { IfSome captured.now.time (λ time. time.nanoseconds < 1000000000) }
     ensures { IfOk result (λ outcome. GainsSome (W.contents output.old) (W.contents output.new) (λ text.
-        PacketPrints options.now captured.now.number (packet_of captured.now octets.now) text outcome)) }
+        SightPrints options.now captured.now.number (packet_of captured.now octets.now) (sight_of sight.now) text outcome)) }
 {
-    match &look(captured, octets) {
+    match sight {
         Sight::Unread => Ok(Outcome::Unread),
-        Sight::Other => Ok(Outcome::Other),
+        Sight::Other(category) => Ok(Outcome::Other(*category)),
         Sight::Control(headers) => {
             show_control(options, output, alloc, clock, captured, octets, headers)
         }
+        Sight::Segment(segment) => {
+            show_segment(options, output, alloc, clock, captured, octets, segment)
+        }
+    }
+}
+
+// Prints each message in a segment.
+#[inline(never)]
+fn show_segment<W: Write>(
+    options: &Options,
+    output: &mut W,
+    alloc: Global,
+    clock: &mut Clock,
+    captured: &Record,
+    octets: &[u8],
+    segment: &Segment<'_>,
+) -> Result<Outcome, Fault>
+    requires { IfSome captured.now.time (λ time. time.nanoseconds < 1000000000) }
+    ensures { IfOk result (λ outcome. GainsSome (W.contents output.old) (W.contents output.new) (λ text.
+        SightPrints options.now captured.now.number (packet_of captured.now octets.now) (stream (stream_of segment.now))
+        text outcome)) }
+{
+    if !options.only.chooses(&segment.headers(&[])) {
+        return Ok(Outcome::Passed);
+    }
+    let why = tell_each(options, output, alloc, clock, captured, octets, segment)?;
+    Ok(outcome(Kind::Dns, why))
+}
+
+// Prints each message in a segment, and returns the first reason for which one is refused or read in part.
+fn tell_each<W: Write>(
+    options: &Options,
+    output: &mut W,
+    alloc: Global,
+    clock: &mut Clock,
+    captured: &Record,
+    octets: &[u8],
+    segment: &Segment<'_>,
+) -> Result<Option<Reason>, Fault>
+    requires { IfSome captured.now.time (λ time. time.nanoseconds < 1000000000) }
+    ensures { IfOk result (λ why. GainsSome (W.contents output.old) (W.contents output.new)
+        (EachTells options.now captured.now.number (packet_of captured.now octets.now) (stream_of segment.now)
+        (messages_of segment.now.messages) why)) }
+{
+    let mut messages = segment.messages.messages();
+    let mut why = None;
+    while let Some(message) = messages.next() {
+        let headers = segment.headers(message);
+        let told = tell(options, output, alloc, clock, captured, octets, &headers)?;
+        why = first_reason(why, told);
+    }
+    Ok(why)
+}
+
+// The first of two reasons.
+fn first_reason(why: Option<Reason>, other: Option<Reason>) -> Option<Reason>
+    ensures { result ≡ first_reason why other }
+{
+    match why {
+        Some(reason) => Some(reason),
+        None => other,
     }
 }
 
@@ -190,19 +380,36 @@ fn show_control<W: Write>(
     octets: &[u8],
     headers: &Headers<'_>,
 ) -> Result<Outcome, Fault>
-    requires time { IfSome captured.now.time (λ time. time.nanoseconds < 1000000000) }
-    requires sight { IsSight (packet_of captured.now octets.now) (control (headers_of headers.now)) }
+    requires { IfSome captured.now.time (λ time. time.nanoseconds < 1000000000) }
     ensures { IfOk result (λ outcome. GainsSome (W.contents output.old) (W.contents output.new) (λ text.
-        PacketPrints options.now captured.now.number (packet_of captured.now octets.now) text outcome)) }
+        SightPrints options.now captured.now.number (packet_of captured.now octets.now) (control (headers_of headers.now))
+        text outcome)) }
 {
     if !options.only.chooses(headers) {
         return Ok(Outcome::Passed);
     }
-    if !options.prints {
-        return count_alone(options, alloc, headers);
-    }
-    let why = show_chosen(options, output, alloc, clock, captured, octets, headers)?;
+    let why = tell(options, output, alloc, clock, captured, octets, headers)?;
     Ok(outcome(headers.content.kind(), why))
+}
+
+// Prints a control packet that is chosen, or only reads it where packets are counted.
+fn tell<W: Write>(
+    options: &Options,
+    output: &mut W,
+    alloc: Global,
+    clock: &mut Clock,
+    captured: &Record,
+    octets: &[u8],
+    headers: &Headers<'_>,
+) -> Result<Option<Reason>, Fault>
+    requires { IfSome captured.now.time (λ time. time.nanoseconds < 1000000000) }
+    ensures { IfOk result (λ why. GainsSome (W.contents output.old) (W.contents output.new)
+        (Tells options.now captured.now.number (packet_of captured.now octets.now) (headers_of headers.now) why)) }
+{
+    if !options.prints {
+        return read_alone(options, alloc, headers);
+    }
+    show_chosen(options, output, alloc, clock, captured, octets, headers)
 }
 
 // Prints a control packet in the form that is asked for.
@@ -278,12 +485,15 @@ fn open_object<W: Write>(output: &mut W, number: u64) -> io::Result<()>
 }
 
 // Reads a control packet that is only counted.
-fn count_alone(options: &Options, alloc: Global, headers: &Headers<'_>) -> Result<Outcome, Fault>
-    ensures { IfOk result (λ outcome. (items : List Item) × (why : Option AnyReason)
-        × ListingIs options.now (headers_of headers.now) items why × (outcome ≡ outcome_of (kind_in (content_of headers.now.content)) why)) }
+fn read_alone(
+    options: &Options,
+    alloc: Global,
+    headers: &Headers<'_>,
+) -> Result<Option<Reason>, Fault>
+    ensures { IfOk result (λ why. (items : List Item) × ListingIs options.now (headers_of headers.now) items why) }
 {
     let why = show_listing(options, &mut io::sink(), alloc, headers)?;
-    Ok(outcome(headers.content.kind(), why))
+    Ok(why)
 }
 
 // The outcome for a control packet.

@@ -1,25 +1,32 @@
 //! What the headers of a packet tell.
 
-ghost use Rattle.std.specs.Prelude.{◌≡◌, None, drop};
+ghost use Rattle.std.specs.Prelude.{◌≡◌, ◌↔◌, None, IsTrue, drop};
 ghost use Rattle.std.specs.Option.{option_map};
 ghost use Rattle.wirebase.specs.Ipv4.{header_len_in};
 ghost use Rattle.capture.specs.Capture.{packet_of};
 ghost use Rattle.frame_wire.specs.Captured.{captured_of};
 ghost use Rattle.frame_wire.specs.Datagram.{value_of as datagram_of};
 ghost use Rattle.frame_wire.specs.Link.{value_of as frame_of};
-ghost use Rattle.dump_captures.specs.Sight.{sight_of, content_of, kind_in, content_by, datagram_sight, has_port, is_cut};
-ghost use Rattle.dump_captures.specs.Sight.{untold};
-ghost use Rattle.dump_captures.specs.Sight.{content_of_udp, front_content, kind_of_message, service_of, told, told_front};
-ghost use Rattle.dump_captures.specs.Sight.{head_of, ports_behind, IsRefused4};
-ghost use Rattle.message_fields.specs.Checksums.{value_of as message_of};
-ghost use Rattle.dump_captures.specs.Sight.{IsRefused6, IsFrameSight, IsSight};
+ghost use Rattle.dump_captures.specs.Path.{path_of};
+ghost use Rattle.dump_captures.specs.Place.{place_of, step_of};
+ghost use Rattle.dump_captures.specs.Content.{content_of};
+ghost use Rattle.dump_captures.specs.Sight.{sight_of, finding_of, headers_of, stream_headers, stream_of, datagram_sight, is_cut, untold, protocol_category, network_category};
+ghost use Rattle.dump_captures.specs.Sight.{front_content, told, told_front, head_of, ports_behind};
+ghost use Rattle.dump_captures.specs.Sight.{HasBadHeader, IsRefused4, IsRefused6, IsSight4, IsSight6, IsEndSight};
+ghost use Rattle.dump_captures.specs.Sight.{IsFrameSight, IsSight, IsWhole};
 
+use crate::content::{Content, content_by, messages_over_tcp};
+use crate::counts::Category;
 use crate::kind::{Kind, Reason};
+use crate::path::{Path, Tunnels};
+use crate::place::{Place, Step, Version, follow, packet_in};
 use crate::refusal::Refusal;
 use capture::Record;
-use frame_wire::{Addresses, Captured, Datagram, Extent, Frame, Head, Link, Network, udp};
-use message_fields::{Message, Service};
+use frame_wire::tcp::Prefixed;
+use frame_wire::{Addresses, Captured, Datagram, Extent, Frame, Head, Link};
+use message_fields::Message;
 use packet_fields::ports::ports_of;
+use reassembly::Fragment;
 use wirebase::{IpProtocol, Ipv4Packet};
 
 /// What the headers of a packet tell.
@@ -28,266 +35,287 @@ pub enum Sight<'a> {
     /// The frame is of an unsupported link.
     Unread,
     /// The packet is of another protocol.
-    Other,
+    Other(Category),
     /// It is a control packet.
     Control(Headers<'a>),
+    /// It is a segment of TCP with messages of DNS.
+    Segment(Segment<'a>),
+}
+
+/// What a packet leads to.
+#[derive(Debug, PartialEq, Eq, Clone, Copy)]
+pub enum Finding<'a> {
+    /// What its headers tell.
+    Sight(Sight<'a>),
+    /// A fragment of a datagram, to which this is the way.
+    Fragment(Path<'a>, Fragment<'a>),
 }
 
 /// What the headers of a control packet tell.
 #[derive(Debug, PartialEq, Eq, Clone, Copy)]
 pub struct Headers<'a> {
-    /// The VLAN tags, four bytes each.
-    pub tags: &'a [u8],
+    /// The way to its datagram.
+    pub path: Path<'a>,
     /// The addresses of the datagram, where they are known.
     pub addresses: Option<Addresses>,
     /// The ports of the source and the destination, where there are any.
     pub ports: Option<(u16, u16)>,
     /// The hop-by-hop options, where there are any.
     pub hop_by_hop: Option<&'a [u8]>,
+    /// Whether the checksum of the IPv4 header is wrong.
+    pub is_header_bad: bool,
     /// What it holds.
     pub content: Content<'a>,
 }
 
-/// What a control packet holds: a message, whole or in part, or nothing that can be read.
+/// A segment of TCP with messages of DNS.
 #[derive(Debug, PartialEq, Eq, Clone, Copy)]
-pub enum Content<'a> {
-    /// The message of a whole datagram.
-    Whole(Message<'a>),
-    /// The message of a datagram of which so many bytes are missing, counted under this reason.
-    Cut(Message<'a>, u64, Reason),
-    /// A packet of this kind that is refused and counted under this reason.
-    Refused(Kind, Reason, Refusal),
+pub struct Segment<'a> {
+    /// The way to its datagram.
+    pub path: Path<'a>,
+    /// Whether the checksum of the IPv4 header is wrong.
+    pub is_header_bad: bool,
+    /// The datagram.
+    pub datagram: Datagram<'a>,
+    /// The messages.
+    pub messages: Prefixed<'a>,
 }
 
-impl Content<'_> {
-    /// The kind of the packet.
-    #[inline]
-    pub fn kind(&self) -> Kind
-        ensures { result ≡ kind_in (content_of self.now) }
+impl<'a> Segment<'a> {
+    /// What the headers tell of one of its messages.
+    pub fn headers(&self, message: &'a [u8]) -> Headers<'a>
+        ensures { headers_of result ≡ stream_headers (stream_of self.now) message.now }
     {
-        match self {
-            Content::Whole(message) | Content::Cut(message, _, _) => kind_of(message),
-            Content::Refused(kind, _, _) => *kind,
+        let datagram = &self.datagram;
+        let message = Message::Tcp(datagram.addresses, datagram.payload, message);
+        Headers {
+            path: self.path,
+            addresses: Some(datagram.addresses),
+            ports: ports_of(datagram.protocol, datagram.payload),
+            hop_by_hop: datagram.hop_by_hop,
+            is_header_bad: self.is_header_bad,
+            content: Content::Whole(message),
         }
     }
 }
 
-// The kind of a message.
-fn kind_of(message: &Message<'_>) -> Kind
-    ensures { result ≡ kind_of_message (message_of message.now) }
-{
-    match message {
-        Message::Icmp4(_) => Kind::Icmp4,
-        Message::Igmp(_) => Kind::Igmp,
-        Message::Icmp6(_, _, _) => Kind::Icmp6,
-        Message::Udp(Service::Dns, _, _) => Kind::Dns,
-        Message::Udp(Service::Mdns, _, _) => Kind::Mdns,
-        Message::Udp(Service::Llmnr, _, _) => Kind::Llmnr,
-        Message::Udp(Service::Nbns, _, _) => Kind::Nbns,
-        Message::Udp(Service::Dhcp, _, _) => Kind::Dhcp,
-    }
-}
-
-/// What the headers of a packet tell, of which the capture has these octets.
-pub fn look<'a>(captured: &Record, octets: &'a [u8]) -> Sight<'a>
-    ensures { IsSight (packet_of captured.now octets.now) (sight_of result) }
+/// What a packet leads to, of which the capture has these octets.
+pub fn look<'a>(captured: &Record, octets: &'a [u8]) -> Finding<'a>
+    ensures { IsSight (packet_of captured.now octets.now) (finding_of result) }
 {
     let Some(link) = Link::of(captured.link_type) else {
-        return Sight::Unread;
+        return Finding::Sight(Sight::Unread);
     };
     match link.frame_or_refusal(octets) {
-        Ok(frame) => look_into(captured, octets, &frame),
+        Ok(frame) => look_into(captured, octets, link, &frame),
         Err(refusal) => {
             let refusal = Refusal::Frame(refusal);
-            untold(&[], refusal.reason(is_cut(captured, octets)), refusal)
+            let reason = refusal.reason(is_cut(captured, octets));
+            Finding::Sight(untold(NO_PATH, reason, refusal))
         }
     }
 }
 
-// What the headers in a frame tell.
-fn look_into<'a>(captured: &Record, octets: &[u8], frame: &Frame<'a>) -> Sight<'a>
-    ensures { IsFrameSight (packet_of captured.now octets.now) (frame_of frame.now) (sight_of result) }
-{
-    match frame.network {
-        Network::Ipv4 => match Datagram::parse_v4(frame.payload) {
-            Ok(datagram) => whole(frame.tags, &datagram),
-            Err(refusal) => {
-                let refusal = Refusal::Datagram(refusal);
-                let reason = refusal.reason(is_cut(captured, octets));
-                refused_v4(frame.tags, frame.payload, reason, refusal)
-            }
-        },
-        Network::Ipv6 => match Datagram::parse_v6(frame.payload) {
-            Ok(datagram) => whole(frame.tags, &datagram),
-            Err(refusal) => {
-                let refusal = Refusal::Datagram(refusal);
-                let reason = refusal.reason(is_cut(captured, octets));
-                refused_v6(frame.tags, frame.payload, reason, refusal)
-            }
-        },
-        Network::Other(_) => Sight::Other,
-    }
-}
+// Nothing is known of the way to a datagram.
+const NO_PATH: Path<'static> = Path {
+    tags: &[],
+    tunnels: Tunnels::Zero,
+    frames: &[],
+};
 
-// A packet of which too little can be read to tell its kind.
-const UNKNOWN: Content<'static> = Content::Refused(
-    Kind::Frame,
-    Reason::Short,
-    Refusal::Message(message_fields::Refusal::Udp(udp::Refusal::Short)),
-);
-
-// What a datagram between these addresses holds; None for other protocols.
-fn content_by<'a>(
-    addresses: &Addresses,
-    protocol: IpProtocol,
-    ports: Option<(u16, u16)>,
-    payload: &'a [u8],
-) -> Option<Content<'a>>
-    ensures { option_map content_of result ≡ content_by addresses.now protocol ports payload.now }
+// What a frame leads to.
+fn look_into<'a>(captured: &Record, octets: &[u8], link: Link, frame: &Frame<'a>) -> Finding<'a>
+    ensures { IsFrameSight (packet_of captured.now octets.now) link (frame_of frame.now) (finding_of result) }
 {
-    match addresses {
-        Addresses::V4(_, _) => match protocol {
-            IpProtocol::Icmp => Some(Content::Whole(Message::Icmp4(payload))),
-            IpProtocol::Igmp => Some(Content::Whole(Message::Igmp(payload))),
-            IpProtocol::Udp => content_of_udp(addresses, ports, payload),
-            _ => None,
-        },
-        Addresses::V6(src_addr, dst_addr) => match protocol {
-            IpProtocol::Icmpv6 => Some(Content::Whole(Message::Icmp6(
-                *src_addr, *dst_addr, payload,
-            ))),
-            IpProtocol::Udp => content_of_udp(addresses, ports, payload),
-            IpProtocol::HopByHop
-            | IpProtocol::Ipv6Route
-            | IpProtocol::Ipv6Frag
-            | IpProtocol::Ipv6Opts => Some(UNKNOWN),
-            _ => None,
-        },
-    }
-}
-
-// What a UDP datagram between these ports holds.
-fn content_of_udp<'a>(
-    addresses: &Addresses,
-    ports: Option<(u16, u16)>,
-    payload: &'a [u8],
-) -> Option<Content<'a>>
-    ensures { option_map content_of result ≡ content_of_udp addresses.now ports payload.now }
-{
-    let Some(ports) = ports else {
-        return Some(UNKNOWN);
+    let path = Path {
+        tags: frame.tags,
+        tunnels: Tunnels::Zero,
+        frames: &[],
     };
-    let service = service_of(addresses.is_v4(), ports)?;
-    Some(Content::Whole(Message::Udp(service, *addresses, payload)))
-}
-
-// The service of these ports, one of which is its own.
-fn service_of(is_v4: bool, ports: (u16, u16)) -> Option<Service>
-    ensures { result ≡ service_of is_v4 ports }
-{
-    if has_port(ports, 53) {
-        Some(Service::Dns)
-    } else if has_port(ports, 5353) {
-        Some(Service::Mdns)
-    } else if has_port(ports, 5355) {
-        Some(Service::Llmnr)
-    } else if has_port(ports, 137) {
-        Some(Service::Nbns)
-    } else if is_v4 && (has_port(ports, 67) || has_port(ports, 68)) {
-        Some(Service::Dhcp)
-    } else {
-        None
+    match packet_in(path, frame.network, frame.payload) {
+        Step::Other(number) => Finding::Sight(Sight::Other(network_category(link, number))),
+        Step::Datagram(place) => look_at_end(captured, octets, &follow(Step::Datagram(place))),
     }
 }
 
-// Whether a port is that of the source or of the destination.
-fn has_port(ports: (u16, u16), port: u16) -> bool
-    ensures { result ≡ has_port ports port }
+/// What there is where the tunnels end.
+pub fn look_at_end<'a>(captured: &Record, octets: &[u8], end: &Step<'a>) -> Finding<'a>
+    ensures { IsEndSight (packet_of captured.now octets.now) (step_of end.now) (finding_of result) }
 {
-    ports.0 == port || ports.1 == port
+    match end {
+        Step::Other(number) => Finding::Sight(Sight::Other(Category::EtherType(*number))),
+        Step::Datagram(place) => match place.version {
+            Version::V4 => look_at_v4(captured, octets, place),
+            Version::V6 => look_at_v6(captured, octets, place),
+        },
+    }
 }
 
-// What a whole datagram tells.
-fn whole<'a>(tags: &'a [u8], datagram: &Datagram<'a>) -> Sight<'a>
-    ensures { sight_of result ≡ datagram_sight tags.now (datagram_of datagram.now) }
+// What an IPv4 datagram is.
+fn look_at_v4<'a>(captured: &Record, octets: &[u8], place: &Place<'a>) -> Finding<'a>
+    ensures { IsSight4 (packet_of captured.now octets.now) (place_of place.now) (finding_of result) }
+{
+    let refusal = match Datagram::parse_v4(place.octets) {
+        Ok(datagram) => {
+            let is_bad = is_header_bad(place.octets);
+            return Finding::Sight(whole(&place.path, is_bad, &datagram));
+        }
+        Err(refusal) => Refusal::Datagram(refusal),
+    };
+    if let Some(fragment) = Fragment::parse_v4(place.octets) {
+        return Finding::Fragment(place.path, fragment);
+    }
+    let reason = refusal.reason(is_cut(captured, octets));
+    Finding::Sight(refused_v4(&place.path, place.octets, reason, refusal))
+}
+
+// What an IPv6 datagram is.
+fn look_at_v6<'a>(captured: &Record, octets: &[u8], place: &Place<'a>) -> Finding<'a>
+    ensures { IsSight6 (packet_of captured.now octets.now) (place_of place.now) (finding_of result) }
+{
+    let refusal = match Datagram::parse_v6(place.octets) {
+        Ok(datagram) => return Finding::Sight(whole(&place.path, false, &datagram)),
+        Err(refusal) => Refusal::Datagram(refusal),
+    };
+    if let Some(fragment) = Fragment::parse_v6(place.octets) {
+        return Finding::Fragment(place.path, fragment);
+    }
+    let reason = refusal.reason(is_cut(captured, octets));
+    Finding::Sight(refused_v6(&place.path, place.octets, reason, refusal))
+}
+
+// The bytes of an IPv4 header without options.
+const IPV4_HEADER_LEN: usize = 20;
+
+// Whether the IPv4 header at the start of the octets is there, and its checksum is wrong.
+fn is_header_bad(octets: &[u8]) -> bool
+    ensures { IsTrue result ↔ HasBadHeader octets.now }
+{
+    if octets.len() < IPV4_HEADER_LEN {
+        return false;
+    }
+    let packet = Ipv4Packet::new_unchecked(octets);
+    octets.len() >= packet.header_len() as usize && !packet.verify_checksum()
+}
+
+/// Packets of an IP protocol.
+pub fn protocol_category(protocol: IpProtocol) -> Category
+    ensures { result ≡ protocol_category protocol }
+{
+    Category::Protocol(u8::from(protocol))
+}
+
+// Packets of a network on a link that is not IP.
+fn network_category(link: Link, number: u16) -> Category
+    ensures { result ≡ network_category link number }
+{
+    if link.has_ether_types() {
+        return Category::EtherType(number);
+    }
+    Category::Network(number)
+}
+
+/// What a whole datagram tells, of which the checksum of the IPv4 header may be wrong.
+pub fn whole<'a>(path: &Path<'a>, is_header_bad: bool, datagram: &Datagram<'a>) -> Sight<'a>
+    ensures { IsWhole (path_of path.now) is_header_bad (datagram_of datagram.now) (sight_of result) }
+{
+    match messages_over_tcp(datagram) {
+        Some(messages) => Sight::Segment(Segment {
+            path: *path,
+            is_header_bad,
+            datagram: *datagram,
+            messages,
+        }),
+        None => by_protocol(path, is_header_bad, datagram),
+    }
+}
+
+// What a datagram tells by its protocol.
+fn by_protocol<'a>(path: &Path<'a>, is_header_bad: bool, datagram: &Datagram<'a>) -> Sight<'a>
+    ensures { sight_of result ≡ datagram_sight (path_of path.now) is_header_bad (datagram_of datagram.now) }
 {
     let (protocol, payload) = (datagram.protocol, datagram.payload);
     let ports = ports_of(protocol, payload);
     let Some(content) = content_by(&datagram.addresses, protocol, ports, payload) else {
-        return Sight::Other;
+        return Sight::Other(protocol_category(protocol));
     };
     Sight::Control(Headers {
-        tags,
+        path: *path,
         addresses: Some(datagram.addresses),
         ports,
         hop_by_hop: datagram.hop_by_hop,
+        is_header_bad,
         content,
     })
 }
 
-// Whether the capture kept only a part of a packet.
-fn is_cut(captured: &Record, octets: &[u8]) -> bool
+/// Whether the capture kept only a part of a packet.
+pub fn is_cut(captured: &Record, octets: &[u8]) -> bool
     ensures { result ≡ is_cut (packet_of captured.now octets.now) }
 {
     (octets.len() as u64) < captured.original_len as u64
 }
 
-// A packet of which only the VLAN tags are known.
-fn untold(tags: &[u8], reason: Reason, refusal: Refusal) -> Sight<'_>
-    ensures { sight_of result ≡ untold tags.now reason refusal }
+// A packet of which only the way to its datagram is known.
+fn untold(path: Path<'_>, reason: Reason, refusal: Refusal) -> Sight<'_>
+    ensures { sight_of result ≡ untold (path_of path.entry) reason refusal }
 {
     Sight::Control(Headers {
-        tags,
+        path,
         addresses: None,
         ports: None,
         hop_by_hop: None,
+        is_header_bad: false,
         content: Content::Refused(Kind::Frame, reason, refusal),
     })
 }
 
-// A refused datagram, of which this is known.
-fn told<'a>(
-    tags: &'a [u8],
+/// A refused datagram, of which this is known.
+pub fn told<'a>(
+    path: &Path<'a>,
     addresses: Addresses,
     protocol: IpProtocol,
     ports: Option<(u16, u16)>,
     reason: Reason,
     refusal: Refusal,
 ) -> Sight<'a>
-    ensures { sight_of result ≡ told tags.now addresses protocol ports reason refusal }
+    ensures { sight_of result ≡ told (path_of path.now) addresses protocol ports reason refusal }
 {
     let Some(content) = content_by(&addresses, protocol, ports, &[]) else {
-        return Sight::Other;
+        return Sight::Other(protocol_category(protocol));
     };
     Sight::Control(Headers {
-        tags,
+        path: *path,
         addresses: Some(addresses),
         ports,
         hop_by_hop: None,
+        is_header_bad: false,
         content: Content::Refused(content.kind(), reason, refusal),
     })
 }
 
 // A refused datagram, of which the start is known: what is there of one that is cut.
 fn told_front<'a>(
-    tags: &'a [u8],
+    path: &Path<'a>,
+    is_header_bad: bool,
     front: &Captured<'a>,
     reason: Reason,
     refusal: Refusal,
 ) -> Sight<'a>
-    ensures { sight_of result ≡ told_front tags.now (captured_of front.now) reason refusal }
+    ensures { sight_of result ≡ told_front (path_of path.now) is_header_bad (captured_of front.now) reason refusal }
 {
     let datagram = &front.datagram;
     let (protocol, payload) = (datagram.protocol, datagram.payload);
     let ports = ports_of(protocol, payload);
     let Some(content) = content_by(&datagram.addresses, protocol, ports, payload) else {
-        return Sight::Other;
+        return Sight::Other(protocol_category(protocol));
     };
     Sight::Control(Headers {
-        tags,
+        path: *path,
         addresses: Some(datagram.addresses),
         ports,
         hop_by_hop: datagram.hop_by_hop,
+        is_header_bad,
         content: front_content(front.extent, reason, refusal, content),
     })
 }
@@ -310,17 +338,17 @@ fn front_content(
 }
 
 // What is known of a refused IPv4 datagram, as far as it was captured.
-fn refused_v4<'a>(tags: &'a [u8], octets: &'a [u8], reason: Reason, refusal: Refusal) -> Sight<'a>
-    ensures { IsRefused4 tags.now octets.now reason refusal (sight_of result) }
+fn refused_v4<'a>(path: &Path<'a>, octets: &'a [u8], reason: Reason, refusal: Refusal) -> Sight<'a>
+    ensures { IsRefused4 (path_of path.now) octets.now reason refusal (sight_of result) }
 {
     match Captured::parse_v4(octets) {
-        Ok(front) => told_front(tags, &front, reason, refusal),
+        Ok(front) => told_front(path, is_header_bad(octets), &front, reason, refusal),
         Err(other) => match head_of(other) {
             Some(head) => {
                 let ports = ports_behind(octets, &head);
-                told(tags, head.addresses, head.protocol, ports, reason, refusal)
+                told(path, head.addresses, head.protocol, ports, reason, refusal)
             }
-            None => untold(tags, reason, refusal),
+            None => untold(*path, reason, refusal),
         },
     }
 }
@@ -348,14 +376,14 @@ fn behind_header(octets: &[u8]) -> &[u8]
 }
 
 // What is known of a refused IPv6 datagram, as far as it was captured.
-fn refused_v6<'a>(tags: &'a [u8], octets: &'a [u8], reason: Reason, refusal: Refusal) -> Sight<'a>
-    ensures { IsRefused6 tags.now octets.now reason refusal (sight_of result) }
+fn refused_v6<'a>(path: &Path<'a>, octets: &'a [u8], reason: Reason, refusal: Refusal) -> Sight<'a>
+    ensures { IsRefused6 (path_of path.now) octets.now reason refusal (sight_of result) }
 {
     match Captured::parse_v6(octets) {
-        Ok(front) => told_front(tags, &front, reason, refusal),
+        Ok(front) => told_front(path, false, &front, reason, refusal),
         Err(other) => match head_of(other) {
-            Some(head) => told(tags, head.addresses, head.protocol, None, reason, refusal),
-            None => untold(tags, reason, refusal),
+            Some(head) => told(path, head.addresses, head.protocol, None, reason, refusal),
+            None => untold(*path, reason, refusal),
         },
     }
 }

@@ -2,15 +2,19 @@
 
 #![tactic(auto, using(packet_fields::proofs::Printing::gained, packet_fields::proofs::Printing::gains_both))]
 
-ghost use Rattle.std.specs.Prelude.{◌≡◌, ◌++◌, OnOk, codes, decimal, if◌then◌else◌};
+ghost use Rattle.std.specs.Prelude.{◌≡◌, ◌==◌, ◌&&◌, [], ◌++◌, IfOk, OnOk, codes, decimal, if◌then◌else◌};
 ghost use Rattle.packet_fields.specs.Output.{Gains};
+ghost use Rattle.dump_captures.specs.Counts.{counts_of, counts_text, further_parts, row_part};
 ghost use Rattle.dump_captures.specs.Kinds.{reason_text};
 ghost use Rattle.dump_captures.specs.Summary.{listed_in, refused_for, refused_in};
-ghost use Rattle.dump_captures.specs.Summary.{summary_text, reasons_text, link_text, links_text, further_text};
+ghost use Rattle.dump_captures.specs.Summary.{summary_text, reasons_text, fragments_text, link_text, links_text};
+ghost use Rattle.dump_captures.specs.Summary.{further_text};
+ghost use Rattle.dump_captures.specs.private.Brackets.{appended, before, is_none, opened, row_parts};
 ghost use Rattle.dump_captures.specs.Tally.{tally_of};
 
+use crate::counts::{Count, Counts};
 use crate::kind::Reason;
-use crate::tally::{Tally, UnreadLink};
+use crate::tally::Tally;
 use packet_fields::Form;
 use packet_fields::value::Value;
 use std::io;
@@ -30,11 +34,13 @@ pub fn write_summary<W: Write>(output: &mut W, tally: &Tally) -> io::Result<()>
     output.write_all(b" refused")?;
     write_reasons(output, tally)?;
     output.write_all(b", ")?;
-    tally.other.put(output, Form::Lines)?;
+    tally.others.all.put(output, Form::Lines)?;
     output.write_all(b" of other protocols")?;
+    write_counts(output, &tally.others)?;
     write_further(output, tally.passed, " of kinds that are not printed")?;
-    write_links(output, tally.links.as_slice())?;
-    write_further(output, tally.beyond, " of other links")
+    write_fragments(output, tally)?;
+    write_links(output, tally.links.rows.as_slice())?;
+    write_further(output, tally.links.further, " of other links")
 }
 
 // The number of listed packets.
@@ -98,8 +104,7 @@ fn write_reason<W: Write>(
     reason: Reason,
 ) -> io::Result<()>
     ensures { OnOk result (Gains (W.contents output.old) (W.contents output.new)
-        ((if is_first then codes " (" else codes ", ")
-        ++ (decimal count ++ codes " " ++ reason_text reason))) }
+        (before is_first ++ (decimal count ++ codes " " ++ reason_text reason))) }
 {
     write_before(output, is_first)?;
     write_count(output, count, reason)
@@ -107,7 +112,7 @@ fn write_reason<W: Write>(
 
 fn write_before<W: Write>(output: &mut W, is_first: bool) -> io::Result<()>
     ensures { OnOk result (Gains (W.contents output.old) (W.contents output.new)
-        (if is_first then codes " (" else codes ", ")) }
+        (before is_first)) }
 {
     if is_first {
         return output.write_all(b" (");
@@ -124,8 +129,76 @@ fn write_count<W: Write>(output: &mut W, count: u64, reason: Reason) -> io::Resu
     reason.name().put(output, Form::Lines)
 }
 
+// The packets of each category, in brackets.
+fn write_counts<W: Write>(output: &mut W, counts: &Counts) -> io::Result<()>
+    ensures { OnOk result (Gains (W.contents output.old) (W.contents output.new) (counts_text (counts_of counts.now))) }
+{
+    let is_first = write_rows(output, counts.rows.as_slice())?;
+    write_others(output, is_first, counts.further)?;
+    write_end(output, is_first, counts.further)
+}
+
+// The packets of each of these rows, without the bracket at the end; returns whether there are none.
+fn write_rows<W: Write>(output: &mut W, rows: &[Count]) -> io::Result<bool>
+    ensures { IfOk result (λ is_first. (is_first ≡ is_none (row_parts rows.now))
+        × Gains (W.contents output.old) (W.contents output.new) (opened (row_parts rows.now))) }
+{
+    let mut is_first = true;
+    for row in rows {
+        write_row(output, is_first, row)?;
+        is_first = false;
+    }
+    Ok(is_first)
+}
+
+fn write_row<W: Write>(output: &mut W, is_first: bool, row: &Count) -> io::Result<()>
+    ensures { OnOk result (Gains (W.contents output.old) (W.contents output.new) (before is_first ++ row_part row.now)) }
+{
+    write_before(output, is_first)?;
+    row.packets.put(output, Form::Lines)?;
+    output.write_all(b" ")?;
+    row.category.write_name(output)
+}
+
+// The packets of further categories, where there are any.
+fn write_others<W: Write>(output: &mut W, is_first: bool, further: u64) -> io::Result<()>
+    ensures { OnOk result (Gains (W.contents output.old) (W.contents output.new) (appended is_first (further_parts further))) }
+{
+    if further == 0 {
+        return Ok(());
+    }
+    write_before(output, is_first)?;
+    further.put(output, Form::Lines)?;
+    output.write_all(b" further")
+}
+
+// The bracket at the end, where something precedes it.
+fn write_end<W: Write>(output: &mut W, is_first: bool, further: u64) -> io::Result<()>
+    ensures { OnOk result (Gains (W.contents output.old) (W.contents output.new)
+        (if is_first && (further == 0) then [] else codes ")")) }
+{
+    if is_first && further == 0 {
+        return Ok(());
+    }
+    output.write_all(b")")
+}
+
+// The fragments that were kept, where there are any.
+fn write_fragments<W: Write>(output: &mut W, tally: &Tally) -> io::Result<()>
+    ensures { OnOk result (Gains (W.contents output.old) (W.contents output.new) (fragments_text (tally_of tally.now))) }
+{
+    if tally.fragments.all == 0 {
+        return Ok(());
+    }
+    output.write_all(b", ")?;
+    tally.fragments.all.put(output, Form::Lines)?;
+    output.write_all(b" fragments")?;
+    write_counts(output, &tally.fragments)?;
+    write_further(output, tally.joined, " of them put together")
+}
+
 // The number of frames of each unsupported link.
-fn write_links<W: Write>(output: &mut W, links: &[UnreadLink]) -> io::Result<()>
+fn write_links<W: Write>(output: &mut W, links: &[Count]) -> io::Result<()>
     ensures { OnOk result (Gains (W.contents output.old) (W.contents output.new)
         (links_text links.now)) }
 {
@@ -135,14 +208,14 @@ fn write_links<W: Write>(output: &mut W, links: &[UnreadLink]) -> io::Result<()>
     Ok(())
 }
 
-fn write_link<W: Write>(output: &mut W, link: &UnreadLink) -> io::Result<()>
+fn write_link<W: Write>(output: &mut W, link: &Count) -> io::Result<()>
     ensures { OnOk result (Gains (W.contents output.old) (W.contents output.new)
         (link_text link.now)) }
 {
     output.write_all(b", ")?;
-    link.frames.put(output, Form::Lines)?;
+    link.packets.put(output, Form::Lines)?;
     output.write_all(b" of link ")?;
-    link.link_type.put(output, Form::Lines)
+    link.category.write_name(output)
 }
 
 // A further number and what it counts, where it is not 0.

@@ -7,7 +7,8 @@ use Rattle.dump_captures.specs.Arguments.{wrong_value, ReadingValue, Reads, help
 use Rattle.dump_captures.specs.declared.arguments.Reading.{Reading}
 use Rattle.dump_captures.specs.declared.arguments.Step.{Step}
 use Rattle.dump_captures.specs.declared.arguments.Step.TheVariants as step
-use Rattle.dump_captures.specs.declared.tally.UnreadLink.{UnreadLink}
+use Rattle.dump_captures.specs.declared.counts.Count.{Count}
+use Rattle.dump_captures.specs.declared.counts.Category.TheVariants as category
 
 abbrev pub reading_of : Reading → ReadingValue
 reading_of r = record {
@@ -24,8 +25,8 @@ reads_of step.Help r = ends help
 reads_of step.Version r = ends version
 reads_of (step.Unknown wrong) r = ends (unknown (wrong_value wrong))
 
-abbrev pub no_link : UnreadLink
-no_link = record { link_type = 0; frames = 0 }
+abbrev pub no_count : Count
+no_count = record { category = category.Link 0; packets = 0 }
 
 -- what is kept of a date: all of it but the digits of its year before the last four
 unfoldable pub kept_text : Date → List ℕ

@@ -4,12 +4,13 @@ use super::PRINTED;
 use super::packets::{PACKETS, append, append_interface, append_packet, append_section, pcap};
 use crate::testing::{holds_of, same_of};
 use capture::Ending;
+use dump_captures::counts::Category;
 use dump_captures::kind::{Kind, Reason};
 use dump_captures::options::{Only, Options};
 use dump_captures::run_onto;
 use dump_captures::summary::write_summary;
 use dump_captures::table::show_table;
-use dump_captures::tally::{Outcome, Row, Tally};
+use dump_captures::tally::{Counted, Outcome, Row, Tally};
 use packet_fields::Form;
 use std::alloc::Global;
 use std::process::Abort;
@@ -66,8 +67,8 @@ const CHOSEN: &[Chosen] = &[
             llmnr\t0\t0\t0\t0\t0\t0\t0\t0\t0\t0\n\
             nbns\t0\t0\t0\t0\t0\t0\t0\t0\t0\t0\n\
             dhcp\t1\t0\t0\t0\t0\t0\t0\t0\t0\t318\n\
-            frame\t0\t0\t1\t0\t0\t0\t0\t0\t0\t44\n",
-        "13 packets, 9 listed, 3 refused (1 fragment, 1 checksum, 1 name), 1 of other protocols",
+            frame\t0\t0\t0\t0\t0\t0\t0\t0\t0\t0\n",
+        "13 packets, 9 listed, 2 refused (1 checksum, 1 name), 1 of other protocols (1 tcp), 1 fragments (1 udp)",
     ),
     (
         Only {
@@ -84,7 +85,8 @@ const CHOSEN: &[Chosen] = &[
             nbns\t0\t0\t0\t0\t0\t0\t0\t0\t0\t0\n\
             dhcp\t0\t0\t0\t0\t0\t0\t0\t0\t0\t0\n\
             frame\t0\t0\t0\t0\t0\t0\t0\t0\t0\t0\n",
-        "13 packets, 1 listed, 0 refused, 1 of other protocols, 11 of kinds that are not printed",
+        "13 packets, 1 listed, 0 refused, 1 of other protocols (1 tcp), 10 of kinds that are not printed, \
+            1 fragments (1 udp)",
     ),
     (
         Only {
@@ -93,15 +95,16 @@ const CHOSEN: &[Chosen] = &[
         },
         &[3, 10, 11, 12],
         "dns\t1\t0\t0\t0\t1\t0\t0\t1\t0\t170\n\
-            frame\t0\t0\t1\t0\t0\t0\t0\t0\t0\t44\n",
-        "13 packets, 1 listed, 3 refused (1 fragment, 1 checksum, 1 name), 1 of other protocols, \
-            8 of kinds that are not printed",
+            frame\t0\t0\t0\t0\t0\t0\t0\t0\t0\t0\n",
+        "13 packets, 1 listed, 2 refused (1 checksum, 1 name), 1 of other protocols (1 tcp), \
+            8 of kinds that are not printed, 1 fragments (1 udp)",
     ),
     (
         Only::NONE,
         &[],
         "",
-        "13 packets, 0 listed, 0 refused, 1 of other protocols, 12 of kinds that are not printed",
+        "13 packets, 0 listed, 0 refused, 1 of other protocols (1 tcp), 11 of kinds that are not printed, \
+            1 fragments (1 udp)",
     ),
 ];
 
@@ -140,18 +143,18 @@ fn packets_that_are_chosen(rt: HostRuntime) {
 }
 
 // What becomes of packets of a link, each so often, and how a capture of them is summed up.
-type Counted = (&'static [(Outcome, u16, u64)], &'static str);
+type Outcomes = (&'static [(Outcome, u16, u64)], &'static str);
 
-const COUNTED: &[Counted] = &[
+const COUNTED: &[Outcomes] = &[
     (&[], "0 packets, 0 listed, 0 refused, 0 of other protocols"),
     (
         &[
             (Outcome::Listed(Kind::Icmp4), 1, 2),
             (Outcome::Refused(Kind::Dns, Reason::Cut), 1, 1),
-            (Outcome::Other, 1, 1),
+            (Outcome::Other(TCP), 1, 1),
             (Outcome::Unread, 147, 1),
         ],
-        "5 packets, 2 listed, 1 refused (1 cut), 1 of other protocols, 1 of link 147",
+        "5 packets, 2 listed, 1 refused (1 cut), 1 of other protocols (1 tcp), 1 of link USER0",
     ),
     (
         &[
@@ -177,9 +180,24 @@ const COUNTED: &[Counted] = &[
             (Outcome::Unread, 65_535, 3),
         ],
         "9 packets, 0 listed, 0 refused, 0 of other protocols, 3 of kinds that are not printed, \
-            4 of link 65535, 2 of link 0",
+            4 of link 65535, 2 of link NULL",
+    ),
+    (
+        &[
+            (Outcome::Kept(TCP), 1, 2),
+            (Outcome::Other(Category::EtherType(0x0806)), 1, 2),
+            (Outcome::Other(Category::EtherType(0x88b5)), 1, 1),
+            (Outcome::Other(Category::Protocol(253)), 1, 1),
+            (Outcome::Other(Category::Network(0xc021)), 9, 3),
+            (Outcome::Other(Category::EtherType(0x0806)), 1, 1),
+            (Outcome::Kept(Category::Protocol(17)), 1, 1),
+        ],
+        "11 packets, 0 listed, 0 refused, 8 of other protocols (3 arp, 1 ethertype 0x88b5, 1 protocol 253, \
+            3 network 49185), 3 fragments (2 tcp, 1 udp)",
     ),
 ];
+
+const TCP: Category = Category::Protocol(6);
 
 #[test]
 fn lines_that_sum_up(rt: HostRuntime) {
@@ -187,7 +205,7 @@ fn lines_that_sum_up(rt: HostRuntime) {
         let mut tally = Tally::new();
         for (outcome, link_type, count) in *outcomes {
             for _ in 0..*count {
-                tally.count(*outcome, *link_type, 60);
+                tally.count(Counted::alone(*outcome), *link_type, 60);
             }
         }
         check_told(&rt, rt.alloc(), &Only::NONE, &tally, "", summary);
@@ -213,10 +231,10 @@ fn frames_of_eighteen_links(rt: HostRuntime) {
         164, 163, 147, 162,
     ];
     const SUMMARY: &str =
-        "22 packets, 0 listed, 0 refused, 0 of other protocols, 3 of link 147, 1 of link 148, \
-        1 of link 149, 1 of link 150, 1 of link 151, 1 of link 152, 1 of link 153, 1 of link 154, 1 of link 155, \
-        1 of link 156, 1 of link 157, 1 of link 158, 1 of link 159, 1 of link 160, 1 of link 161, 2 of link 162, \
-        3 of other links";
+        "22 packets, 0 listed, 0 refused, 0 of other protocols, 3 of link USER0, 1 of link USER1, \
+        1 of link USER2, 1 of link USER3, 1 of link USER4, 1 of link USER5, 1 of link USER6, 1 of link USER7, \
+        1 of link USER8, 1 of link USER9, 1 of link USER10, 1 of link USER11, 1 of link USER12, 1 of link USER13, \
+        1 of link USER14, 2 of link USER15, 3 of other links";
     let alloc = rt.alloc();
     let capture = unread(&rt, alloc, LINKS);
     let mut output = Vec::new(alloc);
@@ -235,17 +253,22 @@ fn counts_at_their_limit(rt: HostRuntime) {
     const DHCP: usize = 7;
     let mut tally = Tally::new();
     tally.packets = MOST;
-    tally.other = MOST;
+    tally.others.all = MOST;
+    tally.joined = MOST - 1;
     tally.passed = MOST;
     tally.rows[DHCP].listed = MOST;
     tally.rows[DHCP].refused[5] = MOST;
     tally.rows[DHCP].octets = MOST - 1;
-    tally.count(Outcome::Other, 1, 2);
-    tally.count(Outcome::Passed, 1, 2);
-    tally.count(Outcome::Listed(Kind::Dhcp), 1, 2);
-    tally.count(Outcome::Refused(Kind::Dhcp, Reason::Quote), 1, 2);
-    let totals = (tally.packets, tally.other, tally.passed);
-    same_of(&rt, "totals", totals, (MOST, MOST, MOST));
+    tally.count(Counted::alone(Outcome::Other(TCP)), 1, 2);
+    tally.count(Counted::alone(Outcome::Passed), 1, 2);
+    let joined = Counted {
+        outcome: Outcome::Listed(Kind::Dhcp),
+        joined: 2,
+    };
+    tally.count(joined, 1, 2);
+    tally.count(Counted::alone(Outcome::Refused(Kind::Dhcp, Reason::Quote)), 1, 2);
+    let totals = (tally.packets, tally.others.all, tally.passed, tally.joined);
+    same_of(&rt, "totals", totals, (MOST, MOST, MOST, MOST));
     let row = Row {
         listed: MOST,
         refused: [0, 0, 0, 0, 0, MOST, 0, 0],

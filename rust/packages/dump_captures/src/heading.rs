@@ -1,8 +1,10 @@
 // Made from crates/dump_captures/src/heading.rt by rust/erase.
 //! The heading of a control packet.
 
+use crate::numbers::Numbers;
 use crate::sight::Headers;
 use crate::time::Clock;
+use crate::tunnels::show_tunnels;
 use capture::{Record, Time};
 use control_wire::frames::Addresses;
 use control_wire::inside::text::{put_v4, put_v6};
@@ -30,8 +32,11 @@ pub fn show_heading<W: Write>(
     output.write_all(b" ")?;
     show_time(output, clock, captured.time)?;
     show_addresses(output, headers.addresses, headers.ports)?;
-    show_tags(output, headers.tags)?;
+    show_tags(output, headers.path.tags)?;
+    show_tunnels(output, &headers.path.tunnels)?;
+    show_frames(output, headers.path.frames)?;
     show_hop_by_hop(output, headers.hop_by_hop)?;
+    show_transport(output, headers.content.is_over_tcp())?;
     output.write_all(b" ")?;
     headers.content.kind().name().put(output, Form::Lines)?;
     output.write_all(b"\n")
@@ -121,9 +126,25 @@ pub(crate) fn show_vlan<W: Write>(output: &mut W, tag: &[u8]) -> io::Result<()> 
     (tag.u16_at(VLAN) % 4096).put(output, Form::Lines)
 }
 
+// Prints the numbers of the packets that the fragments of a datagram came in.
+fn show_frames<W: Write>(output: &mut W, frames: &[u64]) -> io::Result<()> {
+    if frames.is_empty() {
+        return Ok(());
+    }
+    output.write_all(b" frames=")?;
+    Numbers(frames).put(output, Form::Lines)
+}
+
 fn show_hop_by_hop<W: Write>(output: &mut W, options: Option<&[u8]>) -> io::Result<()> {
     match options {
         Some(_) => output.write_all(b" hbh"),
         None => Ok(()),
     }
+}
+
+fn show_transport<W: Write>(output: &mut W, is_over_tcp: bool) -> io::Result<()> {
+    if !is_over_tcp {
+        return Ok(());
+    }
+    output.write_all(b" tcp")
 }

@@ -2,8 +2,10 @@
 //! The members of a control packet's object in JSON that its heading has in lines.
 
 use crate::heading::{TAG_LEN, destination_port, show_vlan, source_port};
+use crate::numbers::Numbers;
 use crate::sight::Headers;
 use crate::time::Clock;
+use crate::tunnels::show_tunnel_members;
 use capture::{Record, Time};
 use control_wire::frames::Addresses;
 use control_wire::frames::names::link_name;
@@ -24,8 +26,7 @@ pub fn show_members<W: Write>(
     show_time(output, clock, captured.time)?;
     show_link(output, captured.link_type)?;
     show_lengths(output, octets.len() as u64, captured.original_len)?;
-    field(output, Form::Json, "vlans", Vlans(headers.tags))?;
-    show_path(output, headers.addresses, headers.ports)?;
+    show_path(output, headers)?;
     field(output, Form::Json, "kind", headers.content.kind().name())
 }
 
@@ -52,14 +53,30 @@ fn show_lengths<W: Write>(output: &mut W, len: u64, original_len: u32) -> io::Re
     field(output, Form::Json, "original_length", original_len)
 }
 
-// Prints the addresses and the ports.
-fn show_path<W: Write>(
-    output: &mut W,
-    addresses: Option<Addresses>,
-    ports: Option<(u16, u16)>,
-) -> io::Result<()> {
-    show_addresses(output, addresses)?;
-    show_ports(output, ports)
+// Prints the way to the datagram, the addresses and the ports.
+fn show_path<W: Write>(output: &mut W, headers: &Headers<'_>) -> io::Result<()> {
+    field(output, Form::Json, "vlans", Vlans(headers.path.tags))?;
+    show_tunnel_members(output, &headers.path.tunnels)?;
+    show_addresses(output, headers.addresses)?;
+    show_ports(output, headers.ports)?;
+    show_frames(output, headers.path.frames)?;
+    show_transport(output, headers.content.is_over_tcp())
+}
+
+// Prints that a message came over TCP.
+fn show_transport<W: Write>(output: &mut W, is_over_tcp: bool) -> io::Result<()> {
+    if !is_over_tcp {
+        return Ok(());
+    }
+    field(output, Form::Json, "transport", "tcp")
+}
+
+// Prints the numbers of the packets that the fragments of a datagram came in.
+fn show_frames<W: Write>(output: &mut W, frames: &[u64]) -> io::Result<()> {
+    if frames.is_empty() {
+        return Ok(());
+    }
+    field(output, Form::Json, "frames", Numbers(frames))
 }
 
 fn show_ports<W: Write>(output: &mut W, ports: Option<(u16, u16)>) -> io::Result<()> {

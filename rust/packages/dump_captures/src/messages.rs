@@ -2,13 +2,15 @@
 //! What a control packet holds, below its heading.
 
 use crate::Fault;
+use crate::content::Content;
 use crate::kind::Reason;
 use crate::options::Options;
 use crate::refusal::Refusal;
-use crate::sight::{Content, Headers};
+use crate::sight::Headers;
 use message_fields::{Message, show_cut_message, show_hop_by_hop, show_message};
 use packet_fields::Form;
 use packet_fields::field::field;
+use rattle_std::io;
 use rattle_std::io::Write;
 #[allow(unused_imports)]
 use rattle_std::prelude::*;
@@ -20,8 +22,43 @@ pub fn show_listing<W: Write>(
     output: &mut W,
     headers: &Headers<'_>,
 ) -> Result<Option<Reason>, Fault> {
+    if is_header_refused(options, headers) {
+        let reason = header_reason(&headers.content);
+        return refuse(output, options.form, reason, &Refusal::Header);
+    }
+    show_header(output, options.form, headers.is_header_bad)?;
     show_hop_by_hop(output, options.form, headers.hop_by_hop)?;
-    show_content(options, output, &headers.content)
+    let told = show_content(options, output, &headers.content)?;
+    Ok(first_of(headers.is_header_bad, &headers.content, told))
+}
+
+// Whether a packet is refused for the checksum of its IPv4 header.
+fn is_header_refused(options: &Options, headers: &Headers<'_>) -> bool {
+    options.is_strict && headers.is_header_bad
+}
+
+// Prints that the checksum of the IPv4 header is wrong, where it is.
+fn show_header<W: Write>(output: &mut W, form: Form, is_bad: bool) -> io::Result<()> {
+    if !is_bad {
+        return Ok(());
+    }
+    field(output, form, "ip_checksum", "bad")
+}
+
+// The reason under which a packet is counted whose IPv4 header has a wrong checksum.
+fn header_reason(content: &Content<'_>) -> Reason {
+    match content {
+        Content::Cut(_, _, reason) => *reason,
+        _ => Reason::Checksum,
+    }
+}
+
+// The first of two reasons: that of the header, and that of the content.
+fn first_of(is_header_bad: bool, content: &Content<'_>, told: Option<Reason>) -> Option<Reason> {
+    if is_header_bad {
+        return Some(header_reason(content));
+    }
+    told
 }
 
 // Prints a message, or why there is none to read.

@@ -2,19 +2,23 @@
 //! The packets of a capture, in one pass.
 
 use crate::Fault;
+use crate::fragments::{look_at_joined, refused_fragment};
 use crate::heading::show_heading;
 use crate::kind::{Kind, Reason};
 use crate::members::show_members;
 use crate::messages::show_listing;
 use crate::options::Options;
-use crate::sight::{Headers, Sight, look};
-use crate::tally::{Outcome, Tally};
+use crate::path::Path;
+use crate::refusal::Refusal;
+use crate::sight::{Finding, Headers, Segment, Sight, look, protocol_category};
+use crate::tally::{Counted, Outcome, Tally};
 use crate::time::Clock;
 use capture::{Capture, Ending, Next, Record};
 use packet_fields::Form;
 use packet_fields::value::{Value, put_string};
 use rattle_std::io;
 use rattle_std::io::{BufReader, BufWriter, Read, Write};
+use reassembly::{Answer, Fragment, Reassembly, Whole};
 
 // The bytes of the buffers of input and output.
 const BUFFER_LEN: usize = 65_536;
@@ -84,6 +88,12 @@ pub fn dump_readable<R: Read, W: Write>(
     Ok(ending)
 }
 
+// What is kept from packet to packet of a capture.
+struct Kept {
+    clock: Clock,
+    fragments: Reassembly,
+}
+
 // Prints the packets, and returns what ends them, or None where a read failed. What is printed is written out before
 // the input is waited for.
 fn show_packets<R: Read, W: Write>(
@@ -93,14 +103,17 @@ fn show_packets<R: Read, W: Write>(
     tally: &mut Tally,
 ) -> Result<Option<Ending>, Fault> {
     let mut capture = Capture::new();
-    let mut clock = Clock::new();
+    let mut kept = Kept {
+        clock: Clock::new(),
+        fragments: Reassembly::new(),
+    };
     for _ in 0..u64::MAX {
         write_out_before_wait(&capture, input, output)?;
         match capture.next(input) {
             Ok(Next::Record(record)) => {
                 let octets = capture.octets();
-                let outcome = show_packet(options, output, &mut clock, &record, octets)?;
-                tally.count(outcome, record.link_type, octets.len() as u64);
+                let counted = show_packet(options, output, &mut kept, &record, octets)?;
+                tally.count(counted, record.link_type, octets.len() as u64);
             }
             Ok(Next::Ended(ending)) => return Ok(Some(ending)),
             Err(capture::Fault::Read) => return Ok(None),
@@ -122,18 +135,142 @@ fn write_out_before_wait<R: Read, W: Write>(
     Ok(())
 }
 
-/// Prints a packet, and returns its outcome. Requires that the record's time is in order.
-pub fn show_packet<W: Write>(
+// Prints a packet, or the datagram that was put together with it. Requires that the record's time is in order.
+fn show_packet<W: Write>(
+    options: &Options,
+    output: &mut W,
+    kept: &mut Kept,
+    captured: &Record,
+    octets: &[u8],
+) -> Result<Counted, Fault> {
+    match look(captured, octets) {
+        Finding::Sight(sight) => {
+            let outcome = show_sight(options, output, &mut kept.clock, captured, octets, &sight)?;
+            Ok(Counted::alone(outcome))
+        }
+        Finding::Fragment(path, fragment) => {
+            show_fragment(options, output, kept, captured, octets, &path, &fragment)
+        }
+    }
+}
+
+// Puts a fragment to those that are kept, and prints the datagram that is then whole, or why the fragment is refused.
+#[inline(never)]
+fn show_fragment<W: Write>(
+    options: &Options,
+    output: &mut W,
+    kept: &mut Kept,
+    captured: &Record,
+    octets: &[u8],
+    path: &Path<'_>,
+    fragment: &Fragment<'_>,
+) -> Result<Counted, Fault> {
+    let Ok(answer) = kept.fragments.add(captured.number, fragment) else {
+        return Err(Fault::Memory);
+    };
+    let clock = &mut kept.clock;
+    match &answer {
+        Answer::Incomplete(_) => Ok(Counted::alone(Outcome::Kept(protocol_category(
+            fragment.protocol,
+        )))),
+        Answer::Refused(refusal) => {
+            let sight = refused_fragment(path, fragment, Refusal::Fragment(*refusal));
+            let outcome = show_sight(options, output, clock, captured, octets, &sight)?;
+            Ok(Counted::alone(outcome))
+        }
+        Answer::Whole(whole) => {
+            let counted = show_whole(options, output, clock, captured, octets, path, whole)?;
+            Ok(counted)
+        }
+    }
+}
+
+// Prints a datagram that was put together with a packet.
+fn show_whole<W: Write>(
     options: &Options,
     output: &mut W,
     clock: &mut Clock,
     captured: &Record,
     octets: &[u8],
+    path: &Path<'_>,
+    whole: &Whole,
+) -> Result<Counted, Fault> {
+    let path = Path {
+        tags: path.tags,
+        tunnels: path.tunnels,
+        frames: whole.numbers.as_slice(),
+    };
+    let sight = look_at_joined(captured, octets, &path, whole);
+    let outcome = show_sight(options, output, clock, captured, octets, &sight)?;
+    Ok(Counted {
+        outcome,
+        joined: all_but_one(whole.numbers.as_slice()),
+    })
+}
+
+// How many of these packets came before the last one.
+fn all_but_one(numbers: &[u64]) -> u64 {
+    (numbers.len() as u64).saturating_sub(1)
+}
+
+// Prints a packet by what its headers tell, and returns its outcome.
+fn show_sight<W: Write>(
+    options: &Options,
+    output: &mut W,
+    clock: &mut Clock,
+    captured: &Record,
+    octets: &[u8],
+    sight: &Sight<'_>,
 ) -> Result<Outcome, Fault> {
-    match &look(captured, octets) {
+    match sight {
         Sight::Unread => Ok(Outcome::Unread),
-        Sight::Other => Ok(Outcome::Other),
+        Sight::Other(category) => Ok(Outcome::Other(*category)),
         Sight::Control(headers) => show_control(options, output, clock, captured, octets, headers),
+        Sight::Segment(segment) => show_segment(options, output, clock, captured, octets, segment),
+    }
+}
+
+// Prints each message in a segment.
+#[inline(never)]
+fn show_segment<W: Write>(
+    options: &Options,
+    output: &mut W,
+    clock: &mut Clock,
+    captured: &Record,
+    octets: &[u8],
+    segment: &Segment<'_>,
+) -> Result<Outcome, Fault> {
+    if !options.only.chooses(&segment.headers(&[])) {
+        return Ok(Outcome::Passed);
+    }
+    let why = tell_each(options, output, clock, captured, octets, segment)?;
+    Ok(outcome(Kind::Dns, why))
+}
+
+// Prints each message in a segment, and returns the first reason for which one is refused or read in part.
+fn tell_each<W: Write>(
+    options: &Options,
+    output: &mut W,
+    clock: &mut Clock,
+    captured: &Record,
+    octets: &[u8],
+    segment: &Segment<'_>,
+) -> Result<Option<Reason>, Fault> {
+    let mut messages = segment.messages.messages();
+    let mut why = None;
+    while let Some(message) = messages.next() {
+        let headers = segment.headers(message);
+        let told = tell(options, output, clock, captured, octets, &headers)?;
+        why = first_reason(why, told);
+    }
+    Ok(why)
+}
+
+// The first of two reasons.
+fn first_reason(why: Option<Reason>, other: Option<Reason>) -> Option<Reason> {
+    match why {
+        Some(reason) => Some(reason),
+        None => other,
     }
 }
 
@@ -151,11 +288,23 @@ fn show_control<W: Write>(
     if !options.only.chooses(headers) {
         return Ok(Outcome::Passed);
     }
-    if !options.prints {
-        return count_alone(options, headers);
-    }
-    let why = show_chosen(options, output, clock, captured, octets, headers)?;
+    let why = tell(options, output, clock, captured, octets, headers)?;
     Ok(outcome(headers.content.kind(), why))
+}
+
+// Prints a control packet that is chosen, or only reads it where packets are counted.
+fn tell<W: Write>(
+    options: &Options,
+    output: &mut W,
+    clock: &mut Clock,
+    captured: &Record,
+    octets: &[u8],
+    headers: &Headers<'_>,
+) -> Result<Option<Reason>, Fault> {
+    if !options.prints {
+        return read_alone(options, headers);
+    }
+    show_chosen(options, output, clock, captured, octets, headers)
 }
 
 // Prints a control packet in the form that is asked for.
@@ -211,9 +360,9 @@ fn open_object<W: Write>(output: &mut W, number: u64) -> io::Result<()> {
 }
 
 // Reads a control packet that is only counted.
-fn count_alone(options: &Options, headers: &Headers<'_>) -> Result<Outcome, Fault> {
+fn read_alone(options: &Options, headers: &Headers<'_>) -> Result<Option<Reason>, Fault> {
     let why = show_listing(options, &mut io::sink(), headers)?;
-    Ok(outcome(headers.content.kind(), why))
+    Ok(why)
 }
 
 // The outcome for a control packet.

@@ -18,6 +18,12 @@ pub enum Refusal {
     Frame(link::Refusal),
     /// The IP datagram is refused.
     Datagram(control_wire::frames::Refusal),
+    /// The checksum of the IPv4 header does not hold.
+    Header,
+    /// A fragment is not taken.
+    Fragment(reassembly::Refusal),
+    /// It is a fragment in a datagram that was put together from fragments.
+    Nested,
     /// The message is refused, or read in part.
     Message(message_fields::Refusal),
 }
@@ -30,6 +36,8 @@ impl Refusal {
         match self {
             Refusal::Frame(refusal) => frame_reason(is_cut, refusal),
             Refusal::Datagram(refusal) => datagram_reason(is_cut, refusal),
+            Refusal::Header => Reason::Checksum,
+            Refusal::Fragment(_) | Refusal::Nested => Reason::Fragment,
             Refusal::Message(refusal) => message_reason(refusal),
         }
     }
@@ -157,6 +165,9 @@ impl fmt::Display for Refusal {
         match self {
             Refusal::Frame(refusal) => write!(f, "{refusal}"),
             Refusal::Datagram(refusal) => write!(f, "{refusal}"),
+            Refusal::Header => write!(f, "the checksum of the IPv4 header does not hold"),
+            Refusal::Fragment(refusal) => write!(f, "a fragment: {refusal}"),
+            Refusal::Nested => write!(f, "a fragment in a datagram that was put together"),
             Refusal::Message(refusal) => write!(f, "{refusal}"),
         }
     }

@@ -1,11 +1,8 @@
 // Made from crates/dump_captures/src/tally.rt by rust/erase.
 //! The number of packets of each kind in a capture, and their outcomes.
 
+use crate::counts::{Category, Counts};
 use crate::kind::{KINDS, Kind, REASONS, Reason};
-use arrayvec::ArrayVec;
-
-/// The number of unsupported links that are counted by their number.
-pub const MOST_LINKS: usize = 16;
 
 /// The outcome for a packet.
 #[derive(Debug, PartialEq, Eq, Clone, Copy)]
@@ -13,7 +10,9 @@ pub enum Outcome {
     /// Its frame is of an unsupported link.
     Unread,
     /// It is of another protocol.
-    Other,
+    Other(Category),
+    /// It is a fragment that was kept, or is there already; its datagram, of this protocol, lacks others.
+    Kept(Category),
     /// It is a control packet that is not chosen.
     Passed,
     /// It is a control packet of this kind, and was listed.
@@ -66,29 +65,38 @@ impl Row {
     }
 }
 
-/// The frames of an unsupported link.
-#[derive(Debug, PartialEq, Eq, Clone, Copy, Default)]
-pub struct UnreadLink {
-    /// The number of the link.
-    pub link_type: u16,
-    /// The number of frames.
-    pub frames: u64,
+/// What is counted of a packet.
+#[derive(Debug, PartialEq, Eq, Clone, Copy)]
+pub struct Counted {
+    /// Its outcome.
+    pub outcome: Outcome,
+    /// The number of packets before it whose fragments it was put together with.
+    pub joined: u64,
+}
+
+impl Counted {
+    /// A packet that no fragment was put together with.
+    pub fn alone(outcome: Outcome) -> Counted {
+        Counted { outcome, joined: 0 }
+    }
 }
 
 /// The numbers of packets. Each number stops at the greatest of 64 bits.
 pub struct Tally {
     /// All packets.
     pub packets: u64,
-    /// Packets of other protocols.
-    pub other: u64,
     /// The control packets that are not chosen.
     pub passed: u64,
     /// The control packets of each kind, by its index.
     pub rows: [Row; KINDS],
-    /// The frames of unsupported links, of the first 16 such links.
-    pub links: ArrayVec<UnreadLink, MOST_LINKS>,
-    /// The frames of further links.
-    pub beyond: u64,
+    /// Packets of other protocols.
+    pub others: Counts,
+    /// Fragments that were kept, by the protocols that they name.
+    pub fragments: Counts,
+    /// Those of them that were put together with a later packet.
+    pub joined: u64,
+    /// The frames of unsupported links.
+    pub links: Counts,
 }
 
 impl Tally {
@@ -97,21 +105,24 @@ impl Tally {
     pub fn new() -> Tally {
         Tally {
             packets: 0,
-            other: 0,
             passed: 0,
             rows: [Row::new(); KINDS],
-            links: ArrayVec::new(),
-            beyond: 0,
+            others: Counts::new(),
+            fragments: Counts::new(),
+            joined: 0,
+            links: Counts::new(),
         }
     }
 
     /// Counts a packet of this link, of which this many bytes were captured.
     #[inline]
-    pub fn count(&mut self, outcome: Outcome, link_type: u16, octets: u64) {
+    pub fn count(&mut self, counted: Counted, link_type: u16, octets: u64) {
         self.packets = self.packets.saturating_add(1);
-        match outcome {
-            Outcome::Unread => self.count_unread(link_type),
-            Outcome::Other => self.other = self.other.saturating_add(1),
+        self.joined = self.joined.saturating_add(counted.joined);
+        match counted.outcome {
+            Outcome::Unread => self.links.add(Category::Link(link_type)),
+            Outcome::Other(category) => self.others.add(category),
+            Outcome::Kept(category) => self.fragments.add(category),
             Outcome::Passed => self.passed = self.passed.saturating_add(1),
             Outcome::Listed(kind) => {
                 let place = kind.place();
@@ -123,35 +134,4 @@ impl Tally {
             }
         }
     }
-
-    // Counts a frame of a link that is not read.
-    fn count_unread(&mut self, link_type: u16) {
-        if let Some(place) = place_of(self.links.as_slice(), link_type) {
-            count_at(self.links.as_mut_slice(), place);
-            return;
-        }
-        if self.links.is_full() {
-            self.beyond = self.beyond.saturating_add(1);
-            return;
-        }
-        self.links.push(UnreadLink {
-            link_type,
-            frames: 1,
-        });
-    }
-}
-
-// Counts a frame of the link at an index.
-fn count_at(links: &mut [UnreadLink], place: usize) {
-    links[place].frames = links[place].frames.saturating_add(1);
-}
-
-// The index of the first of these links that has this number.
-fn place_of(links: &[UnreadLink], link_type: u16) -> Option<usize> {
-    for (place, link) in links.iter().enumerate() {
-        if link.link_type == link_type {
-            return Some(place);
-        }
-    }
-    None
 }

@@ -9,27 +9,28 @@ use Rattle.dump_captures.proofs.packets.show_packets.Goals as goal
 pub packets-init : goal.packets-init
 packets-init g c =
     so_far-init c.args.options.now (reader_remaining g.R.Read.remaining c.args.input.now)
-    (state_of c.new-capture.result) (count_of c.new-capture.result) (tally_of c.args.tally.now)
+    (state_of c.new-capture.result) (count_of c.new-capture.result) _ (tally_of c.args.tally.now)
     (g.W.Write.contents c.args.output.now) c.new-capture.ensures.state c.new-capture.ensures.count
+    c.new-2.ensures.state
 
 pub packets-preserved : goal.packets-preserved
 packets-preserved g c =
-    so_far-more _ _ _ _ _ _ _ _ _ c.packets.invariant _ c.in_ok-write_out_before_wait.ensures _ _
-    c.in-Ok-Record.record (octets_of c.next.new.self) _ (count_of c.next.new.self) _ _
+    so_far-more _ _ _ _ _ _ _ _ _ _ c.packets.invariant _ c.in_ok-write_out_before_wait.ensures _ _
+    c.in-Ok-Record.record (octets_of c.next.new.self) _ (count_of c.next.new.self) _ _ _
     (rw c.in-Ok-Record.field-0-is at c.in-Ok-Record.ensures.next)
     (rw c.in-Ok-Record.field-0-is at c.in-Ok-Record.ensures.order)
-    (rw c.octets-octets.ensures at c.in_ok-outcome-in-Ok-Record.ensures)
+    (rw c.octets-octets.ensures at c.in_ok-counted-in-Ok-Record.ensures)
     (rw c.octets-octets.ensures at c.count.ensures)
 
 pub returns-in-Ok-Ended : goal.returns-in-Ok-Ended
 returns-in-Ok-Ended g c =
-    so_far-end _ _ _ _ _ _ _ _ _ c.packets.invariant _ c.in_ok-write_out_before_wait.ensures
+    so_far-end _ _ _ _ _ _ _ _ _ _ c.packets.invariant _ c.in_ok-write_out_before_wait.ensures
     (reader_remaining g.R.Read.remaining c.next.new.input) c.in-Ok-Ended.ending (octets_of c.next.new.self)
     (state_of c.next.new.self) (rw c.in-Ok-Ended.field-0-is at c.in-Ok-Ended.ensures.next)
 
 pub returns-in-Err-Read : goal.returns-in-Err-Read
 returns-in-Err-Read g c =
-    so_far-unread _ _ _ _ _ _ _ _ _ c.packets.invariant _ c.in_ok-write_out_before_wait.ensures
+    so_far-unread _ _ _ _ _ _ _ _ _ _ c.packets.invariant _ c.in_ok-write_out_before_wait.ensures
 
 pub returns : goal.returns
-returns g c = so_far-unread _ _ _ _ _ _ _ _ _ c.packets.invariant _ (gains_none _)
+returns g c = so_far-unread _ _ _ _ _ _ _ _ _ _ c.packets.invariant _ (gains_none _)

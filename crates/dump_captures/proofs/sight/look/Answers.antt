@@ -1,6 +1,6 @@
 -- The link is not read, or its header is not there, or it is.
-use Rattle.std.proofs.Common.{◌∙◌, sym}
-use Rattle.dump_captures.specs.Sight.{no_frame, framed}
+use Rattle.std.proofs.Common.{◌∙◌, ap, sym}
+use Rattle.dump_captures.specs.Sight.{no_frame, framed, seen}
 use Rattle.dump_captures.proofs.sight.look.Goals as goal
 
 pub returns-in-Ok : goal.returns-in-Ok
@@ -11,4 +11,4 @@ pub returns-in-Err : goal.returns-in-Err
 returns-in-Err c =
     no_frame c.in-Some.link c.in-Err.refusal (sym c.of.ensures ∙ c.in-Some.is)
     (λ f is. c.in-Err.ensures.complete f is) c.in-Err.ensures.told
-    (rw (c.reason.ensures, c.is_cut.ensures) at c.untold.ensures)
+    (ap seen (rw (c.reason-reason.ensures, c.is_cut.ensures) at c.untold.ensures))

@@ -4,7 +4,7 @@ use Rattle.dump_captures.specs.Sight.IsRefused4.{by_front, by_head, by_none}
 use Rattle.dump_captures.proofs.sight.refused_v4.Goals as goal
 
 pub returns-in-Ok : goal.returns-in-Ok
-returns-in-Ok c = by_front _ c.in-Ok.ensures.sound c.told_front.ensures
+returns-in-Ok c = by_front _ c.is_header_bad.result c.in-Ok.ensures.sound c.is_header_bad.ensures c.told_front.ensures
 
 pub returns-in-Some : goal.returns-in-Some
 returns-in-Some c =

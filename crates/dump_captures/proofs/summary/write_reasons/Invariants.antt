@@ -3,7 +3,8 @@ use Rattle.std.proofs.Common.{◌≡◌}
 use Rattle.packet_fields.specs.Output.{Gains}
 use Rattle.dump_captures.specs.Kinds.{reasons}
 use Rattle.dump_captures.specs.Tally.{tally_of}
-use Rattle.dump_captures.proofs.Summaries.{is_none, opened, parts_so_far}
+use Rattle.dump_captures.specs.private.Brackets.{is_none, opened}
+use Rattle.dump_captures.proofs.Summaries.{parts_so_far}
 use Rattle.dump_captures.proofs.summary.write_reasons.Given as goal
 
 abbrev pub invariant-loop-reason : goal.invariant-loop-reason

@@ -14,5 +14,6 @@ returns g c =
     then gained _ _ _ c.in_ok-write_all-2.ensures.bytes then refused
     then gained _ _ _ c.in_ok-write_all-3.ensures.bytes then c.in_ok-write_reasons.ensures
     then gained _ _ _ c.in_ok-write_all-4.ensures.bytes then c.in_ok-put-4.ensures.text
-    then gained _ _ _ c.in_ok-write_all-5.ensures.bytes then c.in_ok-write_further.ensures then links)
+    then gained _ _ _ c.in_ok-write_all-5.ensures.bytes then c.in_ok-write_counts.ensures
+    then c.in_ok-write_further.ensures then c.in_ok-write_fragments.ensures then links)
     c.write_further-2.ensures
