@@ -62,14 +62,14 @@ def entry(octets, at, section, kind, found, refusals):
         found.append(of.entry(octets, section))
     except Refused as refused:
         refusals.append(refused)
-        found.append(refused_entry(section, refused, *of.known(octets)))
+        found.append(refused_entry(section, refused, *of.known(octets), name=of.owner(octets)))
     else:
         refusals += of.refusals
     return of.end
 
 
-def refused_entry(section, refused, *cells):
-    return Entry(("section", section), ("status", "refused"), Cell("why", refused.phrase), *cells)
+def refused_entry(section, refused, *cells, name=None):
+    return Entry(("section", section), ("name", name), *cells, Cell("refused", refused.phrase))
 
 
 # ---- questions and records
@@ -117,10 +117,20 @@ class Question:
         return Entry(("section", section), ("name", self.name(octets, ASKED_NAME)), self.class_cell(BARE),
                      self.type_cell(BARE), *self.marks())
 
+    def owner(self, octets):
+        """The name of one that does not read, or None where that does not."""
+        try:
+            return self.name(octets, OWNER)
+        except Refused:
+            return None
+
+    def name_octets(self, octets):
+        """The octets of a name that does not read."""
+        return [] if self.owner(octets) is not None else [Cell("name_octets", octets[slice(*self.place)])]
+
     def known(self, octets):
-        """What is told of one whose name does not read."""
-        return [Cell("name_octets", octets[slice(*self.place)]), self.class_cell(KEYED), self.type_cell(KEYED),
-                *self.marks()]
+        """What is told of one that does not read, behind its name."""
+        return [*self.name_octets(octets), self.class_cell(KEYED), self.type_cell(KEYED), *self.marks()]
 
 
 def question(octets, at, message_kind):
@@ -164,14 +174,10 @@ class Record(Question):
         if why is None:
             return []
         self.refusals.append(Refused("malformed", why))
-        return [Cell("why", why), Cell("octets", own)]
+        return [Cell("octets", own), Cell("refused", why)]
 
     def known(self, octets):
-        try:
-            owner = Cell("name", self.name(octets, OWNER))
-        except Refused:
-            owner = Cell("name_octets", octets[slice(*self.place)])
-        return [owner, Cell("ttl", self.ttl), self.class_cell(KEYED), self.type_cell(KEYED),
+        return [*self.name_octets(octets), Cell("ttl", self.ttl), self.class_cell(KEYED), self.type_cell(KEYED),
                 Cell("octets", octets[self.start:self.end]), *self.marks()]
 
     def extensions(self, own):

@@ -214,7 +214,7 @@ def sections(packet):
 
 def broken(section):
     """Where a question or record does not begin: the last entry."""
-    return {"section": section, "status": "refused", "why": re.compile(NO_RECORD), "octets": OCTETS}
+    return {"section": section, "name": None, "octets": OCTETS, "refused": re.compile(NO_RECORD)}
 
 
 def message(packet, missing):

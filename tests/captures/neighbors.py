@@ -75,6 +75,11 @@ def cut(octets):
     return [Field("refused", CUT_FIELDS), Field("data", octets)], Refused("short", CUT_FIELDS)
 
 
+def lacking(items):
+    """Why a message is read in part that ends before its fields or what it counts, as its items tell; or None."""
+    return next((Refused("short", item.value) for item in items if item.key == "refused"), None)
+
+
 def neighbor(octets):
     """The items of a message, and why it is refused, or None."""
     if len(octets) < 4:
@@ -163,7 +168,9 @@ def neighbor_option(octets, is_whole):
     if kind == 3:
         return told(*prefix(octets)) if len(octets) == 32 else plain("not 32 bytes")
     if kind == 4:
-        return told(*redirected(octets)) if len(octets) >= 48 else plain("fewer than 48 bytes")
+        if len(octets) < 48:
+            return plain("fewer than 48 bytes")
+        return told(*redirected(octets)) if octets[8] >> 4 == 6 else plain("not of version 6")
     if kind == 5:
         return told(("mtu", be(octets[4:8]))) if len(octets) == 8 else plain("not 8 bytes")
     return plain()
@@ -187,11 +194,11 @@ def redirected(octets):
 # ---- multicast listeners (RFC 2710, RFC 3810)
 
 def listener(octets):
-    """The items of a message, and why it is refused, or None: from 8 octets on it is listed as far as it goes."""
+    """The items of a message, and why it is read in part, or None."""
     if len(octets) < 4:
         return cut(octets)
     items = head(octets) + listener_items(octets)
-    return items, Refused("short", CUT_FIELDS) if len(octets) < 8 else None
+    return items, lacking(items)
 
 
 def listener_items(octets):
@@ -220,12 +227,13 @@ GROUPS = (0x11, 0x12, 0x16, 0x17)
 
 
 def igmp(octets):
-    """The items of a message, and why it is refused, or None: from 8 octets on it is listed as far as it goes."""
+    """The items of a message, and why it is refused or read in part, or None."""
     if len(octets) < 8:
         return cut(octets)
     refused = no_group(octets) if octets[0] in GROUPS else Refused("type", None) if octets[0] != 0x22 else None
     why = [Field("group_refused", refused.phrase)] if refused and refused.phrase else []
-    return [named("type", octets[0], IGMP_TYPES)] + igmp_items(octets) + why, refused
+    items = igmp_items(octets)
+    return [named("type", octets[0], IGMP_TYPES)] + items + why, refused or lacking(items)
 
 
 def igmp_items(octets):
@@ -289,12 +297,13 @@ def sources(octets, width):
 
 def counted_records(octets, version, width):
     """The records of a report, which counts them."""
-    left, entries, count = octets[8:], [], be(octets[6:8])
+    left, entries, whole, count = octets[8:], [], 0, be(octets[6:8])
     while left and len(entries) < count:
         length = record_length(left, width)
+        whole += length <= len(left)
         entries.append(record(left[:length], width, length <= len(left)))
         left = left[length:]
-    refused = [Field("refused", "fewer records than the report counts")] if len(entries) < count else []
+    refused = [Field("refused", "fewer records than the report counts")] if whole < count else []
     return [Field("version", version), Entries("records", entries)] + refused + additional(left)
 
 

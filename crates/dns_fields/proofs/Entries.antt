@@ -7,10 +7,11 @@ use Rattle.dns_wire.specs.DnsPacket.{header}
 use Rattle.record_wire.specs.Entries.{EntryValue, IsBroken, IsNext, Left, RefusesEntry, section_at}
 use Rattle.record_wire.specs.declared.entries.Section.{Section}
 use Rattle.record_wire.specs.declared.refusal.Refusal.{Refusal}
-use Rattle.packet_fields.specs.Fields.{Cell, Entry, entries}
+use Rattle.packet_fields.specs.Fields.{Cell, Entry, Fits, Leaf, entries, first_text}
+use Rattle.packet_fields.specs.Output.{Gains}
 use Rattle.packet_fields.specs.Prints.{Prints, PrintsCells, PrintsSome}
 use Rattle.packet_fields.specs.declared.form.Form.{Form}
-use Rattle.packet_fields.proofs.Fields.{cells_both, prints_both}
+use Rattle.packet_fields.proofs.Fields.{cells_both, cells_none, prints_both}
 use Rattle.dns_fields.specs.Message.{EntriesAre, EntryIs, MessageIs, begins, broken_entry, has_header}
 use Rattle.dns_fields.specs.Message.{none_begins, none_left}
 use Rattle.dns_fields.specs.Header.{header_items}
@@ -19,7 +20,7 @@ use Rattle.dns_fields.specs.Record.{record_entry}
 use Rattle.dns_fields.specs.Unread.{first_of}
 use Rattle.packet_fields.specs.Entries.{PrintsEntry}
 use Rattle.packet_fields.specs.private.Entries.{PrintsEntries, PrintsSomeEntries, PrintsSomeEntry}
-use Rattle.dns_fields.specs.private.Parts.{ListIs, PrintsBroken, PrintsSomeCell}
+use Rattle.dns_fields.specs.private.Parts.{ListIs, PrintsBroken, PrintsSomeFront}
 use Rattle.dns_fields.specs.declared.kind.Kind.{Kind}
 use Rattle.dns_fields.specs.declared.unread.Unread.{Unread}
 use Rattle.packet_fields.proofs.EntryChains.{entries_none, is_none, one_more}
@@ -144,12 +145,21 @@ pub some_printed : {E : Type 0} (form : Form) (is_first : Bool) (a b : Option (L
 some_printed form is_first a b IsEntry e (Ok u) is printed = (e, is, printed)
 some_printed form is_first a b IsEntry e (Err x) is printed = tt
 
--- a value of a kind
-pub some_value : {E : Type 0} (form : Form) (a b : Option (List ℕ)) (IsCell : Cell → Type 0) (c : Cell)
-    (r : Result (Unit {0}) E) → IsCell c → OnOk r (PrintsCells form a b (c ∷ []))
-    → OnOk r (PrintsSomeCell form a b IsCell)
-some_value form a b IsCell c (Ok u) is printed = (c, is, printed)
-some_value form a b IsCell c (Err x) is printed = tt
+-- a first value alone, and with others behind it
+pub first_alone : {E : Type 0} (form : Form) (a b : Option (List ℕ)) (key : List ℕ) (Are : Leaf → List Cell → Type 0)
+    (first : Leaf) (r : Result (Unit {0}) E) → Are first [] → Fits first → OnOk r (Gains a b (first_text form key first))
+    → OnOk r (PrintsSomeFront form a b key Are)
+first_alone form a b key Are first (Ok u) are fits gains =
+    (first, [], are, record { between = b; fits = fits; gains = gains; prints = cells_none form b })
+first_alone form a b key Are first (Err x) are fits gains = tt
+
+pub first_with : {E : Type 0} (form : Form) (a b c : Option (List ℕ)) (key : List ℕ) (Are : Leaf → List Cell → Type 0)
+    (first : Leaf) (others : List Cell) (r : Result (Unit {0}) E) → Are first others → Fits first
+    → Gains a b (first_text form key first) → OnOk r (PrintsCells form b c others)
+    → OnOk r (PrintsSomeFront form a c key Are)
+first_with form a b c key Are first others (Ok u) are fits gains printed =
+    (first, others, are, record { between = b; fits = fits; gains = gains; prints = printed })
+first_with form a b c key Are first others (Err x) are fits gains printed = tt
 
 -- a record by its content
 pub record_as : (form : Form) (is_first : Bool) (a b : Option (List ℕ)) (kind : Kind) (section : Section)

@@ -14,8 +14,7 @@ use Rattle.record_wire.specs.declared.text.refusal.TextRefusal.{TextRefusal}
 use Rattle.packet_fields.specs.Fields.{Cell, Entry, number, octets, text, texts}
 use Rattle.dns_fields.specs.Kind.{type_text}
 use Rattle.dns_fields.specs.declared.kind.Kind.{Kind}
-use Rattle.dns_fields.specs.Record.{IsRefusedRecord, named_entry, shown_bare, shown_keyed}
-use Rattle.dns_fields.specs.Unread.{why_text}
+use Rattle.dns_fields.specs.Record.{IsRefusedRecord, named_entry, refused_cells, shown_bare, shown_keyed}
 use Rattle.dns_fields.specs.declared.unread.Unread.{Unread}
 
 -- ---- options
@@ -47,11 +46,10 @@ edns_flags dnssec_ok = if dnssec_ok then codes "do" ∷ [] else []
 abbrev pub reserved_flags : ℕ → List Cell
 reserved_flags bits = if bits == 0 then [] else shown_keyed (codes "reserved_flags") (number bits) ∷ []
 
--- where an option is cut: why, and all octets of the data
+-- where an option is cut: all octets of the data, and why
 abbrev pub cut_cells : Option Unread → List ℕ → List Cell
 cut_cells None bytes = []
-cut_cells (Some why) bytes =
-    shown_keyed (codes "why") (text (why_text why)) ∷ shown_keyed (codes "octets") (octets bytes) ∷ []
+cut_cells (Some why) bytes = shown_keyed (codes "octets") (octets bytes) ∷ refused_cells why
 
 -- the size of the sender's UDP payloads, the upper bits of the response code, the version and flags
 abbrev pub sender_cells : EdnsValue → List Cell

@@ -13,7 +13,7 @@ use Rattle.dns_fields.specs.Edns.{OptIs}
 use Rattle.dns_fields.specs.Header.{header_items}
 use Rattle.dns_fields.specs.Kind.{is_netbios}
 use Rattle.dns_fields.specs.Nbns as nbns
-use Rattle.dns_fields.specs.Record.{BlankIs, QuestionIs, RecordIs, is_blank, refused_entry, shown_keyed}
+use Rattle.dns_fields.specs.Record.{BlankIs, QuestionIs, RecordIs, is_blank, nameless_entry, shown_keyed}
 use Rattle.dns_fields.specs.Unread.{first_of, why_text}
 use Rattle.dns_fields.specs.declared.kind.Kind.{Kind}
 use Rattle.dns_fields.specs.declared.unread.Unread.{Unread}
@@ -38,7 +38,7 @@ EntryIs kind message (entry.record_in section r) e unread = RecordInIs kind mess
 -- the octets at which the next question or record does not begin
 abbrev pub broken_entry : Section → Refusal → List ℕ → Entry
 broken_entry section why bytes =
-    refused_entry section (Unread.Entry section why) (shown_keyed (codes "octets") (octets bytes) ∷ [])
+    nameless_entry section (shown_keyed (codes "octets") (octets bytes) ∷ []) (Unread.Entry section why)
 
 -- The entries that are left, and the first refusal among them: one for each question and record, also for those that
 -- can't be read, and where the next one does not begin a last one that says why.

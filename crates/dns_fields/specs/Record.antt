@@ -1,5 +1,5 @@
 -- The entries of questions and records: what a zone file has of each (RFC 1035 section 5.1), or why it can't be read.
-use Rattle.std.specs.Prelude.{◌≡◌, ◌&&◌, [], ◌∷◌, Bool, List, None, Option, Some, ℕ, codes, if◌then◌else◌}
+use Rattle.std.specs.Prelude.{◌≡◌, ◌&&◌, [], ◌∷◌, ◌++◌, Bool, List, None, Option, Some, ℕ, codes, if◌then◌else◌}
 use Rattle.std.specs.Prelude.{◌==◌, false, length, nat_lt, true}
 use Rattle.dns_wire.specs.DnsPacket.{opcode_in}
 use Rattle.record_wire.specs.Mnemonics.{class_text}
@@ -12,7 +12,7 @@ use Rattle.record_wire.specs.RecordText.{RecordTextValue, IsRecordText, RefusesT
 use Rattle.record_wire.specs.declared.entries.Section.{Section}
 use Rattle.record_wire.specs.declared.name.refusal.NameRefusal.{NameRefusal}
 use Rattle.record_wire.specs.declared.text.refusal.TextRefusal.{TextRefusal}
-use Rattle.packet_fields.specs.Fields.{Cell, Entry, Leaf, bare, keyed, number, octets, text, truth}
+use Rattle.packet_fields.specs.Fields.{Cell, Entry, Leaf, bare, keyed, missing, number, octets, text, truth}
 use Rattle.dns_fields.specs.Header.{word_in}
 use Rattle.dns_fields.specs.Kind.{is_multicast, name_text, type_text}
 use Rattle.dns_fields.specs.declared.kind.Kind.{Kind}
@@ -41,11 +41,13 @@ section_entry section key first rest = record {
 abbrev pub named_entry : Kind → Section → List (List ℕ) → List Cell → Entry
 named_entry kind section labels rest = section_entry section (codes "name") (text (name_text kind labels)) rest
 
--- an entry that can't be read
-abbrev pub refused_entry : Section → Unread → List Cell → Entry
-refused_entry section why rest =
-    section_entry section (codes "status") (text (codes "refused"))
-    (shown_keyed (codes "why") (text (why_text why)) ∷ rest)
+-- why an entry can't be read, or not to its end; it stands last
+abbrev pub refused_cells : Unread → List Cell
+refused_cells why = shown_keyed (codes "refused") (text (why_text why)) ∷ []
+
+-- an entry whose name can't be read: what is known of it, and why
+abbrev pub nameless_entry : Section → List Cell → Unread → Entry
+nameless_entry section known why = section_entry section (codes "name") missing (known ++ refused_cells why)
 
 -- what is said where a flag is set
 abbrev pub mark : Bool → List ℕ → List Cell
@@ -65,10 +67,10 @@ question_entry kind q labels =
 -- with the octets of its name
 abbrev pub refused_question : Kind → QuestionValue → Unread → Entry
 refused_question kind q why =
-    refused_entry Section.Question why
+    nameless_entry Section.Question
     (shown_keyed (codes "name_octets") (octets q.name)
     ∷ shown_keyed (codes "class") (text (class_text (question_class (is_multicast kind) q.class)))
-    ∷ shown_keyed (codes "type") (text (type_text kind q.kind)) ∷ question_mark kind q)
+    ∷ shown_keyed (codes "type") (text (type_text kind q.kind)) ∷ question_mark kind q) why
 
 -- A question is an entry with its name where this reads, and else one that is refused.
 pub data QuestionIs (kind : Kind) (message : List ℕ) (q : QuestionValue) : Entry → Option Unread → Type 0 where
@@ -92,12 +94,12 @@ record_entry kind section value flushes_cache =
     ∷ shown_bare (codes "type") (text (type_text kind value.kind))
     ∷ shown_bare (codes "data") (text (data_text value.«data»)) ∷ mark flushes_cache (codes "cache_flush"))
 
--- the name of a record that is refused, or its octets where it can't be read
-pub data OwnerIs (kind : Kind) (message bytes : List ℕ) : Cell → Type 0 where
+-- the name of a record that is refused; where it can't be read none, and its octets
+pub data OwnerIs (kind : Kind) (message bytes : List ℕ) : Leaf → List Cell → Type 0 where
   reads : (labels : List (List ℕ)) → Names message bytes labels
-      → OwnerIs kind message bytes (shown_keyed (codes "name") (text (name_text kind labels)))
+      → OwnerIs kind message bytes (text (name_text kind labels)) []
   reads_not : (HasName bytes message → ⊥)
-      → OwnerIs kind message bytes (shown_keyed (codes "name_octets") (octets bytes))
+      → OwnerIs kind message bytes missing (shown_keyed (codes "name_octets") (octets bytes) ∷ [])
 
 -- what is known of a record but for its name
 abbrev pub known_cells : Kind → RecordValue → List Cell
@@ -110,8 +112,8 @@ known_cells kind r =
 -- such a record, for this reason
 abbrev pub IsRefusedRecord : Kind → List ℕ → Section → RecordValue → Unread → Entry → Type 0
 IsRefusedRecord kind message section r why e =
-    (owner : Cell) × OwnerIs kind message r.name owner
-    × (e ≡ refused_entry section why (owner ∷ known_cells kind r))
+    (name : Leaf) × (owner : List Cell) × OwnerIs kind message r.name name owner
+    × (e ≡ section_entry section (codes "name") name (owner ++ known_cells kind r ++ refused_cells why))
 
 -- A record, whose class in multicast DNS is without its top bit, is the entry of its line in a zone file where all of
 -- it reads, and else one that is refused.

@@ -19,14 +19,14 @@ use crate::edns::show_opt;
 use crate::header::show_header;
 use crate::kind::Kind;
 use crate::nbns;
-use crate::record::{is_blank, label_of, show_blank, show_question, show_record};
+use crate::record::{
+    is_blank, label_of, show_blank, show_no_name, show_question, show_record, show_why,
+};
 use crate::unread::Unread;
 use crate::words::{Why, Word};
 use dns_wire::dns::Packet;
 use packet_fields::Form;
-use packet_fields::entry::{
-    close_entry, close_list, first_cell, keyed_cell, open_entry, open_list,
-};
+use packet_fields::entry::{close_entry, close_list, keyed_cell, open_entry, open_list};
 use packet_fields::field::field;
 use record_wire::{Entries, Entry, Record, Refusal, Section};
 use std::io;
@@ -147,14 +147,9 @@ fn show_broken_at<W: Write>(
         (broken_entry section refusal octets.now)) }
 {
     open_entry(output, form, is_first, "section", label_of(section))?;
-    first_cell(output, form, "status", "refused")?;
-    keyed_cell(
-        output,
-        form,
-        "why",
-        Word(Why(Unread::Entry(section, refusal))),
-    )?;
+    show_no_name(output, form)?;
     keyed_cell(output, form, "octets", octets)?;
+    show_why(output, form, Unread::Entry(section, refusal))?;
     close_entry(output, form)
 }
 

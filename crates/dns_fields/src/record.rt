@@ -2,7 +2,7 @@
 
 #![tactic(auto, using(packet_fields::proofs::Fields::cells_both, packet_fields::proofs::Fields::cells_none))]
 
-ghost use Rattle.std.specs.Prelude.{◌≡◌, IfErr, IfOk, IsOkAnd, OnOk};
+ghost use Rattle.std.specs.Prelude.{◌≡◌, IfErr, IfOk, IsOkAnd, OnOk, codes};
 ghost use Rattle.dns_wire.specs.DnsPacket.{view_octets};
 ghost use Rattle.dns_wire.specs.DnsPacket.{header as header_field};
 ghost use Rattle.wirebase.specs.Bytes.{Reaches};
@@ -11,14 +11,16 @@ ghost use Rattle.record_wire.specs.Name.{labels_of};
 ghost use Rattle.record_wire.specs.Record.{question_of, record_of};
 ghost use Rattle.record_wire.specs.RecordDisplay.{section_display};
 ghost use Rattle.record_wire.specs.RecordText.{IsRecordText, RecordTextValue, RefusesText, record_text_of};
+ghost use Rattle.packet_fields.specs.Fields.{first_text, missing};
+ghost use Rattle.packet_fields.specs.Output.{Gains};
 ghost use Rattle.packet_fields.specs.Prints.{PrintsCells};
 ghost use Rattle.packet_fields.specs.Entries.{PrintsEntry};
 ghost use Rattle.packet_fields.specs.private.Entries.{PrintsSomeEntry};
 ghost use Rattle.dns_fields.specs.Record.{BlankIs, IsRefusedRecord, OwnerIs, QuestionIs, RecordIs, known_cells, mark};
 ghost use Rattle.dns_fields.specs.Record.{blank_text, is_blank, is_inverse_query, question_entry, record_entry};
-ghost use Rattle.dns_fields.specs.Record.{refused_question};
+ghost use Rattle.dns_fields.specs.Record.{refused_cells, refused_question};
 ghost use Rattle.dns_fields.specs.Kind.{is_multicast};
-ghost use Rattle.dns_fields.specs.private.Parts.{PrintsSomeCell};
+ghost use Rattle.dns_fields.specs.private.Parts.{PrintsSomeFront};
 
 use crate::header::{opcode_of, word_of};
 use crate::kind::{Kind, NameOf, TypeOf};
@@ -100,15 +102,32 @@ fn show_refused_question<W: Write>(
         (refused_question kind (question_of question.now) unread)) }
 {
     open_entry(output, form, is_first, "section", "question")?;
-    first_cell(output, form, "status", "refused")?;
-    keyed_cell(output, form, "why", Word(Why(unread)))?;
+    show_no_name(output, form)?;
     keyed_cell(output, form, "name_octets", question.name)?;
     let class = kind.question_class(question);
     keyed_cell(output, form, "class", Word(Class(class)))?;
     keyed_cell(output, form, "type", Word(TypeOf(kind, question.type_)))?;
     let is_marked = kind.wants_unicast(question);
     show_mark(output, form, is_marked, "unicast_response")?;
+    show_why(output, form, unread)?;
     close_entry(output, form)
+}
+
+/// Prints none as the name of an entry.
+pub(crate) fn show_no_name<W: Write>(output: &mut W, form: Form) -> io::Result<()>
+    ensures { OnOk result (Gains (W.contents output.old) (W.contents output.new)
+        (first_text form (codes "name") missing)) }
+{
+    let none: Option<&str> = None;
+    first_cell(output, form, "name", none)
+}
+
+/// Prints why an entry can't be read, or not to its end.
+pub(crate) fn show_why<W: Write>(output: &mut W, form: Form, unread: Unread) -> io::Result<()>
+    ensures { OnOk result (PrintsCells form (W.contents output.old) (W.contents output.new)
+        (refused_cells unread)) }
+{
+    keyed_cell(output, form, "refused", Word(Why(unread)))
 }
 
 // Prints that a flag is set, where it is.
@@ -271,14 +290,13 @@ pub(crate) fn show_refused_record<'a, W: Write>(
         (IsRefusedRecord kind (view_octets packet.now) section (record_of «record».now) unread)) }
 {
     open_entry(output, form, is_first, "section", label_of(section))?;
-    first_cell(output, form, "status", "refused")?;
-    keyed_cell(output, form, "why", Word(Why(unread)))?;
     show_owner(output, form, kind, packet, record.name)?;
     show_known(output, form, kind, record)?;
+    show_why(output, form, unread)?;
     close_entry(output, form)
 }
 
-// Prints the name of a record, or its octets where it can't be read.
+// Prints the name of a record; where it can't be read none, and its octets.
 fn show_owner<'a, W: Write>(
     output: &mut W,
     form: Form,
@@ -286,12 +304,15 @@ fn show_owner<'a, W: Write>(
     packet: &Packet<&'a [u8]>,
     name: &'a [u8],
 ) -> io::Result<()>
-    ensures { OnOk result (PrintsSomeCell form (W.contents output.old) (W.contents output.new)
+    ensures { OnOk result (PrintsSomeFront form (W.contents output.old) (W.contents output.new) (codes "name")
         (OwnerIs kind (view_octets packet.now) name.now)) }
 {
     match Name::read_or_refusal(packet, name) {
-        Ok(read) => keyed_cell(output, form, "name", Word(NameOf(kind, &read))),
-        Err(_) => keyed_cell(output, form, "name_octets", name),
+        Ok(read) => first_cell(output, form, "name", Word(NameOf(kind, &read))),
+        Err(_) => {
+            show_no_name(output, form)?;
+            keyed_cell(output, form, "name_octets", name)
+        }
     }
 }
 

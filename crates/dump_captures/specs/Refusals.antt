@@ -105,6 +105,7 @@ message_reason message.Cut = reason.Short
 message_reason (message.Icmp4 r) = icmp4_reason r
 message_reason (message.Igmp r) = igmp_reason r
 message_reason (message.Icmp6 r) = icmp6_reason r
+message_reason (message.Lack lack) = reason.Short
 message_reason (message.Dhcp r) = dhcp_reason r
 message_reason (message.Dns u) = dns_reason u
 

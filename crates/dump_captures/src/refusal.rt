@@ -95,6 +95,7 @@ fn message_reason(refusal: message_fields::Refusal) -> Reason
         message_fields::Refusal::Icmp4(refusal) => icmp4_reason(refusal),
         message_fields::Refusal::Igmp(refusal) => igmp_reason(refusal),
         message_fields::Refusal::Icmp6(refusal) => icmp6_reason(refusal),
+        message_fields::Refusal::Lack(_) => Reason::Short,
         message_fields::Refusal::Dhcp(refusal) => dhcp_reason(refusal),
         message_fields::Refusal::Dns(unread) => dns_reason(unread),
     }

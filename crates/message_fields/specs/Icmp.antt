@@ -1,6 +1,7 @@
 -- What messages of ICMPv4, of ICMPv6 and of IGMP print: their fields, and why they are refused.
-use Rattle.std.specs.Prelude.{◌≡◌, ◌==◌, ◌||◌, ◌&&◌, [], ◌∷◌, ◌++◌, Bool, List, None, Option, Some, false, if◌then◌else◌, length}
-use Rattle.std.specs.Prelude.{codes, nat_le, nat_lt, true, ℕ}
+use Rattle.std.specs.Prelude.{◌≡◌, ◌==◌, ◌||◌, ◌&&◌, [], ◌∷◌, ◌++◌, Bool, List, None, Option, Some, false, if◌then◌else◌}
+use Rattle.std.specs.Prelude.{codes, nat_le, true, ℕ}
+use Rattle.std.specs.Option.{option_map, option_or}
 use Rattle.wirebase.specs.Capabilities.{all_of}
 use Rattle.wirebase.specs.declared.capabilities.Checksum.TheVariants as checksum
 use Rattle.wirebase.specs.declared.ipv6.address.Ipv6Address.{Ipv6Address}
@@ -18,6 +19,7 @@ use Rattle.icmp_fields.specs.Icmp6 as fields6
 use Rattle.neighbor_fields.specs.Igmp as igmp_fields
 use Rattle.neighbor_fields.specs.Mld as mld_fields
 use Rattle.neighbor_fields.specs.Ndisc as ndisc_fields
+use Rattle.neighbor_fields.specs.declared.lack.Lack.{Lack}
 use Rattle.message_fields.specs.Refusals.{is_group, is_unknown, refusal_display, refused_items}
 use Rattle.message_fields.specs.declared.refusal.Refusal.{Refusal}
 use Rattle.message_fields.specs.declared.refusal.Refusal.TheVariants as refusal
@@ -45,6 +47,10 @@ Icmp4Is octets =
     Reads (icmp4.IsMessage (all_of checksum.None) octets) (Icmp4Are octets)
     (icmp4.Refuses (all_of checksum.None) octets) refusal.Icmp4 (fields4.unread_items octets)
 
+-- a message that has less than it takes or counts
+abbrev pub refusal_of : Option Lack → Option Refusal
+refusal_of lack = option_map refusal.Lack lack
+
 -- ---- IGMP
 
 -- a report of version 3 (RFC 3376 section 4.2) is read, though the reader of the others does not know its type
@@ -52,7 +58,7 @@ abbrev pub unless_version_3 : GroupRefusal → Option Refusal
 unless_version_3 (group.UnknownType t) = if t == 34 then None else Some (refusal.Igmp (group.UnknownType t))
 unless_version_3 r = Some (refusal.Igmp r)
 
--- why a message is refused
+-- why the reader refuses a message
 pub data IgmpTold (octets : List ℕ) (told : Option Refusal) : Type 0 where
   read : groups.IsRead octets → told ≡ None → IgmpTold octets told
   refused : (r : GroupRefusal) → groups.Refuses octets r → told ≡ unless_version_3 r → IgmpTold octets told
@@ -65,8 +71,11 @@ abbrev pub group_items : Option Refusal → List Item
 group_items None = []
 group_items (Some r) = if_group_items r
 
+-- the fields, and why the message is refused: by its reader, or else for what it has less of
 abbrev pub IgmpIs : List ℕ → List Item → Option Refusal → Type 0
-IgmpIs octets items told = IgmpTold octets told × (items ≡ igmp_fields.message_items octets ++ group_items told)
+IgmpIs octets items told =
+    (why : Option Refusal) × IgmpTold octets why × (items ≡ igmp_fields.message_items octets ++ group_items why)
+    × (told ≡ option_or why (refusal_of (igmp_fields.message_lack octets)))
 
 -- ---- ICMPv6
 
@@ -78,11 +87,6 @@ has_mld_type (t ∷ rest) = (nat_le 130 t && nat_le t 132) || (t == 143)
 abbrev pub has_ndisc_type : List ℕ → Bool
 has_ndisc_type [] = false
 has_ndisc_type (t ∷ rest) = nat_le 133 t && nat_le t 137
-
--- why a message of multicast listeners is refused
-abbrev pub short_of : List ℕ → Option Refusal
-short_of octets =
-    if nat_lt (length octets) 8 then Some (refusal.Icmp6 (icmp6_refusal.Message icmpv6.Short)) else None
 
 -- why a message of neighbor discovery is refused
 pub data NdiscTold (source destination : Ipv6Address) (octets : List ℕ) (told : Option Refusal) : Type 0 where
@@ -115,8 +119,8 @@ OthersAre source destination octets =
 -- By its type: a message of multicast listeners, one of neighbor discovery, or another.
 pub data Icmp6Is (source destination : Ipv6Address) (octets : List ℕ) (items : List Item) (told : Option Refusal)
     : Type 0 where
-  of_listeners : has_mld_type octets ≡ true → items ≡ mld_fields.message_items octets → told ≡ short_of octets
-      → Icmp6Is source destination octets items told
+  of_listeners : has_mld_type octets ≡ true → items ≡ mld_fields.message_items octets
+      → told ≡ refusal_of (mld_fields.message_lack octets) → Icmp6Is source destination octets items told
   of_neighbors : has_mld_type octets ≡ false → has_ndisc_type octets ≡ true
       → NeighborIs source destination octets items told → Icmp6Is source destination octets items told
   of_others : has_mld_type octets ≡ false → has_ndisc_type octets ≡ false

@@ -5,13 +5,14 @@
 ghost use Rattle.std.specs.Prelude.{◌≡◌, IfOk, OnOk};
 ghost use Rattle.packet_fields.specs.Prints.{Prints, PrintsSome};
 ghost use Rattle.message_fields.specs.Icmp.{Icmp4Is, Icmp6Is, IgmpIs, IgmpTold, NdiscTold, NeighborIs, OthersAre, unless_short, group_items, if_group_items, mistake_items, unless_version_3};
-ghost use Rattle.message_fields.specs.Icmp.{has_mld_type, has_ndisc_type, short_of};
+ghost use Rattle.message_fields.specs.Icmp.{has_mld_type, has_ndisc_type, refusal_of};
 
 use crate::refusal::Refusal;
 use crate::show::{show_phrase, show_refused};
 use icmp_fields::{icmp4, icmp6};
 use icmp4_wire::igmp;
 use icmp6_wire::icmpv6;
+use neighbor_fields::Lack;
 use neighbor_fields::igmp::show_igmp as show_igmp_fields;
 use neighbor_fields::mld::show_mld;
 use neighbor_fields::ndisc::show_ndisc;
@@ -21,9 +22,6 @@ use std::alloc::Global;
 use std::io;
 use std::io::Write;
 use wirebase::{ChecksumCapabilities, Ipv6Address};
-
-// The length of the fixed part of every message.
-const HEADER_LEN: usize = 8;
 
 // The type of a membership report of version 3 (RFC 3376 section 4.2).
 const MEMBERSHIP_REPORT_V3: u8 = 0x22;
@@ -73,7 +71,7 @@ fn show_mistake<W: Write>(
     show_refused(output, form, alloc, refusal)
 }
 
-/// Prints an IGMP message, and returns why it is refused.
+/// Prints an IGMP message, and returns why it is refused or read in part.
 pub(crate) fn show_igmp<W: Write>(
     output: &mut W,
     form: Form,
@@ -83,13 +81,23 @@ pub(crate) fn show_igmp<W: Write>(
     ensures { IfOk result (λ told. PrintsSome form (W.contents output.old) (W.contents output.new)
         (λ items. IgmpIs octets.now items told)) }
 {
-    let told = why_igmp(octets);
-    show_igmp_fields(output, form, octets)?;
-    show_group(output, form, alloc, told)?;
-    Ok(told)
+    let why = why_igmp(octets);
+    let lack = show_igmp_fields(output, form, octets)?;
+    show_group(output, form, alloc, why)?;
+    Ok(why.or(refusal_of(lack)))
 }
 
-// Why an IGMP message is refused. Of version 3 each is read.
+// Why a message that has less than it takes or counts is refused.
+fn refusal_of(lack: Option<Lack>) -> Option<Refusal>
+    ensures { result ≡ refusal_of lack }
+{
+    match lack {
+        Some(lack) => Some(Refusal::Lack(lack)),
+        None => None,
+    }
+}
+
+// Why its reader refuses an IGMP message. Of version 3 each is read.
 fn why_igmp(octets: &[u8]) -> Option<Refusal>
     ensures { IgmpTold octets.now result }
 {
@@ -138,7 +146,7 @@ fn show_if_group<W: Write>(
     show_phrase(output, form, alloc, "group_refused", refusal)
 }
 
-/// Prints an ICMPv6 message from one address to another, and returns why it is refused.
+/// Prints an ICMPv6 message from one address to another, and returns why it is refused or read in part.
 pub(crate) fn show_icmp6<W: Write>(
     output: &mut W,
     form: Form,
@@ -151,8 +159,8 @@ pub(crate) fn show_icmp6<W: Write>(
         (λ items. Icmp6Is src_addr.now dst_addr.now octets.now items told)) }
 {
     if has_mld_type(octets) {
-        show_mld(output, form, octets)?;
-        return Ok(short_of(octets));
+        let lack = show_mld(output, form, octets)?;
+        return Ok(refusal_of(lack));
     }
     if has_ndisc_type(octets) {
         return show_neighbor(output, form, alloc, src_addr, dst_addr, octets);
@@ -172,16 +180,6 @@ fn has_ndisc_type(octets: &[u8]) -> bool
     ensures { result ≡ has_ndisc_type octets.now }
 {
     matches!(octets, [133..=137, ..])
-}
-
-// Why a message of multicast listeners is refused.
-fn short_of(octets: &[u8]) -> Option<Refusal>
-    ensures { result ≡ short_of octets.now }
-{
-    if octets.len() < HEADER_LEN {
-        return Some(Refusal::Icmp6(Icmpv6Refusal::Message(icmpv6::Refusal::Short)));
-    }
-    None
 }
 
 // Prints a message of neighbor discovery, and returns why it is refused. The fields tell where it is too short.

@@ -7,6 +7,7 @@ use dns_fields::unread::Unread;
 use frame_wire::udp;
 use icmp4_wire::{icmpv4, igmp};
 use icmp6_wire::icmpv6;
+use neighbor_fields::Lack;
 use quote_wire::message::{Icmpv4Refusal, Icmpv6Refusal};
 use quote_wire::{icmpv4_error, icmpv6_error};
 use std::fmt;
@@ -26,6 +27,8 @@ pub enum Refusal {
     Igmp(igmp::Refusal),
     /// The ICMPv6 message is refused.
     Icmp6(Icmpv6Refusal),
+    /// The message of IGMP or of multicast listeners has less than it takes or counts.
+    Lack(Lack),
     /// The DHCP packet is read in part.
     Dhcp(dhcp_fields::Refusal),
     /// The DNS message is read in part.
@@ -69,6 +72,7 @@ impl fmt::Display for Refusal {
             Refusal::Icmp4(refusal) => write!(f, "{refusal}"),
             Refusal::Igmp(refusal) => write!(f, "{refusal}"),
             Refusal::Icmp6(refusal) => write!(f, "{refusal}"),
+            Refusal::Lack(lack) => write!(f, "{lack}"),
             Refusal::Dhcp(refusal) => write!(f, "{refusal}"),
             Refusal::Dns(unread) => write!(f, "{unread}"),
         }

@@ -1,0 +1,2 @@
+pub mod RecordsInTurn
+pub mod Told

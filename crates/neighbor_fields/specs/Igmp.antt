@@ -1,13 +1,15 @@
 -- Messages of the Internet Group Management Protocol, versions 1 to 3 (RFC 1112 appendix I, RFC 2236 section 2, RFC
 -- 3376 section 4), as fields.
-use Rattle.std.specs.Prelude.{◌==◌, ◌*◌, [], ◌∷◌, ◌++◌, List, ℕ, codes, drop, if◌then◌else◌, length, nat_lt}
+use Rattle.std.specs.Prelude.{◌==◌, ◌*◌, [], ◌∷◌, ◌++◌, List, None, Option, Some, ℕ, codes, drop, if◌then◌else◌, length}
+use Rattle.std.specs.Prelude.{nat_lt}
 use Rattle.wirebase.specs.Bytes.{byte_of, bytes_of, field as at, number_of}
 use Rattle.packet_fields.specs.Fields.{Item, field, named, number, octets, text, time}
 use Rattle.packet_fields.specs.Names.{Rows, name_in}
 use Rattle.packet_fields.specs.Texts.{address_text}
 use Rattle.neighbor_fields.specs.Messages.{additional_items, code_in, cut_items, type_in}
-use Rattle.neighbor_fields.specs.Records.{code_number, querier_items, record_entry, record_len, records_items}
-use Rattle.neighbor_fields.specs.Records.{sources_items}
+use Rattle.neighbor_fields.specs.Records.{code_number, querier_items, records_items, records_lack}
+use Rattle.neighbor_fields.specs.Records.{sources_items, sources_lack}
+use Rattle.neighbor_fields.specs.declared.lack.Lack.{Lack}
 
 -- IANA's registry of the types of IGMP
 abbrev pub type_names : Rows
@@ -55,21 +57,49 @@ group_message_items version bytes =
 abbrev pub report_items : List ℕ → List Item
 report_items bytes =
     (field (codes "version") (number 3) ∷ [])
-    ++ records_items (record_len 4) (record_entry 4) (number_of (at 6 8) bytes) (drop 8 bytes)
+    ++ records_items 4 (number_of (at 6 8) bytes) (drop 8 bytes)
 
 -- any other message, by its code and the octets behind the checksum
 abbrev pub other_items : List ℕ → List Item
 other_items bytes = field (codes "code") (number (code_in bytes)) ∷ field (codes "data") (octets (drop 4 bytes)) ∷ []
 
+-- a message that counts nothing
+abbrev pub uncounted_items : List ℕ → List Item
+uncounted_items bytes =
+    if type_in bytes == 0x12 then group_message_items 1 bytes
+    else if type_in bytes == 0x16 then group_message_items 2 bytes
+    else if type_in bytes == 0x17 then group_message_items 2 bytes
+    else other_items bytes
+
 -- what follows the type of 8 octets or more
 abbrev pub body_items : List ℕ → List Item
 body_items bytes =
     if type_in bytes == 0x11 then any_query_items bytes
-    else if type_in bytes == 0x12 then group_message_items 1 bytes
-    else if type_in bytes == 0x16 then group_message_items 2 bytes
-    else if type_in bytes == 0x17 then group_message_items 2 bytes
     else if type_in bytes == 0x22 then report_items bytes
-    else other_items bytes
+    else uncounted_items bytes
 
 abbrev pub message_items : List ℕ → List Item
 message_items bytes = if nat_lt (length bytes) 8 then cut_items bytes else head_items bytes ++ body_items bytes
+
+-- ---- of what a message has less than it takes or counts
+
+abbrev pub query_lack : List ℕ → Option Lack
+query_lack bytes = sources_lack 4 (number_of (at 10 12) bytes) (drop 12 bytes)
+
+abbrev pub any_query_lack : List ℕ → Option Lack
+any_query_lack bytes =
+    if length bytes == 8 then None
+    else if nat_lt (length bytes) 12 then Some Lack.Fields
+    else query_lack bytes
+
+abbrev pub report_lack : List ℕ → Option Lack
+report_lack bytes = records_lack 4 (number_of (at 6 8) bytes) (drop 8 bytes)
+
+abbrev pub body_lack : List ℕ → Option Lack
+body_lack bytes =
+    if type_in bytes == 0x11 then any_query_lack bytes
+    else if type_in bytes == 0x22 then report_lack bytes
+    else None
+
+abbrev pub message_lack : List ℕ → Option Lack
+message_lack bytes = if nat_lt (length bytes) 8 then Some Lack.Fields else body_lack bytes

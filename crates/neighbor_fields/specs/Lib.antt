@@ -1,5 +1,6 @@
 pub mod HopByHop
 pub mod Igmp
+pub mod Lack
 pub mod Messages
 pub mod Mld
 pub mod Ndisc

@@ -1,8 +1,10 @@
 -- What messages of several protocols have in common, as fields.
-use Rattle.std.specs.Prelude.{[], ◌∷◌, Bool, List, None, ℕ, codes, if◌then◌else◌}
+use Rattle.std.specs.Prelude.{[], ◌∷◌, List, None, ℕ, codes}
 use Rattle.wirebase.specs.Bytes.{byte_of, field as at}
 use Rattle.packet_fields.specs.Fields.{Item, field, named, octets, text}
 use Rattle.packet_fields.specs.Names.{Rows, name_in}
+use Rattle.neighbor_fields.specs.Lack.{lack_text}
+use Rattle.neighbor_fields.specs.declared.lack.Lack.{Lack}
 
 -- IANA's registry of the types of ICMPv6: neighbor discovery and multicast listeners
 abbrev pub type_names : Rows
@@ -30,12 +32,7 @@ head_items bytes =
 
 -- octets that are cut within fields
 abbrev pub cut_items : List ℕ → List Item
-cut_items d =
-    field (codes "refused") (text (codes "fewer bytes than the fields take")) ∷ field (codes "data") (octets d) ∷ []
-
--- that less is there than is counted, where that is so
-abbrev pub lack_items : Bool → List ℕ → List Item
-lack_items is_lacking why = if is_lacking then field (codes "refused") (text why) ∷ [] else []
+cut_items d = field (codes "refused") (text (lack_text Lack.Fields)) ∷ field (codes "data") (octets d) ∷ []
 
 -- octets behind all that is counted, where there are any
 abbrev pub additional_items : List ℕ → List Item

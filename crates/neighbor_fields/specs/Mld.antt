@@ -1,11 +1,12 @@
 -- Messages of multicast listener discovery, versions 1 and 2 (RFC 2710 section 3, RFC 3810 section 5), as fields.
-use Rattle.std.specs.Prelude.{◌==◌, [], ◌∷◌, ◌++◌, List, ℕ, codes, drop, if◌then◌else◌, length, nat_lt}
+use Rattle.std.specs.Prelude.{◌==◌, [], ◌∷◌, ◌++◌, List, None, Option, Some, ℕ, codes, drop, if◌then◌else◌, length, nat_lt}
 use Rattle.wirebase.specs.Bytes.{byte_of, bytes_of, field as at, number_of}
 use Rattle.packet_fields.specs.Fields.{Item, field, number, octets, text, time}
 use Rattle.packet_fields.specs.Texts.{address_text}
 use Rattle.neighbor_fields.specs.Messages.{additional_items, cut_items, head_items, type_in}
-use Rattle.neighbor_fields.specs.Records.{long_code_number, querier_items, record_entry, record_len, records_items}
-use Rattle.neighbor_fields.specs.Records.{sources_items}
+use Rattle.neighbor_fields.specs.Records.{long_code_number, querier_items, records_items, records_lack}
+use Rattle.neighbor_fields.specs.Records.{sources_items, sources_lack}
+use Rattle.neighbor_fields.specs.declared.lack.Lack.{Lack}
 
 abbrev pub group_items : List ℕ → List Item
 group_items bytes = field (codes "mcast_addr") (text (address_text (bytes_of (at 8 24) bytes))) ∷ []
@@ -42,7 +43,7 @@ old_items bytes = if nat_lt (length bytes) 24 then cut_items (drop 4 bytes) else
 abbrev pub counted_items : List ℕ → List Item
 counted_items bytes =
     (field (codes "version") (number 2) ∷ [])
-    ++ records_items (record_len 16) (record_entry 16) (number_of (at 6 8) bytes) (drop 8 bytes)
+    ++ records_items 16 (number_of (at 6 8) bytes) (drop 8 bytes)
 
 abbrev pub report_items : List ℕ → List Item
 report_items bytes = if nat_lt (length bytes) 8 then cut_items (drop 4 bytes) else counted_items bytes
@@ -58,3 +59,34 @@ body_items bytes =
 
 abbrev pub message_items : List ℕ → List Item
 message_items bytes = if nat_lt (length bytes) 4 then cut_items bytes else head_items bytes ++ body_items bytes
+
+-- ---- of what a message has less than it takes or counts
+
+abbrev pub query_lack : List ℕ → Option Lack
+query_lack bytes = sources_lack 16 (number_of (at 26 28) bytes) (drop 28 bytes)
+
+abbrev pub any_query_lack : List ℕ → Option Lack
+any_query_lack bytes =
+    if length bytes == 24 then None
+    else if nat_lt (length bytes) 28 then Some Lack.Fields
+    else query_lack bytes
+
+abbrev pub old_lack : List ℕ → Option Lack
+old_lack bytes = if nat_lt (length bytes) 24 then Some Lack.Fields else None
+
+abbrev pub counted_lack : List ℕ → Option Lack
+counted_lack bytes = records_lack 16 (number_of (at 6 8) bytes) (drop 8 bytes)
+
+abbrev pub report_lack : List ℕ → Option Lack
+report_lack bytes = if nat_lt (length bytes) 8 then Some Lack.Fields else counted_lack bytes
+
+abbrev pub body_lack : List ℕ → Option Lack
+body_lack bytes =
+    if type_in bytes == 130 then any_query_lack bytes
+    else if type_in bytes == 131 then old_lack bytes
+    else if type_in bytes == 132 then old_lack bytes
+    else if type_in bytes == 143 then report_lack bytes
+    else None
+
+abbrev pub message_lack : List ℕ → Option Lack
+message_lack bytes = if nat_lt (length bytes) 4 then Some Lack.Fields else body_lack bytes

@@ -70,20 +70,26 @@ option_len bytes =
     else if nat_lt (length bytes) (8 * units_in bytes) then length bytes
     else 8 * units_in bytes
 
--- why an option is refused, where it is: by the length that its type has, if it has one, and by the length that it
--- counts
-abbrev pub wrong_len : ℕ → ℕ → Option (List ℕ)
-wrong_len t len =
-    if t == 3 then (if len == 32 then None else Some (codes "not 32 bytes"))
-    else if t == 4 then (if nat_lt len 48 then Some (codes "fewer than 48 bytes") else None)
-    else if t == 5 then (if len == 8 then None else Some (codes "not 8 bytes"))
+-- why a redirected packet is refused, where it is: it has no room for an IPv6 header, or its version is another
+abbrev pub wrong_quote : List ℕ → Option (List ℕ)
+wrong_quote bytes =
+    if nat_lt (length bytes) 48 then Some (codes "fewer than 48 bytes")
+    else if byte_of (at 8 9) bytes / 16 == 6 then None
+    else Some (codes "not of version 6")
+
+-- why an option is refused, where it is: by the length that it counts, and by what its type asks of it
+abbrev pub wrong_form : List ℕ → Option (List ℕ)
+wrong_form bytes =
+    if type_in bytes == 3 then (if length bytes == 32 then None else Some (codes "not 32 bytes"))
+    else if type_in bytes == 4 then wrong_quote bytes
+    else if type_in bytes == 5 then (if length bytes == 8 then None else Some (codes "not 8 bytes"))
     else None
 
 abbrev pub refusal : List ℕ → Option (List ℕ)
 refusal bytes =
     if nat_lt (length bytes) 2 then Some (codes "no length")
     else if units_in bytes == 0 then Some (codes "a length of 0")
-    else if length bytes == 8 * units_in bytes then wrong_len (type_in bytes) (length bytes)
+    else if length bytes == 8 * units_in bytes then wrong_form bytes
     else Some (codes "fewer bytes than the option counts")
 
 abbrev pub label_of : ℕ → List ℕ

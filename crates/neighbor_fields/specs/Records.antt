@@ -6,16 +6,19 @@
 -- +---------------+---------------+-------------------------------+
 -- | group address, sources, auxiliary data in words of 4 octets
 -- +- - - -
-use Rattle.std.specs.Prelude.{◌==◌, ◌*◌, ◌/◌, ◌%◌, ◌+◌, ◌^◌, [], ◌∷◌, ◌++◌, List, Some, ℕ, codes, drop}
+use Rattle.std.specs.Prelude.{zero, suc, ◌==◌, ◌||◌, ◌*◌, ◌/◌, ◌%◌, ◌+◌, ◌^◌, [], ◌∷◌, ◌++◌, Bool, List, None, Option}
+use Rattle.std.specs.Prelude.{Some, ℕ, codes, drop}
 use Rattle.std.specs.Prelude.{if◌then◌else◌, length, map, nat_lt, take}
 use Rattle.wirebase.specs.Bytes.{byte_of, bytes_of, field as at, number_of}
 use Rattle.packet_fields.specs.Entries.{hidden_value, keyed_value, octets_entry}
 use Rattle.packet_fields.specs.Fields.{Cell, Entry, Item, entries, field, number, octets, text, texts, time, truth}
 use Rattle.packet_fields.specs.Labels.{label_text}
 use Rattle.packet_fields.specs.Names.{Rows, name_in}
-use Rattle.packet_fields.specs.Parts.{behind, missing, parts}
+use Rattle.packet_fields.specs.Parts.{behind, parts}
 use Rattle.packet_fields.specs.Texts.{address_text, addresses}
-use Rattle.neighbor_fields.specs.Messages.{additional_items, lack_items, type_in}
+use Rattle.neighbor_fields.specs.Lack.{lack_items}
+use Rattle.neighbor_fields.specs.Messages.{additional_items, type_in}
+use Rattle.neighbor_fields.specs.declared.lack.Lack.{Lack}
 
 -- the types of records (RFC 3810 section 5.2.12, RFC 3376 section 4.2.12)
 abbrev pub record_names : Rows
@@ -74,21 +77,31 @@ record_entry width bytes =
     else if length bytes == counted_len width bytes then whole_entry width bytes
     else cut_entry bytes
 
--- ---- `count` records, and what stands behind them
+-- ---- `count` records, that fewer of them are whole, where that is so, and what stands behind them
 
-abbrev pub records_items : (List ℕ → ℕ) → (List ℕ → Entry) → ℕ → List ℕ → List Item
-records_items len entry count bytes =
-    (entries (codes "records") (map entry (parts len count bytes)) ∷ [])
-    ++ lack_items (nat_lt 0 (missing len count bytes)) (codes "fewer records than the report counts")
-    ++ additional_items (behind len count bytes)
+abbrev pub is_cut : ℕ → List ℕ → Bool
+is_cut width bytes = nat_lt (length bytes) 4 || nat_lt (length bytes) (counted_len width bytes)
 
--- ---- `count` sources of a query, and what stands behind them
+abbrev pub records_lack : ℕ → ℕ → List ℕ → Option Lack
+records_lack width zero bytes = None
+records_lack width (suc count) bytes =
+    if is_cut width bytes then Some Lack.Records
+    else records_lack width count (drop (counted_len width bytes) bytes)
+
+abbrev pub records_items : ℕ → ℕ → List ℕ → List Item
+records_items width count bytes =
+    (entries (codes "records") (map (record_entry width) (parts (record_len width) count bytes)) ∷ [])
+    ++ lack_items (records_lack width count bytes) ++ additional_items (behind (record_len width) count bytes)
+
+-- ---- `count` sources of a query, that fewer of them are whole, where that is so, and what stands behind them
+
+abbrev pub sources_lack : ℕ → ℕ → List ℕ → Option Lack
+sources_lack width count bytes = if nat_lt (length bytes) (width * count) then Some Lack.Sources else None
 
 abbrev pub sources_items : ℕ → ℕ → List ℕ → List Item
 sources_items width count bytes =
     (field (codes "sources") (texts (addresses width (take (width * count) bytes))) ∷ [])
-    ++ lack_items (nat_lt (length bytes) (width * count)) (codes "fewer sources than the query counts")
-    ++ additional_items (drop (width * count) bytes)
+    ++ lack_items (sources_lack width count bytes) ++ additional_items (drop (width * count) bytes)
 
 -- ---- codes
 

@@ -1,16 +1,18 @@
 //! Messages of the Internet Group Management Protocol, versions 1 to 3 (RFC 1112 appendix I, RFC 2236 section 2, RFC
 //! 3376 section 4).
 
-ghost use Rattle.std.specs.Prelude.{◌≡◌, ◌≤◌, OnOk, length};
+ghost use Rattle.std.specs.Prelude.{◌≡◌, ◌≤◌, IfOk, OnOk, length};
 ghost use Rattle.std.specs.Option.{option_map};
 ghost use Rattle.packet_fields.specs.Names.{name_in as name_of};
 ghost use Rattle.packet_fields.specs.Prints.{Prints};
 ghost use Rattle.neighbor_fields.specs.Igmp.{any_query_items, body_items, group_items, group_message_items};
 ghost use Rattle.neighbor_fields.specs.Igmp.{message_items, old_query_items, other_items, query_front, query_items, report_items};
-ghost use Rattle.neighbor_fields.specs.Igmp.{type_names};
+ghost use Rattle.neighbor_fields.specs.Igmp.{any_query_lack, body_lack, message_lack, query_lack, report_lack, type_names};
+ghost use Rattle.neighbor_fields.specs.Igmp.{uncounted_items};
 
+use crate::lack::Lack;
 use crate::messages::{millis, show_additional, show_cut};
-use crate::records::{RecordsV4, code_number, show_querier, show_records, show_sources};
+use crate::records::{code_number, show_querier, show_records_v4, show_sources};
 use packet_fields::Form;
 use packet_fields::field::{field, named};
 use packet_fields::names::{Row, name_in};
@@ -56,13 +58,16 @@ mod place {
 /// Prints a message, by its octets from the type on. A query of 8 octets is one of version 1 where its code is 0 and
 /// else of version 2; one of 12 octets or more is of version 3 (RFC 3376 section 7.1). What is cut says so: a message
 /// within its fields, with the octets that are there; its sources; a record, with its octets. Of a message of another
-/// type the code and the octets behind the checksum are printed.
-pub fn show_igmp<W: Write>(output: &mut W, form: Form, message: &[u8]) -> io::Result<()>
-    ensures { OnOk result (Prints form (W.contents output.old) (W.contents output.new)
+/// type the code and the octets behind the checksum are printed. Returns of what a message has less than it takes or
+/// counts.
+pub fn show_igmp<W: Write>(output: &mut W, form: Form, message: &[u8]) -> io::Result<Option<Lack>>
+    ensures prints { OnOk result (Prints form (W.contents output.old) (W.contents output.new)
         (message_items message.now)) }
+    ensures lack { IfOk result (λ lack. lack ≡ message_lack message.now) }
 {
     if message.len() < place::GROUP_END {
-        return show_cut(output, form, message);
+        show_cut(output, form, message)?;
+        return Ok(Some(Lack::Fields));
     }
     let type_ = message[0];
     named(output, form, "type", type_ as u64, type_name(type_))?;
@@ -70,34 +75,52 @@ pub fn show_igmp<W: Write>(output: &mut W, form: Form, message: &[u8]) -> io::Re
 }
 
 // Prints what follows the type.
-fn show_body<W: Write>(output: &mut W, form: Form, message: &[u8]) -> io::Result<()>
+fn show_body<W: Write>(output: &mut W, form: Form, message: &[u8]) -> io::Result<Option<Lack>>
     requires { 8 ≤ length message.now }
-    ensures { OnOk result (Prints form (W.contents output.old) (W.contents output.new)
+    ensures prints { OnOk result (Prints form (W.contents output.old) (W.contents output.new)
         (body_items message.now)) }
+    ensures lack { IfOk result (λ lack. lack ≡ body_lack message.now) }
 {
     match message[0] {
         MEMBERSHIP_QUERY => show_any_query(output, form, message),
+        MEMBERSHIP_REPORT_V3 => show_report(output, form, message),
+        _ => {
+            show_uncounted(output, form, message)?;
+            Ok(None)
+        }
+    }
+}
+
+// Prints a message that counts nothing.
+fn show_uncounted<W: Write>(output: &mut W, form: Form, message: &[u8]) -> io::Result<()>
+    requires { 8 ≤ length message.now }
+    ensures { OnOk result (Prints form (W.contents output.old) (W.contents output.new)
+        (uncounted_items message.now)) }
+{
+    match message[0] {
         MEMBERSHIP_REPORT_V1 => show_group_message(output, form, 1, message),
         MEMBERSHIP_REPORT_V2 => show_group_message(output, form, 2, message),
         LEAVE_GROUP => show_group_message(output, form, 2, message),
-        MEMBERSHIP_REPORT_V3 => show_report(output, form, message),
         _ => show_other(output, form, message),
     }
 }
 
 // Prints a query, by its length.
-fn show_any_query<W: Write>(output: &mut W, form: Form, message: &[u8]) -> io::Result<()>
+fn show_any_query<W: Write>(output: &mut W, form: Form, message: &[u8]) -> io::Result<Option<Lack>>
     requires { 8 ≤ length message.now }
-    ensures { OnOk result (Prints form (W.contents output.old) (W.contents output.new)
+    ensures prints { OnOk result (Prints form (W.contents output.old) (W.contents output.new)
         (any_query_items message.now)) }
+    ensures lack { IfOk result (λ lack. lack ≡ any_query_lack message.now) }
 {
     if message.len() == place::GROUP_END {
         let version = if message[1] == 0 { 1 } else { 2 };
-        return show_old_query(output, form, version, message);
+        show_old_query(output, form, version, message)?;
+        return Ok(None);
     }
     if message.len() < place::SOURCES {
         let (_, octets) = message.split_at(place::HEAD_LEN);
-        return show_cut(output, form, octets);
+        show_cut(output, form, octets)?;
+        return Ok(Some(Lack::Fields));
     }
     show_query(output, form, message)
 }
@@ -118,10 +141,11 @@ fn show_old_query<W: Write>(
 }
 
 // Prints a query of version 3.
-fn show_query<W: Write>(output: &mut W, form: Form, message: &[u8]) -> io::Result<()>
+fn show_query<W: Write>(output: &mut W, form: Form, message: &[u8]) -> io::Result<Option<Lack>>
     requires { 12 ≤ length message.now }
-    ensures { OnOk result (Prints form (W.contents output.old) (W.contents output.new)
+    ensures prints { OnOk result (Prints form (W.contents output.old) (W.contents output.new)
         (query_items message.now)) }
+    ensures lack { IfOk result (λ lack. lack ≡ query_lack message.now) }
 {
     let count = message.u16_at(place::NUM_SRCS);
     let (_, sources) = message.split_at(place::SOURCES);
@@ -182,15 +206,16 @@ fn show_group_message<W: Write>(
 }
 
 // Prints a report of version 3.
-fn show_report<W: Write>(output: &mut W, form: Form, message: &[u8]) -> io::Result<()>
+fn show_report<W: Write>(output: &mut W, form: Form, message: &[u8]) -> io::Result<Option<Lack>>
     requires { 8 ≤ length message.now }
-    ensures { OnOk result (Prints form (W.contents output.old) (W.contents output.new)
+    ensures prints { OnOk result (Prints form (W.contents output.old) (W.contents output.new)
         (report_items message.now)) }
+    ensures lack { IfOk result (λ lack. lack ≡ report_lack message.now) }
 {
     let count = message.u16_at(place::NUM_RECORDS);
     let (_, records) = message.split_at(place::RECORDS);
     field(output, form, "version", 3u8)?;
-    show_records::<RecordsV4, W>(output, form, count, records)
+    show_records_v4(output, form, count, records)
 }
 
 // Prints any other message.

@@ -7,8 +7,10 @@ ghost use Rattle.std.specs.Option.{option_map};
 ghost use Rattle.wirebase.specs.Duration.{millis_of};
 ghost use Rattle.packet_fields.specs.Names.{name_in as name_of};
 ghost use Rattle.packet_fields.specs.Prints.{Prints};
-ghost use Rattle.neighbor_fields.specs.Messages.{additional_items, cut_items, head_items, lack_items, type_names};
+ghost use Rattle.neighbor_fields.specs.Lack.{lack_items};
+ghost use Rattle.neighbor_fields.specs.Messages.{additional_items, cut_items, head_items, type_names};
 
+use crate::lack::Lack;
 use packet_fields::Form;
 use packet_fields::field::{field, named};
 use packet_fields::names::{Row, name_in};
@@ -35,24 +37,19 @@ pub(crate) fn show_cut<W: Write>(output: &mut W, form: Form, octets: &[u8]) -> i
     ensures { OnOk result (Prints form (W.contents output.old) (W.contents output.new)
         (cut_items octets.now)) }
 {
-    field(output, form, "refused", "fewer bytes than the fields take")?;
+    field(output, form, "refused", Lack::Fields.phrase())?;
     field(output, form, "data", octets)
 }
 
-// Prints that less is there than is counted, where that is so.
-pub(crate) fn show_lack<W: Write>(
-    output: &mut W,
-    form: Form,
-    is_lacking: bool,
-    why: &str,
-) -> io::Result<()>
+// Prints of what there is less than is counted, where that is so.
+pub(crate) fn show_lack<W: Write>(output: &mut W, form: Form, lack: Option<Lack>) -> io::Result<()>
     ensures { OnOk result (Prints form (W.contents output.old) (W.contents output.new)
-        (lack_items is_lacking why.now)) }
+        (lack_items lack)) }
 {
-    if !is_lacking {
-        return Ok(());
+    match lack {
+        Some(lack) => field(output, form, "refused", lack.phrase()),
+        None => Ok(()),
     }
-    field(output, form, "refused", why)
 }
 
 // Prints the octets behind all that is counted, where there are any.

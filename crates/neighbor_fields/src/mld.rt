@@ -1,12 +1,15 @@
 //! Messages of multicast listener discovery, versions 1 and 2 (RFC 2710 section 3, RFC 3810 section 5).
 
-ghost use Rattle.std.specs.Prelude.{◌≤◌, OnOk, length};
+ghost use Rattle.std.specs.Prelude.{◌≡◌, ◌≤◌, IfOk, OnOk, length};
 ghost use Rattle.packet_fields.specs.Prints.{Prints};
 ghost use Rattle.neighbor_fields.specs.Mld.{any_query_items, body_items, counted_items, group_items, message_items};
 ghost use Rattle.neighbor_fields.specs.Mld.{old_items, query_front, query_items, report_items, version_1_items};
+ghost use Rattle.neighbor_fields.specs.Mld.{any_query_lack, body_lack, counted_lack, message_lack, old_lack, query_lack};
+ghost use Rattle.neighbor_fields.specs.Mld.{report_lack};
 
+use crate::lack::Lack;
 use crate::messages::{HEAD_LEN, millis, show_additional, show_cut, show_head};
-use crate::records::{RecordsV6, long_code_number, show_querier, show_records, show_sources};
+use crate::records::{long_code_number, show_querier, show_records_v6, show_sources};
 use packet_fields::Form;
 use packet_fields::field::field;
 use packet_fields::texts::Address;
@@ -47,23 +50,27 @@ mod place {
 
 /// Prints a message of multicast listener discovery, by its octets from the type on. A query of 24 octets is one of
 /// version 1 (RFC 3810 section 8.1). What is cut says so: a message within its fields, with the octets that are there;
-/// its sources; a record, with its octets. Of a message of another type the octets are printed.
-pub fn show_mld<W: Write>(output: &mut W, form: Form, message: &[u8]) -> io::Result<()>
-    ensures { OnOk result (Prints form (W.contents output.old) (W.contents output.new)
+/// its sources; a record, with its octets. Of a message of another type the octets are printed. Returns of what a message
+/// has less than it takes or counts.
+pub fn show_mld<W: Write>(output: &mut W, form: Form, message: &[u8]) -> io::Result<Option<Lack>>
+    ensures prints { OnOk result (Prints form (W.contents output.old) (W.contents output.new)
         (message_items message.now)) }
+    ensures lack { IfOk result (λ lack. lack ≡ message_lack message.now) }
 {
     if message.len() < HEAD_LEN {
-        return show_cut(output, form, message);
+        show_cut(output, form, message)?;
+        return Ok(Some(Lack::Fields));
     }
     show_head(output, form, message)?;
     show_body(output, form, message)
 }
 
 // Prints what follows the checksum.
-fn show_body<W: Write>(output: &mut W, form: Form, message: &[u8]) -> io::Result<()>
+fn show_body<W: Write>(output: &mut W, form: Form, message: &[u8]) -> io::Result<Option<Lack>>
     requires { 4 ≤ length message.now }
-    ensures { OnOk result (Prints form (W.contents output.old) (W.contents output.new)
+    ensures prints { OnOk result (Prints form (W.contents output.old) (W.contents output.new)
         (body_items message.now)) }
+    ensures lack { IfOk result (λ lack. lack ≡ body_lack message.now) }
 {
     let (_, octets) = message.split_at(HEAD_LEN);
     match message[0] {
@@ -71,37 +78,46 @@ fn show_body<W: Write>(output: &mut W, form: Form, message: &[u8]) -> io::Result
         REPORT => show_old(output, form, message),
         DONE => show_old(output, form, message),
         REPORT_V2 => show_report(output, form, message),
-        _ => field(output, form, "data", octets),
+        _ => {
+            field(output, form, "data", octets)?;
+            Ok(None)
+        }
     }
 }
 
 // Prints a query of version 1 or 2.
-fn show_any_query<W: Write>(output: &mut W, form: Form, message: &[u8]) -> io::Result<()>
+fn show_any_query<W: Write>(output: &mut W, form: Form, message: &[u8]) -> io::Result<Option<Lack>>
     requires { 4 ≤ length message.now }
-    ensures { OnOk result (Prints form (W.contents output.old) (W.contents output.new)
+    ensures prints { OnOk result (Prints form (W.contents output.old) (W.contents output.new)
         (any_query_items message.now)) }
+    ensures lack { IfOk result (λ lack. lack ≡ any_query_lack message.now) }
 {
     if message.len() == place::VERSION_1_LEN {
-        return show_version_1(output, form, message);
+        show_version_1(output, form, message)?;
+        return Ok(None);
     }
     if message.len() < place::SOURCES {
         let (_, octets) = message.split_at(HEAD_LEN);
-        return show_cut(output, form, octets);
+        show_cut(output, form, octets)?;
+        return Ok(Some(Lack::Fields));
     }
     show_query(output, form, message)
 }
 
 // Prints a report or done of version 1.
-fn show_old<W: Write>(output: &mut W, form: Form, message: &[u8]) -> io::Result<()>
+fn show_old<W: Write>(output: &mut W, form: Form, message: &[u8]) -> io::Result<Option<Lack>>
     requires { 4 ≤ length message.now }
-    ensures { OnOk result (Prints form (W.contents output.old) (W.contents output.new)
+    ensures prints { OnOk result (Prints form (W.contents output.old) (W.contents output.new)
         (old_items message.now)) }
+    ensures lack { IfOk result (λ lack. lack ≡ old_lack message.now) }
 {
     if message.len() < place::VERSION_1_LEN {
         let (_, octets) = message.split_at(HEAD_LEN);
-        return show_cut(output, form, octets);
+        show_cut(output, form, octets)?;
+        return Ok(Some(Lack::Fields));
     }
-    show_version_1(output, form, message)
+    show_version_1(output, form, message)?;
+    Ok(None)
 }
 
 // Prints the fields of version 1.
@@ -119,10 +135,11 @@ fn show_version_1<W: Write>(output: &mut W, form: Form, message: &[u8]) -> io::R
 }
 
 // Prints a query of version 2.
-fn show_query<W: Write>(output: &mut W, form: Form, message: &[u8]) -> io::Result<()>
+fn show_query<W: Write>(output: &mut W, form: Form, message: &[u8]) -> io::Result<Option<Lack>>
     requires { 28 ≤ length message.now }
-    ensures { OnOk result (Prints form (W.contents output.old) (W.contents output.new)
+    ensures prints { OnOk result (Prints form (W.contents output.old) (W.contents output.new)
         (query_items message.now)) }
+    ensures lack { IfOk result (λ lack. lack ≡ query_lack message.now) }
 {
     let count = message.u16_at(place::NUM_SRCS);
     let (_, sources) = message.split_at(place::SOURCES);
@@ -165,26 +182,29 @@ fn show_group<W: Write>(output: &mut W, form: Form, message: &[u8]) -> io::Resul
 }
 
 // Prints a report of version 2, or the octets of one that is cut.
-fn show_report<W: Write>(output: &mut W, form: Form, message: &[u8]) -> io::Result<()>
+fn show_report<W: Write>(output: &mut W, form: Form, message: &[u8]) -> io::Result<Option<Lack>>
     requires { 4 ≤ length message.now }
-    ensures { OnOk result (Prints form (W.contents output.old) (W.contents output.new)
+    ensures prints { OnOk result (Prints form (W.contents output.old) (W.contents output.new)
         (report_items message.now)) }
+    ensures lack { IfOk result (λ lack. lack ≡ report_lack message.now) }
 {
     if message.len() < place::RECORDS {
         let (_, octets) = message.split_at(HEAD_LEN);
-        return show_cut(output, form, octets);
+        show_cut(output, form, octets)?;
+        return Ok(Some(Lack::Fields));
     }
     show_counted(output, form, message)
 }
 
 // Prints a report of version 2.
-fn show_counted<W: Write>(output: &mut W, form: Form, message: &[u8]) -> io::Result<()>
+fn show_counted<W: Write>(output: &mut W, form: Form, message: &[u8]) -> io::Result<Option<Lack>>
     requires { 8 ≤ length message.now }
-    ensures { OnOk result (Prints form (W.contents output.old) (W.contents output.new)
+    ensures prints { OnOk result (Prints form (W.contents output.old) (W.contents output.new)
         (counted_items message.now)) }
+    ensures lack { IfOk result (λ lack. lack ≡ counted_lack message.now) }
 {
     let count = message.u16_at(place::NUM_RECORDS);
     let (_, records) = message.split_at(place::RECORDS);
     field(output, form, "version", 2u8)?;
-    show_records::<RecordsV6, W>(output, form, count, records)
+    show_records_v6(output, form, count, records)
 }

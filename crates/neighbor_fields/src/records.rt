@@ -2,15 +2,21 @@
 
 #![tactic(auto, using(packet_fields::proofs::Fields::prints_none, packet_fields::proofs::Fields::cells_none))]
 
-ghost use Rattle.std.specs.Prelude.{◌≡◌, ◌≤◌, ◌+◌, ◌^◌, OnOk, length};
+ghost use Rattle.std.specs.Prelude.{◌≡◌, ◌≤◌, ◌+◌, ◌^◌, ◌++◌, ◌∷◌, [], IfOk, OnOk, codes, length, map};
 ghost use Rattle.std.specs.Option.{option_map};
 ghost use Rattle.packet_fields.specs.Entries.{PrintsEntry};
+ghost use Rattle.packet_fields.specs.Fields.{entries as entries_item};
 ghost use Rattle.packet_fields.specs.Labels.{label_text};
+ghost use Rattle.packet_fields.specs.Parts.{behind, parts};
 ghost use Rattle.packet_fields.specs.Prints.{Prints, PrintsCells};
-ghost use Rattle.neighbor_fields.specs.Records.{aux_cells, code_number, counted_len, cut_entry, label_of};
+ghost use Rattle.neighbor_fields.specs.Lack.{lack_items};
+ghost use Rattle.neighbor_fields.specs.Messages.{additional_items};
+ghost use Rattle.neighbor_fields.specs.Records.{aux_cells, code_number, counted_len, cut_entry, is_cut, label_of};
 ghost use Rattle.neighbor_fields.specs.Records.{long_code_number, querier_items, record_entry, record_len};
-ghost use Rattle.neighbor_fields.specs.Records.{records_items, sources_end, sources_items, whole_entry};
+ghost use Rattle.neighbor_fields.specs.Records.{records_items, records_lack, sources_end, sources_items, sources_lack};
+ghost use Rattle.neighbor_fields.specs.Records.{whole_entry};
 
+use crate::lack::Lack;
 use crate::messages::{show_additional, show_lack};
 use packet_fields::Form;
 use packet_fields::entries::show_octets;
@@ -40,25 +46,84 @@ mod place {
     pub const NUM_SRCS: Field = 2..4;
 }
 
-// Prints `count` records of a kind, and what stands behind them.
-pub(crate) fn show_records<P: Part, W: Write>(
+// Prints `count` records with addresses of IPv6 and what stands behind them, and returns whether fewer are whole.
+pub(crate) fn show_records_v6<W: Write>(
     output: &mut W,
     form: Form,
     count: u16,
     octets: &[u8],
+) -> io::Result<Option<Lack>>
+    ensures prints { OnOk result (Prints form (W.contents output.old) (W.contents output.new)
+        (records_items 16 count octets.now)) }
+    ensures lack { IfOk result (λ lack. lack ≡ records_lack 16 count octets.now) }
+{
+    let lack = records_lack(16, count, octets);
+    show_records::<RecordsV6, W>(output, form, count, lack, octets)?;
+    Ok(lack)
+}
+
+// The same with addresses of IPv4.
+pub(crate) fn show_records_v4<W: Write>(
+    output: &mut W,
+    form: Form,
+    count: u16,
+    octets: &[u8],
+) -> io::Result<Option<Lack>>
+    ensures prints { OnOk result (Prints form (W.contents output.old) (W.contents output.new)
+        (records_items 4 count octets.now)) }
+    ensures lack { IfOk result (λ lack. lack ≡ records_lack 4 count octets.now) }
+{
+    let lack = records_lack(4, count, octets);
+    show_records::<RecordsV4, W>(output, form, count, lack, octets)?;
+    Ok(lack)
+}
+
+// Prints `count` records of a kind, that fewer are whole, where that is so, and what stands behind them.
+fn show_records<P: Part, W: Write>(
+    output: &mut W,
+    form: Form,
+    count: u16,
+    lack: Option<Lack>,
+    octets: &[u8],
 ) -> io::Result<()>
     ensures { OnOk result (Prints form (W.contents output.old) (W.contents output.new)
-        (records_items P.part_len P.entry_of count octets.now)) }
+        ((entries_item (codes "records") (map P.entry_of (parts P.part_len count octets.now)) ∷ [])
+        ++ lack_items lack ++ additional_items (behind P.part_len count octets.now))) }
 {
     show_parts::<P, W>(output, form, "records", count as usize, octets)?;
+    show_lack(output, form, lack)?;
     let behind = behind_parts::<P>(count as usize, octets);
-    let why = "fewer records than the report counts";
-    show_lack(output, form, behind.missing > 0, why)?;
     show_additional(output, form, behind.octets)
 }
 
+// Whether fewer than `count` records are whole.
+fn records_lack(width: usize, count: u16, octets: &[u8]) -> Option<Lack>
+    requires { width ≤ 16 }
+    ensures { result ≡ records_lack width count octets.now }
+{
+    let mut rest = octets;
+    let mut left = count;
+    while left > 0 {
+        if is_cut(width, rest) {
+            return Some(Lack::Records);
+        }
+        let (_, others) = rest.split_at(counted_len(width, rest));
+        rest = others;
+        left -= 1;
+    }
+    None
+}
+
+// Whether octets end before the record at their front does.
+fn is_cut(width: usize, octets: &[u8]) -> bool
+    requires { width ≤ 16 }
+    ensures { result ≡ is_cut width octets.now }
+{
+    octets.len() < HEAD_LEN || octets.len() < counted_len(width, octets)
+}
+
 // Records with addresses of IPv6.
-pub(crate) struct RecordsV6;
+struct RecordsV6;
 
 impl Part for RecordsV6 {
     ghost part_len = { record_len 16 };
@@ -75,7 +140,7 @@ impl Part for RecordsV6 {
 }
 
 // Records with addresses of IPv4.
-pub(crate) struct RecordsV4;
+struct RecordsV4;
 
 impl Part for RecordsV4 {
     ghost part_len = { record_len 4 };
@@ -209,30 +274,38 @@ fn show_aux_data<W: Write>(output: &mut W, form: Form, data: &[u8]) -> io::Resul
     keyed_cell(output, form, "aux_data", data)
 }
 
-// Prints `count` sources of a query, and what stands behind them.
+// Prints `count` sources of a query and what stands behind them, and returns whether fewer are whole.
 pub(crate) fn show_sources<W: Write>(
     output: &mut W,
     form: Form,
     width: usize,
     count: u16,
     octets: &[u8],
-) -> io::Result<()>
+) -> io::Result<Option<Lack>>
     requires wide { 1 ≤ width }
     requires small { width ≤ 16 }
-    ensures { OnOk result (Prints form (W.contents output.old) (W.contents output.new)
+    ensures prints { OnOk result (Prints form (W.contents output.old) (W.contents output.new)
         (sources_items width count octets.now)) }
+    ensures lack { IfOk result (λ lack. lack ≡ sources_lack width count octets.now) }
 {
-    let len = width * count as usize;
-    let is_short = octets.len() < len;
-    let (octets, behind) = octets.split_at(len.min(octets.len()));
+    let lack = sources_lack(width, count, octets);
+    let len = octets.len().min(width * count as usize);
+    let (octets, behind) = octets.split_at(len);
     field(output, form, "sources", Addresses { width, octets })?;
-    show_lack(
-        output,
-        form,
-        is_short,
-        "fewer sources than the query counts",
-    )?;
-    show_additional(output, form, behind)
+    show_lack(output, form, lack)?;
+    show_additional(output, form, behind)?;
+    Ok(lack)
+}
+
+// Whether fewer than `count` sources are whole.
+fn sources_lack(width: usize, count: u16, octets: &[u8]) -> Option<Lack>
+    requires { width ≤ 16 }
+    ensures { result ≡ sources_lack width count octets.now }
+{
+    if octets.len() < width * count as usize {
+        return Some(Lack::Sources);
+    }
+    None
 }
 
 // Prints what a query says of its querier.

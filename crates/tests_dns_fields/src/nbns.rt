@@ -101,17 +101,18 @@ fn addresses_of_netbios_names(rt: HostRuntime) {
             \xc0\x0c\0\x20\0\x01\0\0\0\0\0\0",
             Kind::Nbns,
             "  transaction_id=4\n  flags=qr,aa,rd,ra\n  opcode=5 (REGISTRATION)\n  rcode=3 (NAM_ERR)\n\
-             \x20 answer=FRED<20> 0 IN NB unique p-node 192.0.2.7 why=an address is cut octets=2000c00002074000\n\
-             \x20 answer=refused why=the owner: a pointer to place 64 leads nowhere or round name_octets=c040 \
-             ttl=0 class=IN type=NB octets=-\n\
+             \x20 answer=FRED<20> 0 IN NB unique p-node 192.0.2.7 octets=2000c00002074000 refused=an address is cut\n\
+             \x20 answer=none name_octets=c040 ttl=0 class=IN type=NB octets=- \
+             refused=the owner: a pointer to place 64 leads nowhere or round\n\
              \x20 answer=FRED<20> 0 IN NB -\n",
             ",\"transaction_id\":4,\"flags\":[\"qr\",\"aa\",\"rd\",\"ra\"],\
              \"opcode\":5,\"opcode_name\":\"REGISTRATION\",\"rcode\":3,\"rcode_name\":\"NAM_ERR\",\"entries\":[\
              {\"section\":\"answer\",\"name\":\"FRED<20>\",\"ttl\":0,\"class\":\"IN\",\"type\":\"NB\",\
-             \"data\":[\"unique p-node 192.0.2.7\"],\"why\":\"an address is cut\",\"octets\":\"2000c00002074000\"},\
-             {\"section\":\"answer\",\"status\":\"refused\",\
-             \"why\":\"the owner: a pointer to place 64 leads nowhere or round\",\"name_octets\":\"c040\",\
-             \"ttl\":0,\"class\":\"IN\",\"type\":\"NB\",\"octets\":\"\"},\
+             \"data\":[\"unique p-node 192.0.2.7\"],\"octets\":\"2000c00002074000\",\
+             \"refused\":\"an address is cut\"},\
+             {\"section\":\"answer\",\"name\":null,\"name_octets\":\"c040\",\
+             \"ttl\":0,\"class\":\"IN\",\"type\":\"NB\",\"octets\":\"\",\
+             \"refused\":\"the owner: a pointer to place 64 leads nowhere or round\"},\
              {\"section\":\"answer\",\"name\":\"FRED<20>\",\"ttl\":0,\"class\":\"IN\",\"type\":\"NB\",\"data\":[]}]",
             Some(Unread::Addresses),
         ),
@@ -155,18 +156,18 @@ fn status_of_a_node(rt: HostRuntime) {
             \0\0\x21\0\x01\0\0\0\0\0\0",
             Kind::Nbns,
             "  transaction_id=5\n  flags=qr,aa\n  opcode=0 (QUERY)\n  rcode=0 (NOERROR)\n\
-             \x20 answer=. 0 IN NBSTAT FRED<00> unique b-node active statistics=- why=the names are cut \
+             \x20 answer=. 0 IN NBSTAT FRED<00> unique b-node active statistics=- \
              octets=0246524544202020202020202020202000040057\
-             4f524b47524f55502020202020201e84\n\
-             \x20 answer=. 0 IN NBSTAT - statistics=- why=the names are cut octets=-\n",
+             4f524b47524f55502020202020201e84 refused=the names are cut\n\
+             \x20 answer=. 0 IN NBSTAT - statistics=- octets=- refused=the names are cut\n",
             ",\"transaction_id\":5,\"flags\":[\"qr\",\"aa\"],\
              \"opcode\":0,\"opcode_name\":\"QUERY\",\"rcode\":0,\"rcode_name\":\"NOERROR\",\"entries\":[\
              {\"section\":\"answer\",\"name\":\".\",\"ttl\":0,\"class\":\"IN\",\"type\":\"NBSTAT\",\
-             \"data\":[\"FRED<00> unique b-node active\"],\"statistics\":\"\",\"why\":\"the names are cut\",\
+             \"data\":[\"FRED<00> unique b-node active\"],\"statistics\":\"\",\
              \"octets\":\"0246524544202020202020202020202000040057\
-             4f524b47524f55502020202020201e84\"},\
+             4f524b47524f55502020202020201e84\",\"refused\":\"the names are cut\"},\
              {\"section\":\"answer\",\"name\":\".\",\"ttl\":0,\"class\":\"IN\",\"type\":\"NBSTAT\",\
-             \"data\":[],\"statistics\":\"\",\"why\":\"the names are cut\",\"octets\":\"\"}]",
+             \"data\":[],\"statistics\":\"\",\"octets\":\"\",\"refused\":\"the names are cut\"}]",
             Some(Unread::Names),
         ),
     ];

@@ -87,6 +87,40 @@ const LATER_FRAGMENT_JSON: &str = ",\"type\":11,\"type_name\":\"time_exceeded\",
     \"quoted_src_addr\":\"192.0.2.1\",\"quoted_dst_addr\":\"192.0.2.2\",\"quoted_options\":\"\",\
     \"quoted_src_port\":null,\"quoted_dst_port\":null,\"quoted_payload\":\"6162636465666768\"";
 
+// A gateway that has no room for a segment of TCP (RFC 792's source quench), which came with a router alert (RFC 2113):
+// its header has six words, and ends in that option.
+const QUENCH: &[u8] = &[
+    0x04, 0x00, 0x00, 0x00, 0x00, 0x00, 0x00, 0x00, 0x46, 0x10, 0x00, 0x2c, 0xab, 0xcd, 0x00, 0x00,
+    0x3f, 0x06, 0x00, 0x00, 0xc0, 0x00, 0x02, 0x01, 0xc6, 0x33, 0x64, 0x02, 0x94, 0x04, 0x00, 0x00,
+    0xc0, 0x01, 0x00, 0x50, 0x01, 0x02, 0x03, 0x04,
+];
+
+const QUENCH_LINES: &str = "  type=4 (source_quench)
+  code=0
+  quoted_type_of_service=16
+  quoted_total_len=44
+  quoted_ident=43981
+  quoted_dont_frag=false
+  quoted_more_frags=false
+  quoted_frag_offset=0
+  quoted_hop_limit=63
+  quoted_next_header=6 (tcp)
+  quoted_src_addr=192.0.2.1
+  quoted_dst_addr=198.51.100.2
+  quoted_options=94040000
+  quoted_src_port=49153
+  quoted_dst_port=80
+  quoted_payload=c001005001020304
+";
+
+const QUENCH_JSON: &str = ",\"type\":4,\"type_name\":\"source_quench\",\"code\":0,\
+    \"quoted_type_of_service\":16,\"quoted_total_len\":44,\"quoted_ident\":43981,\
+    \"quoted_dont_frag\":false,\"quoted_more_frags\":false,\"quoted_frag_offset\":0,\
+    \"quoted_hop_limit\":63,\"quoted_next_header\":6,\"quoted_next_header_name\":\"tcp\",\
+    \"quoted_src_addr\":\"192.0.2.1\",\"quoted_dst_addr\":\"198.51.100.2\",\
+    \"quoted_options\":\"94040000\",\"quoted_src_port\":49153,\"quoted_dst_port\":80,\
+    \"quoted_payload\":\"c001005001020304\"";
+
 // The fields of a message in either form; empty where the octets are none.
 fn listing(rt: &impl Abort, alloc: Global, form: Form, octets: &[u8]) -> Vec<u8> {
     let mut output = Vec::new(alloc);
@@ -109,6 +143,7 @@ fn echoes_and_errors(rt: HostRuntime) {
         (ECHO_REQUEST, ECHO_REQUEST_LINES, ECHO_REQUEST_JSON),
         (TOO_LONG, TOO_LONG_LINES, TOO_LONG_JSON),
         (LATER_FRAGMENT, LATER_FRAGMENT_LINES, LATER_FRAGMENT_JSON),
+        (QUENCH, QUENCH_LINES, QUENCH_JSON),
     ];
     for &(octets, lines, json) in rows {
         let fields = listing(&rt, rt.alloc(), Form::Lines, octets);
@@ -120,29 +155,39 @@ fn echoes_and_errors(rt: HostRuntime) {
 
 #[test]
 fn gateway_and_pointer_of_errors(rt: HostRuntime) {
-    let rows: &[(u8, u8, &[u8])] = &[
+    let rows: &[(u8, u8, [u8; 4], &[u8])] = &[
         (
             5,
             1,
+            [20, 51, 100, 254],
             b"  type=5 (redirect)\n  code=1 (host)\n  gateway=20.51.100.254\n",
         ),
         (
             12,
             0,
+            [20, 51, 100, 254],
             b"  type=12 (parameter_problem)\n  code=0 (pointer_indicates_the_error)\n  pointer=20\n",
         ),
         (
             3,
             16,
+            [20, 51, 100, 254],
             b"  type=3 (destination_unreachable)\n  code=16\n  next_hop_mtu=none\n",
+        ),
+        // A gateway that knows no RFC 1191 leaves the MTU zero.
+        (
+            3,
+            4,
+            [0, 0, 0, 0],
+            b"  type=3 (destination_unreachable)\n  code=4 (fragmentation_needed)\n  next_hop_mtu=none\n",
         ),
     ];
     let mut octets = [0; 36];
     octets.copy_from_slice(TOO_LONG);
-    octets[4..8].copy_from_slice(&[20, 51, 100, 254]);
-    for &(kind, code, want) in rows {
+    for &(kind, code, rest, want) in rows {
         octets[0] = kind;
         octets[1] = code;
+        octets[4..8].copy_from_slice(&rest);
         let fields = listing(&rt, rt.alloc(), Form::Lines, &octets);
         holds_of(&rt, (kind, code), fields.as_slice().starts_with(want));
     }

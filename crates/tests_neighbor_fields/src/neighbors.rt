@@ -213,6 +213,18 @@ fn options_by_their_octets(rt: HostRuntime) {
     }
 }
 
+// A redirected header is of IPv6 (RFC 4861 section 4.6.3); one of version 4 is none.
+#[test]
+fn redirected_header_of_another_version(rt: HostRuntime) {
+    let mut octets = [0; 104];
+    octets.copy_from_slice(REDIRECT);
+    octets[56] = 0x45;
+    let line = "  redirected_header=00000000000045000000000\
+        83a4020010db800000000000000000000000720010db80001000000000000000000058000abcd12340001 \
+        refused=not of version 6\n";
+    ends_with_line(&rt, rt.alloc(), Kind::Ndisc, &octets, line);
+}
+
 #[test]
 fn messages_that_are_cut(rt: HostRuntime) {
     let rows: &[(&[u8], &str)] = &[

@@ -2,7 +2,8 @@
 use Rattle.std.specs.Prelude.{◌≡◌, [], ◌∷◌, ◌++◌, Bool, List, Option, Some, ℕ, codes, flat_map}
 use Rattle.record_wire.specs.Entries.{Left, RefusesEntry, all_of, section_at}
 use Rattle.record_wire.specs.declared.refusal.Refusal.{Refusal}
-use Rattle.packet_fields.specs.Fields.{Cell, Entry, Item, entries, leaf_text, text}
+use Rattle.packet_fields.specs.Fields.{Cell, Entry, Fits, Item, Leaf, entries, first_text, leaf_text, text}
+use Rattle.packet_fields.specs.Output.{Gains}
 use Rattle.packet_fields.specs.Prints.{PrintsCells}
 use Rattle.packet_fields.specs.declared.form.Form.{Form}
 use Rattle.dns_fields.specs.Message.{EntriesAre, broken_entry}
@@ -10,9 +11,18 @@ use Rattle.packet_fields.specs.Entries.{PrintsEntry}
 use Rattle.dns_fields.specs.declared.kind.Kind.{Kind}
 use Rattle.dns_fields.specs.declared.unread.Unread.{Unread}
 
--- one value of this kind was printed
-abbrev pub PrintsSomeCell : Form → Option (List ℕ) → Option (List ℕ) → (Cell → Type 0) → Type 0
-PrintsSomeCell form old new IsCell = (c : Cell) × IsCell c × PrintsCells form old new (c ∷ [])
+-- the first value of an entry was printed, and others behind it
+pub record PrintsFront (form : Form) (old new : Option (List ℕ)) (key : List ℕ) (first : Leaf) (others : List Cell)
+    : Type 0 where
+  pub between : Option (List ℕ)
+  pub fits : Fits first
+  pub gains : Gains old between (first_text form key first)
+  pub prints : PrintsCells form between new others
+
+-- values of this kind
+abbrev pub PrintsSomeFront : Form → Option (List ℕ) → Option (List ℕ) → List ℕ → (Leaf → List Cell → Type 0) → Type 0
+PrintsSomeFront form old new key Are =
+    (first : Leaf) × (others : List Cell) × Are first others × PrintsFront form old new key first others
 
 -- the list of the entries of a message
 abbrev pub ListIs : Kind → List ℕ → List Item → Option Unread → Type 0

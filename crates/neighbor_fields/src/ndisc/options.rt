@@ -7,11 +7,10 @@ ghost use Rattle.packet_fields.specs.Fields.{text};
 ghost use Rattle.packet_fields.specs.Labels.{label_text};
 ghost use Rattle.packet_fields.specs.Prints.{Prints, PrintsCells};
 ghost use Rattle.packet_fields.specs.Texts.{address_text};
-ghost use Rattle.neighbor_fields.specs.Messages.{type_in};
 ghost use Rattle.neighbor_fields.specs.Ndisc.{address_entry, flags_cells, label_of, mtu_entry, option_entry};
 ghost use Rattle.neighbor_fields.specs.Ndisc.{option_len, options_items, plain_entry, prefix_cells, prefix_entry};
 ghost use Rattle.neighbor_fields.specs.Ndisc.{prefix_flags, quoted_cells, redirected_entry, refusal, whole_entry};
-ghost use Rattle.neighbor_fields.specs.Ndisc.{wrong_len};
+ghost use Rattle.neighbor_fields.specs.Ndisc.{wrong_form, wrong_quote};
 
 use packet_fields::Form;
 use packet_fields::entries::show_octets;
@@ -58,6 +57,8 @@ mod place {
 
     pub const PREFIX_END: usize = 32;
 
+    pub const QUOTED_VERSION: Field = 8..9;
+
     pub const QUOTED_PAYLOAD_LEN: Field = 12..14;
 
     pub const QUOTED_NEXT_HEADER: Field = 14..15;
@@ -76,7 +77,7 @@ mod place {
 }
 
 // Prints all options of a message in turn, by its octets behind the fields. An option that is cut, or counts no octets,
-// is the last entry, with the octets that are left, and says so; one whose length is not that of its type says so too.
+// is the last entry, with the octets that are left, and says so; one that has not the form of its type says so too.
 pub(super) fn show_options<W: Write>(output: &mut W, form: Form, options: &[u8]) -> io::Result<()>
     ensures { OnOk result (Prints form (W.contents output.old) (W.contents output.new)
         (options_items options.now)) }
@@ -121,25 +122,39 @@ fn refusal(option: &[u8]) -> Option<&'static str>
     if option.len() != UNIT * option[1] as usize {
         return Some("fewer bytes than the option counts");
     }
-    wrong_len(option[0], option.len())
+    wrong_form(option)
 }
 
-// Why an option of this type and length is refused, where it is.
-fn wrong_len(type_: u8, len: usize) -> Option<&'static str>
-    ensures { option_map (λ why. why.now) result ≡ wrong_len type_ len }
+// Why an option of the length that it counts is refused by its type, where it is.
+fn wrong_form(option: &[u8]) -> Option<&'static str>
+    requires { 2 ≤ length option.now }
+    ensures { option_map (λ why. why.now) result ≡ wrong_form option.now }
 {
-    match type_ {
-        PREFIX_INFORMATION if len != place::PREFIX_END => Some("not 32 bytes"),
-        REDIRECTED_HEADER if len < place::QUOTED_END => Some("fewer than 48 bytes"),
-        MTU if len != place::MTU_END => Some("not 8 bytes"),
+    match option[0] {
+        PREFIX_INFORMATION if option.len() != place::PREFIX_END => Some("not 32 bytes"),
+        REDIRECTED_HEADER => wrong_quote(option),
+        MTU if option.len() != place::MTU_END => Some("not 8 bytes"),
         _ => None,
     }
+}
+
+// Why a redirected packet is refused, where it is.
+fn wrong_quote(option: &[u8]) -> Option<&'static str>
+    ensures { option_map (λ why. why.now) result ≡ wrong_quote option.now }
+{
+    if option.len() < place::QUOTED_END {
+        return Some("fewer than 48 bytes");
+    }
+    if option.u8_at(place::QUOTED_VERSION) / 16 != 6 {
+        return Some("not of version 6");
+    }
+    None
 }
 
 // Prints an option that is not refused.
 fn show_whole<W: Write>(output: &mut W, form: Form, is_first: bool, option: &[u8]) -> io::Result<()>
     requires long { 2 ≤ length option.now }
-    requires right_len { wrong_len (type_in option.now) (length option.now) ≡ None }
+    requires right_form { wrong_form option.now ≡ None }
     ensures { OnOk result (PrintsEntry form is_first (W.contents output.old) (W.contents output.new)
         (whole_entry option.now)) }
 {

@@ -61,7 +61,7 @@ pub const PACKETS: &[(&str, &str)] = &[
             \x20 flags=-\n\
             \x20 opcode=0 (QUERY)\n\
             \x20 rcode=0 (NOERROR)\n\
-            \x20 additional=refused why=the name is cut octets=-\n",
+            \x20 additional=none octets=- refused=the name is cut\n",
     ),
     // Multicast DNS.
     (
@@ -204,8 +204,8 @@ pub const PACKETS: &[(&str, &str)] = &[
             \x20 flags=rd\n\
             \x20 opcode=0 (QUERY)\n\
             \x20 rcode=0 (NOERROR)\n\
-            \x20 question=refused why=a pointer to place 12 leads nowhere or round name_octets=c00c \
-            class=IN type=A\n",
+            \x20 question=none name_octets=c00c class=IN type=A \
+            refused=a pointer to place 12 leads nowhere or round\n",
     ),
 ];
 

@@ -8,6 +8,7 @@ use frame_wire::{link, udp};
 use icmp4_wire::{icmpv4, igmp};
 use icmp6_wire::icmpv6;
 use message_fields as messages;
+use neighbor_fields::Lack;
 use quote_wire::message::{Icmpv4Refusal, Icmpv6Refusal};
 use quote_wire::{icmpv4_error, quote};
 use record_wire::{DataRefusal, NameRefusal, OptionRefusal, PartRefusal, Section, TextRefusal};
@@ -59,6 +60,11 @@ fn refusals_print_a_phrase_and_are_counted_under_a_reason(rt: HostRuntime) {
             ))),
             Reason::Short,
             "fewer bytes than the header of its type",
+        ),
+        (
+            Refusal::Message(messages::Refusal::Lack(Lack::Records)),
+            Reason::Short,
+            "fewer records than the report counts",
         ),
         (
             Refusal::Message(messages::Refusal::Dhcp(dhcp_fields::Refusal::MagicCookie)),

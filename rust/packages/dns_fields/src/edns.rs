@@ -3,9 +3,9 @@
 
 use crate::kind::{Kind, NameOf, TypeOf};
 use crate::lists::{put_closing, put_none, put_opening};
-use crate::record::{label_of, show_refused_record};
+use crate::record::{label_of, show_refused_record, show_why};
 use crate::unread::Unread;
-use crate::words::{OptionWord, Why, Word};
+use crate::words::{OptionWord, Word};
 use control_wire::dns::Packet;
 use control_wire::record::{Edns, EdnsOptions, Name, Record, Section, TextRefusal};
 use packet_fields::Form;
@@ -93,7 +93,7 @@ fn show_reserved<W: Write>(output: &mut W, form: Form, bits: u16) -> io::Result<
     keyed_cell(output, form, "reserved_flags", bits)
 }
 
-/// Prints why data is cut, where it is, and all its octets.
+/// Prints all octets of data that is cut, and why.
 pub(crate) fn show_cut<W: Write>(
     output: &mut W,
     form: Form,
@@ -103,8 +103,8 @@ pub(crate) fn show_cut<W: Write>(
     let Some(unread) = unread else {
         return Ok(());
     };
-    keyed_cell(output, form, "why", Word(Why(unread)))?;
-    keyed_cell(output, form, "octets", data)
+    keyed_cell(output, form, "octets", data)?;
+    show_why(output, form, unread)
 }
 
 // Why an option is cut; None where all are whole.

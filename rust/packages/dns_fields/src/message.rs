@@ -6,15 +6,15 @@ use crate::edns::show_opt;
 use crate::header::show_header;
 use crate::kind::Kind;
 use crate::nbns;
-use crate::record::{is_blank, label_of, show_blank, show_question, show_record};
+use crate::record::{
+    is_blank, label_of, show_blank, show_no_name, show_question, show_record, show_why,
+};
 use crate::unread::Unread;
 use crate::words::{Why, Word};
 use control_wire::dns::Packet;
 use control_wire::record::{Entries, Entry, Record, Refusal, Section};
 use packet_fields::Form;
-use packet_fields::entry::{
-    close_entry, close_list, first_cell, keyed_cell, open_entry, open_list,
-};
+use packet_fields::entry::{close_entry, close_list, keyed_cell, open_entry, open_list};
 use packet_fields::field::field;
 use rattle_std::io;
 use rattle_std::io::Write;
@@ -112,14 +112,9 @@ fn show_broken_at<W: Write>(
     octets: &[u8],
 ) -> io::Result<()> {
     open_entry(output, form, is_first, "section", label_of(section))?;
-    first_cell(output, form, "status", "refused")?;
-    keyed_cell(
-        output,
-        form,
-        "why",
-        Word(Why(Unread::Entry(section, refusal))),
-    )?;
+    show_no_name(output, form)?;
     keyed_cell(output, form, "octets", octets)?;
+    show_why(output, form, Unread::Entry(section, refusal))?;
     close_entry(output, form)
 }
 

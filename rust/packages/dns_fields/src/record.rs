@@ -72,15 +72,26 @@ fn show_refused_question<W: Write>(
     unread: Unread,
 ) -> io::Result<()> {
     open_entry(output, form, is_first, "section", "question")?;
-    first_cell(output, form, "status", "refused")?;
-    keyed_cell(output, form, "why", Word(Why(unread)))?;
+    show_no_name(output, form)?;
     keyed_cell(output, form, "name_octets", question.name)?;
     let class = kind.question_class(question);
     keyed_cell(output, form, "class", Word(Class(class)))?;
     keyed_cell(output, form, "type", Word(TypeOf(kind, question.type_)))?;
     let is_marked = kind.wants_unicast(question);
     show_mark(output, form, is_marked, "unicast_response")?;
+    show_why(output, form, unread)?;
     close_entry(output, form)
+}
+
+/// Prints none as the name of an entry.
+pub(crate) fn show_no_name<W: Write>(output: &mut W, form: Form) -> io::Result<()> {
+    let none: Option<&str> = None;
+    first_cell(output, form, "name", none)
+}
+
+/// Prints why an entry can't be read, or not to its end.
+pub(crate) fn show_why<W: Write>(output: &mut W, form: Form, unread: Unread) -> io::Result<()> {
+    keyed_cell(output, form, "refused", Word(Why(unread)))
 }
 
 // Prints that a flag is set, where it is.
@@ -212,14 +223,13 @@ pub(crate) fn show_refused_record<'a, W: Write>(
     unread: Unread,
 ) -> io::Result<()> {
     open_entry(output, form, is_first, "section", label_of(section))?;
-    first_cell(output, form, "status", "refused")?;
-    keyed_cell(output, form, "why", Word(Why(unread)))?;
     show_owner(output, form, kind, packet, record.name)?;
     show_known(output, form, kind, record)?;
+    show_why(output, form, unread)?;
     close_entry(output, form)
 }
 
-// Prints the name of a record, or its octets where it can't be read.
+// Prints the name of a record; where it can't be read none, and its octets.
 fn show_owner<'a, W: Write>(
     output: &mut W,
     form: Form,
@@ -228,8 +238,11 @@ fn show_owner<'a, W: Write>(
     name: &'a [u8],
 ) -> io::Result<()> {
     match Name::read_or_refusal(packet, name) {
-        Ok(read) => keyed_cell(output, form, "name", Word(NameOf(kind, &read))),
-        Err(_) => keyed_cell(output, form, "name_octets", name),
+        Ok(read) => first_cell(output, form, "name", Word(NameOf(kind, &read))),
+        Err(_) => {
+            show_no_name(output, form)?;
+            keyed_cell(output, form, "name_octets", name)
+        }
     }
 }
 

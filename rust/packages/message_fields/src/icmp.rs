@@ -8,15 +8,13 @@ use control_wire::igmp;
 use control_wire::quotes::message::{Icmpv4Message, Icmpv6Message, Icmpv6Refusal};
 use control_wire::{ChecksumCapabilities, Ipv6Address};
 use icmp_fields::{icmp4, icmp6};
+use neighbor_fields::Lack;
 use neighbor_fields::igmp::show_igmp as show_igmp_fields;
 use neighbor_fields::mld::show_mld;
 use neighbor_fields::ndisc::show_ndisc;
 use packet_fields::Form;
 use rattle_std::io;
 use rattle_std::io::Write;
-
-// The length of the fixed part of every message.
-const HEADER_LEN: usize = 8;
 
 // The type of a membership report of version 3 (RFC 3376 section 4.2).
 const MEMBERSHIP_REPORT_V3: u8 = 0x22;
@@ -54,19 +52,27 @@ fn show_mistake<W: Write>(output: &mut W, form: Form, refusal: &Refusal) -> io::
     show_refused(output, form, refusal)
 }
 
-/// Prints an IGMP message, and returns why it is refused.
+/// Prints an IGMP message, and returns why it is refused or read in part.
 pub(crate) fn show_igmp<W: Write>(
     output: &mut W,
     form: Form,
     octets: &[u8],
 ) -> io::Result<Option<Refusal>> {
-    let told = why_igmp(octets);
-    show_igmp_fields(output, form, octets)?;
-    show_group(output, form, told)?;
-    Ok(told)
+    let why = why_igmp(octets);
+    let lack = show_igmp_fields(output, form, octets)?;
+    show_group(output, form, why)?;
+    Ok(why.or(refusal_of(lack)))
 }
 
-// Why an IGMP message is refused. Of version 3 each is read.
+// Why a message that has less than it takes or counts is refused.
+fn refusal_of(lack: Option<Lack>) -> Option<Refusal> {
+    match lack {
+        Some(lack) => Some(Refusal::Lack(lack)),
+        None => None,
+    }
+}
+
+// Why its reader refuses an IGMP message. Of version 3 each is read.
 fn why_igmp(octets: &[u8]) -> Option<Refusal> {
     match igmp::Repr::refusal(&igmp::Packet::new_unchecked(octets)) {
         Some(refusal) => unless_version_3(refusal),
@@ -96,7 +102,7 @@ fn show_if_group<W: Write>(output: &mut W, form: Form, refusal: &Refusal) -> io:
     show_phrase(output, form, "group_refused", refusal)
 }
 
-/// Prints an ICMPv6 message from one address to another, and returns why it is refused.
+/// Prints an ICMPv6 message from one address to another, and returns why it is refused or read in part.
 pub(crate) fn show_icmp6<W: Write>(
     output: &mut W,
     form: Form,
@@ -105,8 +111,8 @@ pub(crate) fn show_icmp6<W: Write>(
     octets: &[u8],
 ) -> io::Result<Option<Refusal>> {
     if has_mld_type(octets) {
-        show_mld(output, form, octets)?;
-        return Ok(short_of(octets));
+        let lack = show_mld(output, form, octets)?;
+        return Ok(refusal_of(lack));
     }
     if has_ndisc_type(octets) {
         return show_neighbor(output, form, src_addr, dst_addr, octets);
@@ -122,16 +128,6 @@ fn has_mld_type(octets: &[u8]) -> bool {
 // Whether the type is that of neighbor discovery (RFC 4861 section 4).
 fn has_ndisc_type(octets: &[u8]) -> bool {
     matches!(octets, [133..=137, ..])
-}
-
-// Why a message of multicast listeners is refused.
-fn short_of(octets: &[u8]) -> Option<Refusal> {
-    if octets.len() < HEADER_LEN {
-        return Some(Refusal::Icmp6(Icmpv6Refusal::Message(
-            icmpv6::Refusal::Short,
-        )));
-    }
-    None
 }
 
 // Prints a message of neighbor discovery, and returns why it is refused. The fields tell where it is too short.

@@ -7,6 +7,7 @@ use control_wire::quotes::message::{Icmpv4Refusal, Icmpv6Refusal};
 use control_wire::quotes::{icmpv4_error, icmpv6_error};
 use control_wire::{icmpv4, igmp};
 use dns_fields::unread::Unread;
+use neighbor_fields::Lack;
 use std::fmt;
 
 /// Why a message is refused, or read in part: the first reason.
@@ -24,6 +25,8 @@ pub enum Refusal {
     Igmp(igmp::Refusal),
     /// The ICMPv6 message is refused.
     Icmp6(Icmpv6Refusal),
+    /// The message of IGMP or of multicast listeners has less than it takes or counts.
+    Lack(Lack),
     /// The DHCP packet is read in part.
     Dhcp(dhcp_fields::Refusal),
     /// The DNS message is read in part.
@@ -61,6 +64,7 @@ impl fmt::Display for Refusal {
             Refusal::Icmp4(refusal) => write!(f, "{refusal}"),
             Refusal::Igmp(refusal) => write!(f, "{refusal}"),
             Refusal::Icmp6(refusal) => write!(f, "{refusal}"),
+            Refusal::Lack(lack) => write!(f, "{lack}"),
             Refusal::Dhcp(refusal) => write!(f, "{refusal}"),
             Refusal::Dns(unread) => write!(f, "{unread}"),
         }

@@ -2,8 +2,9 @@
 //! Messages of the Internet Group Management Protocol, versions 1 to 3 (RFC 1112 appendix I, RFC 2236 section 2, RFC
 //! 3376 section 4).
 
+use crate::lack::Lack;
 use crate::messages::{millis, show_additional, show_cut};
-use crate::records::{RecordsV4, code_number, show_querier, show_records, show_sources};
+use crate::records::{code_number, show_querier, show_records_v4, show_sources};
 use control_wire::Octets;
 use packet_fields::Form;
 use packet_fields::field::{field, named};
@@ -49,10 +50,12 @@ mod place {
 /// Prints a message, by its octets from the type on. A query of 8 octets is one of version 1 where its code is 0 and
 /// else of version 2; one of 12 octets or more is of version 3 (RFC 3376 section 7.1). What is cut says so: a message
 /// within its fields, with the octets that are there; its sources; a record, with its octets. Of a message of another
-/// type the code and the octets behind the checksum are printed.
-pub fn show_igmp<W: Write>(output: &mut W, form: Form, message: &[u8]) -> io::Result<()> {
+/// type the code and the octets behind the checksum are printed. Returns of what a message has less than it takes or
+/// counts.
+pub fn show_igmp<W: Write>(output: &mut W, form: Form, message: &[u8]) -> io::Result<Option<Lack>> {
     if message.len() < place::GROUP_END {
-        return show_cut(output, form, message);
+        show_cut(output, form, message)?;
+        return Ok(Some(Lack::Fields));
     }
     let type_ = message[0];
     named(output, form, "type", type_ as u64, type_name(type_))?;
@@ -60,26 +63,42 @@ pub fn show_igmp<W: Write>(output: &mut W, form: Form, message: &[u8]) -> io::Re
 }
 
 // Prints what follows the type.
-fn show_body<W: Write>(output: &mut W, form: Form, message: &[u8]) -> io::Result<()> {
+fn show_body<W: Write>(output: &mut W, form: Form, message: &[u8]) -> io::Result<Option<Lack>> {
     match message[0] {
         MEMBERSHIP_QUERY => show_any_query(output, form, message),
+        MEMBERSHIP_REPORT_V3 => show_report(output, form, message),
+        _ => {
+            show_uncounted(output, form, message)?;
+            Ok(None)
+        }
+    }
+}
+
+// Prints a message that counts nothing.
+fn show_uncounted<W: Write>(output: &mut W, form: Form, message: &[u8]) -> io::Result<()> {
+    match message[0] {
         MEMBERSHIP_REPORT_V1 => show_group_message(output, form, 1, message),
         MEMBERSHIP_REPORT_V2 => show_group_message(output, form, 2, message),
         LEAVE_GROUP => show_group_message(output, form, 2, message),
-        MEMBERSHIP_REPORT_V3 => show_report(output, form, message),
         _ => show_other(output, form, message),
     }
 }
 
 // Prints a query, by its length.
-fn show_any_query<W: Write>(output: &mut W, form: Form, message: &[u8]) -> io::Result<()> {
+fn show_any_query<W: Write>(
+    output: &mut W,
+    form: Form,
+    message: &[u8],
+) -> io::Result<Option<Lack>> {
     if message.len() == place::GROUP_END {
         let version = if message[1] == 0 { 1 } else { 2 };
-        return show_old_query(output, form, version, message);
+        show_old_query(output, form, version, message)?;
+        return Ok(None);
     }
     if message.len() < place::SOURCES {
         let (_, octets) = message.split_at(place::HEAD_LEN);
-        return show_cut(output, form, octets);
+        show_cut(output, form, octets)?;
+        return Ok(Some(Lack::Fields));
     }
     show_query(output, form, message)
 }
@@ -96,7 +115,7 @@ fn show_old_query<W: Write>(
 }
 
 // Prints a query of version 3.
-fn show_query<W: Write>(output: &mut W, form: Form, message: &[u8]) -> io::Result<()> {
+fn show_query<W: Write>(output: &mut W, form: Form, message: &[u8]) -> io::Result<Option<Lack>> {
     let count = message.u16_at(place::NUM_SRCS);
     let (_, sources) = message.split_at(place::SOURCES);
     show_query_front(output, form, 3, code_number(message[1]), message)?;
@@ -143,11 +162,11 @@ fn show_group_message<W: Write>(
 }
 
 // Prints a report of version 3.
-fn show_report<W: Write>(output: &mut W, form: Form, message: &[u8]) -> io::Result<()> {
+fn show_report<W: Write>(output: &mut W, form: Form, message: &[u8]) -> io::Result<Option<Lack>> {
     let count = message.u16_at(place::NUM_RECORDS);
     let (_, records) = message.split_at(place::RECORDS);
     field(output, form, "version", 3u8)?;
-    show_records::<RecordsV4, W>(output, form, count, records)
+    show_records_v4(output, form, count, records)
 }
 
 // Prints any other message.

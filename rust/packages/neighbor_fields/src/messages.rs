@@ -1,6 +1,7 @@
 // Made from crates/neighbor_fields/src/messages.rt by rust/erase.
 //! What messages of several protocols have in common.
 
+use crate::lack::Lack;
 use control_wire::Duration;
 use packet_fields::Form;
 use packet_fields::field::{field, named};
@@ -20,21 +21,20 @@ pub(crate) fn show_head<W: Write>(output: &mut W, form: Form, message: &[u8]) ->
 
 // Prints octets that are cut within fields.
 pub(crate) fn show_cut<W: Write>(output: &mut W, form: Form, octets: &[u8]) -> io::Result<()> {
-    field(output, form, "refused", "fewer bytes than the fields take")?;
+    field(output, form, "refused", Lack::Fields.phrase())?;
     field(output, form, "data", octets)
 }
 
-// Prints that less is there than is counted, where that is so.
+// Prints of what there is less than is counted, where that is so.
 pub(crate) fn show_lack<W: Write>(
     output: &mut W,
     form: Form,
-    is_lacking: bool,
-    why: &str,
+    lack: Option<Lack>,
 ) -> io::Result<()> {
-    if !is_lacking {
-        return Ok(());
+    match lack {
+        Some(lack) => field(output, form, "refused", lack.phrase()),
+        None => Ok(()),
     }
-    field(output, form, "refused", why)
 }
 
 // Prints the octets behind all that is counted, where there are any.

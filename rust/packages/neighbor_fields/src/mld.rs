@@ -1,8 +1,9 @@
 // Made from crates/neighbor_fields/src/mld.rt by rust/erase.
 //! Messages of multicast listener discovery, versions 1 and 2 (RFC 2710 section 3, RFC 3810 section 5).
 
+use crate::lack::Lack;
 use crate::messages::{HEAD_LEN, millis, show_additional, show_cut, show_head};
-use crate::records::{RecordsV6, long_code_number, show_querier, show_records, show_sources};
+use crate::records::{long_code_number, show_querier, show_records_v6, show_sources};
 use control_wire::Octets;
 use packet_fields::Form;
 use packet_fields::field::field;
@@ -43,46 +44,59 @@ mod place {
 
 /// Prints a message of multicast listener discovery, by its octets from the type on. A query of 24 octets is one of
 /// version 1 (RFC 3810 section 8.1). What is cut says so: a message within its fields, with the octets that are there;
-/// its sources; a record, with its octets. Of a message of another type the octets are printed.
-pub fn show_mld<W: Write>(output: &mut W, form: Form, message: &[u8]) -> io::Result<()> {
+/// its sources; a record, with its octets. Of a message of another type the octets are printed. Returns of what a message
+/// has less than it takes or counts.
+pub fn show_mld<W: Write>(output: &mut W, form: Form, message: &[u8]) -> io::Result<Option<Lack>> {
     if message.len() < HEAD_LEN {
-        return show_cut(output, form, message);
+        show_cut(output, form, message)?;
+        return Ok(Some(Lack::Fields));
     }
     show_head(output, form, message)?;
     show_body(output, form, message)
 }
 
 // Prints what follows the checksum.
-fn show_body<W: Write>(output: &mut W, form: Form, message: &[u8]) -> io::Result<()> {
+fn show_body<W: Write>(output: &mut W, form: Form, message: &[u8]) -> io::Result<Option<Lack>> {
     let (_, octets) = message.split_at(HEAD_LEN);
     match message[0] {
         QUERY => show_any_query(output, form, message),
         REPORT => show_old(output, form, message),
         DONE => show_old(output, form, message),
         REPORT_V2 => show_report(output, form, message),
-        _ => field(output, form, "data", octets),
+        _ => {
+            field(output, form, "data", octets)?;
+            Ok(None)
+        }
     }
 }
 
 // Prints a query of version 1 or 2.
-fn show_any_query<W: Write>(output: &mut W, form: Form, message: &[u8]) -> io::Result<()> {
+fn show_any_query<W: Write>(
+    output: &mut W,
+    form: Form,
+    message: &[u8],
+) -> io::Result<Option<Lack>> {
     if message.len() == place::VERSION_1_LEN {
-        return show_version_1(output, form, message);
+        show_version_1(output, form, message)?;
+        return Ok(None);
     }
     if message.len() < place::SOURCES {
         let (_, octets) = message.split_at(HEAD_LEN);
-        return show_cut(output, form, octets);
+        show_cut(output, form, octets)?;
+        return Ok(Some(Lack::Fields));
     }
     show_query(output, form, message)
 }
 
 // Prints a report or done of version 1.
-fn show_old<W: Write>(output: &mut W, form: Form, message: &[u8]) -> io::Result<()> {
+fn show_old<W: Write>(output: &mut W, form: Form, message: &[u8]) -> io::Result<Option<Lack>> {
     if message.len() < place::VERSION_1_LEN {
         let (_, octets) = message.split_at(HEAD_LEN);
-        return show_cut(output, form, octets);
+        show_cut(output, form, octets)?;
+        return Ok(Some(Lack::Fields));
     }
-    show_version_1(output, form, message)
+    show_version_1(output, form, message)?;
+    Ok(None)
 }
 
 // Prints the fields of version 1.
@@ -96,7 +110,7 @@ fn show_version_1<W: Write>(output: &mut W, form: Form, message: &[u8]) -> io::R
 }
 
 // Prints a query of version 2.
-fn show_query<W: Write>(output: &mut W, form: Form, message: &[u8]) -> io::Result<()> {
+fn show_query<W: Write>(output: &mut W, form: Form, message: &[u8]) -> io::Result<Option<Lack>> {
     let count = message.u16_at(place::NUM_SRCS);
     let (_, sources) = message.split_at(place::SOURCES);
     show_query_front(output, form, message)?;
@@ -130,18 +144,19 @@ fn show_group<W: Write>(output: &mut W, form: Form, message: &[u8]) -> io::Resul
 }
 
 // Prints a report of version 2, or the octets of one that is cut.
-fn show_report<W: Write>(output: &mut W, form: Form, message: &[u8]) -> io::Result<()> {
+fn show_report<W: Write>(output: &mut W, form: Form, message: &[u8]) -> io::Result<Option<Lack>> {
     if message.len() < place::RECORDS {
         let (_, octets) = message.split_at(HEAD_LEN);
-        return show_cut(output, form, octets);
+        show_cut(output, form, octets)?;
+        return Ok(Some(Lack::Fields));
     }
     show_counted(output, form, message)
 }
 
 // Prints a report of version 2.
-fn show_counted<W: Write>(output: &mut W, form: Form, message: &[u8]) -> io::Result<()> {
+fn show_counted<W: Write>(output: &mut W, form: Form, message: &[u8]) -> io::Result<Option<Lack>> {
     let count = message.u16_at(place::NUM_RECORDS);
     let (_, records) = message.split_at(place::RECORDS);
     field(output, form, "version", 2u8)?;
-    show_records::<RecordsV6, W>(output, form, count, records)
+    show_records_v6(output, form, count, records)
 }

@@ -4,4 +4,4 @@ use Rattle.neighbor_fields.proofs.messages.show_cut.Goals as goal
 
 pub returns : goal.returns
 returns g c =
-    prints_last _ _ _ c.in_ok-field.ensures c.field-2.ensures
+    prints_last _ _ _ (rw c.phrase.ensures at c.in_ok-field.ensures) c.field-2.ensures

@@ -46,6 +46,8 @@ mod place {
 
     pub const PREFIX_END: usize = 32;
 
+    pub const QUOTED_VERSION: Field = 8..9;
+
     pub const QUOTED_PAYLOAD_LEN: Field = 12..14;
 
     pub const QUOTED_NEXT_HEADER: Field = 14..15;
@@ -64,7 +66,7 @@ mod place {
 }
 
 // Prints all options of a message in turn, by its octets behind the fields. An option that is cut, or counts no octets,
-// is the last entry, with the octets that are left, and says so; one whose length is not that of its type says so too.
+// is the last entry, with the octets that are left, and says so; one that has not the form of its type says so too.
 pub(super) fn show_options<W: Write>(output: &mut W, form: Form, options: &[u8]) -> io::Result<()> {
     show_parts::<Options, W>(output, form, "options", options.len(), options)
 }
@@ -99,17 +101,28 @@ fn refusal(option: &[u8]) -> Option<&'static str> {
     if option.len() != UNIT * option[1] as usize {
         return Some("fewer bytes than the option counts");
     }
-    wrong_len(option[0], option.len())
+    wrong_form(option)
 }
 
-// Why an option of this type and length is refused, where it is.
-fn wrong_len(type_: u8, len: usize) -> Option<&'static str> {
-    match type_ {
-        PREFIX_INFORMATION if len != place::PREFIX_END => Some("not 32 bytes"),
-        REDIRECTED_HEADER if len < place::QUOTED_END => Some("fewer than 48 bytes"),
-        MTU if len != place::MTU_END => Some("not 8 bytes"),
+// Why an option of the length that it counts is refused by its type, where it is.
+fn wrong_form(option: &[u8]) -> Option<&'static str> {
+    match option[0] {
+        PREFIX_INFORMATION if option.len() != place::PREFIX_END => Some("not 32 bytes"),
+        REDIRECTED_HEADER => wrong_quote(option),
+        MTU if option.len() != place::MTU_END => Some("not 8 bytes"),
         _ => None,
     }
+}
+
+// Why a redirected packet is refused, where it is.
+fn wrong_quote(option: &[u8]) -> Option<&'static str> {
+    if option.len() < place::QUOTED_END {
+        return Some("fewer than 48 bytes");
+    }
+    if option.u8_at(place::QUOTED_VERSION) / 16 != 6 {
+        return Some("not of version 6");
+    }
+    None
 }
 
 // Prints an option that is not refused.

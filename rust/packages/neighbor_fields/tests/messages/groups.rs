@@ -1,7 +1,8 @@
 // Made from crates/tests_neighbor_fields/src/groups.rt by rust/erase.
 //! Messages of multicast groups and of their listeners.
 
-use crate::printed::{Kind, lines_are, members_are};
+use crate::printed::{Kind, lacks, lines_are, members_are};
+use neighbor_fields::Lack;
 
 // The messages with a checksum are of the capture tests/captures/real/groups.pcap, with what tshark says of them; the
 // others are by the pictures of RFC 2236 section 2, RFC 3376 section 4 and RFC 3810 section 5, with a checksum of zero.
@@ -119,6 +120,7 @@ fn igmp() {
             "  type=34 (membership_report_v3)
   version=3
   record_7=000001ef010203c00002 refused=fewer bytes than the record counts
+  refused=fewer records than the report counts
 ",
         ),
         (
@@ -310,5 +312,47 @@ fn mld() {
     ];
     for &(octets, lines) in rows {
         lines_are(Kind::Mld, octets, lines);
+    }
+}
+
+// What ends early is told, and what is whole is not.
+#[test]
+fn messages_that_end_early() {
+    let rows: &[(Kind, &[u8], Option<Lack>)] = &[
+        (Kind::Igmp, IGMP_REPORT, Some(Lack::Records)),
+        (Kind::Igmp, IGMP_QUERY, None),
+        (Kind::Mld, MLD_QUERY, Some(Lack::Sources)),
+        (Kind::Igmp, &[0x11, 0, 0, 0, 0, 0, 0, 0], None),
+        (
+            Kind::Igmp,
+            &[0x11, 0, 0, 0, 0, 0, 0, 0, 0],
+            Some(Lack::Fields),
+        ),
+        (Kind::Igmp, &[0x16, 0, 0, 0, 0, 0, 0], Some(Lack::Fields)),
+        // A query of a source of which an octet is missing.
+        (
+            Kind::Igmp,
+            &[0x11, 0, 0, 0, 0, 0, 0, 0, 0, 0, 0, 1, 192, 0, 2],
+            Some(Lack::Sources),
+        ),
+        // A record, one with a word of auxiliary data that is cut, and a report of none with an octet behind it.
+        (
+            Kind::Igmp,
+            &[0x22, 0, 0, 0, 0, 0, 0, 1, 4, 0, 0, 0, 239, 1, 2, 3],
+            None,
+        ),
+        (
+            Kind::Igmp,
+            &[0x22, 0, 0, 0, 0, 0, 0, 1, 4, 1, 0, 0, 239, 1, 2, 3, 1, 2, 3],
+            Some(Lack::Records),
+        ),
+        (Kind::Igmp, &[0x22, 0, 0, 0, 0, 0, 0, 0, 1], None),
+        (Kind::Mld, &[143, 0, 0, 0, 0, 0, 0, 0], None),
+        (Kind::Mld, &[143, 0, 0, 0, 0, 0, 0, 1], Some(Lack::Records)),
+        (Kind::Mld, &[143, 0, 0, 0, 0, 0, 0], Some(Lack::Fields)),
+        (Kind::Mld, &[130, 0, 0, 0, 0, 0, 0, 0], Some(Lack::Fields)),
+    ];
+    for &(kind, octets, lack) in rows {
+        lacks(kind, octets, lack);
     }
 }

@@ -14,6 +14,7 @@ use dns_fields::unread::Unread;
 use dump_captures::kind::Reason;
 use dump_captures::refusal::Refusal;
 use message_fields as messages;
+use neighbor_fields::Lack;
 
 #[test]
 fn refusals_print_a_phrase_and_are_counted_under_a_reason() {
@@ -62,6 +63,11 @@ fn refusals_print_a_phrase_and_are_counted_under_a_reason() {
             ))),
             Reason::Short,
             "fewer bytes than the header of its type",
+        ),
+        (
+            Refusal::Message(messages::Refusal::Lack(Lack::Records)),
+            Reason::Short,
+            "fewer records than the report counts",
         ),
         (
             Refusal::Message(messages::Refusal::Dhcp(dhcp_fields::Refusal::MagicCookie)),
