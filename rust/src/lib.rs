@@ -21,7 +21,6 @@ pub use by_hand::smoltcp::{self, phy, time, wire};
 #[doc(hidden)]
 pub mod inside {
     pub use crate::dns_wire::octets;
-    pub use crate::record::line;
     pub use crate::wirebase::text;
 }
 

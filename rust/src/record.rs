@@ -27,8 +27,7 @@ pub mod classes;
 pub mod edns;
 pub mod entries;
 mod escapes;
-#[doc(hidden)]
-pub mod line;
+mod line;
 pub mod multicast;
 pub mod name;
 pub mod rdata;

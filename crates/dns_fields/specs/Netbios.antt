@@ -1,6 +1,5 @@
 -- NetBIOS names in messages (RFC 1001 sections 14.1 and 14.2, RFC 1002 section 4.1).
-use Rattle.std.specs.Prelude.{zero, suc, ◌+◌, ◌-◌, ◌*◌, ◌/◌, ◌%◌, ◌==◌, ◌&&◌, [], ◌∷◌, ◌++◌, Bool, List, ℕ, codes}
-use Rattle.std.specs.Prelude.{decimal, drop}
+use Rattle.std.specs.Prelude.{zero, suc, ◌+◌, ◌-◌, ◌*◌, ◌==◌, ◌&&◌, [], ◌∷◌, ◌++◌, Bool, List, ℕ, codes, drop}
 use Rattle.std.specs.Prelude.{if◌then◌else◌, length, nat_le, slice_index, take}
 use Rattle.std.specs.List.{list_all}
 use Rattle.wirebase.specs.Hexadecimal.{encode_lower}

@@ -1,5 +1,5 @@
 -- What UDP datagrams of a service print: the fields of their messages, and why they are refused.
-use Rattle.std.specs.Prelude.{◌≡◌, [], ◌∷◌, ◌++◌, Bool, List, None, Option, Some, codes, false, if◌then◌else◌, true, ℕ}
+use Rattle.std.specs.Prelude.{◌≡◌, [], ◌∷◌, ◌++◌, Bool, List, Option, Some, codes, true, ℕ}
 use Rattle.std.specs.Option.{option_map}
 use Rattle.frame_wire.specs.UdpCaptured.{CapturedValue, IsCaptured, RefusesCaptured}
 use Rattle.frame_wire.specs.declared.datagram.captured.Extent.{Extent}

@@ -1,26 +1,22 @@
 -- The lines of questions and records.
-use Rattle.record_wire.proofs.Words.{◌≡◌, [], ◌∷◌, ◌++◌, ◌∙◌, Err, IfOk, IfSome, IsSome, List, Names, None, Ok}
+use Rattle.record_wire.proofs.Words.{◌≡◌, [], ◌∷◌, ◌++◌, ◌∙◌, Err, IfOk, List, Names, None, Ok}
 use Rattle.record_wire.proofs.Words.{Option}
-use Rattle.record_wire.proofs.Words.{QuestionValue, RecordValue, RefusesName, Result, Some, WritesInCalls, ℕ, ap}
+use Rattle.record_wire.proofs.Words.{RefusesName, Result, Some, WritesInCalls, ℕ, ap}
 use Rattle.record_wire.proofs.Words.{append-nil, append_assoc, arith, codes, decimal, refl, subst, sym}
 use Rattle.dns_wire.specs.declared.dns.tables.Type.{«Type» as RecordType}
 use Rattle.dns_wire.specs.DnsDisplay.{type_display}
-use Rattle.record_wire.specs.declared.line.Before.{Before}
 use Rattle.record_wire.specs.declared.name.refusal.NameRefusal.{NameRefusal}
-use Rattle.record_wire.specs.declared.text.refusal.TextRefusal.{TextRefusal}
 use Rattle.record_wire.specs.FieldsText.{IsSecondText}
-use Rattle.record_wire.specs.Lines.{PutsSome, QuestionPuts, RecordPuts, line_behind}
-use Rattle.record_wire.specs.private.Lines.{DataPuts, NamedPuts, RefusesData, asked_line, numbers_text, owner_front}
+use Rattle.record_wire.specs.private.Lines.{DataPuts, NamedPuts, PutsSome, numbers_text}
 use Rattle.record_wire.specs.Mnemonics.{class_text}
 use Rattle.record_wire.specs.private.NameReads.{NameReads}
 use Rattle.record_wire.specs.NameRefusal.{HasName}
 use Rattle.record_wire.specs.RData as rdata
 use Rattle.record_wire.specs.RecordText.{AuthorityTextValue, DataTextValue, RecordTextValue, IsAuthorityText}
 use Rattle.record_wire.specs.RecordText.{IsDataText}
-use Rattle.record_wire.specs.RecordText.{IsRecordText, RefusesNamesOf, data_text, question_text}
+use Rattle.record_wire.specs.RecordText.{RefusesNamesOf, data_text, question_text}
 use Rattle.record_wire.specs.RecordText.{zone_line}
 use Rattle.record_wire.specs.RecordText as text
-use Rattle.record_wire.specs.Update.{IsDataOf}
 use Rattle.record_wire.specs.ZoneText.{whole_name, word}
 use Rattle.record_wire.proofs.NameReads.{names_one}
 
@@ -38,15 +34,8 @@ pub kind_put : {O V E : Type 0} (took : O → List ℕ → O → Type 0) (a b : 
 kind_put took a b (Ok v) Kind Other forth (shown, is, calls) = (shown, forth shown v is, calls)
 kind_put took a b (Err e) Kind Other forth puts = tt
 
--- ---- questions
+-- ---- questions and records, up to the data
 
-pub asked_is : (before : Before) (labels : List (List ℕ)) (class : ℕ) (kind : RecordType)
-    → asked_line (Some before) (whole_name labels) class kind ≡ line_behind before (question_text labels class kind)
-unfolding word
-asked_is before labels class kind =
-    append_assoc (before.margin.now ++ before.label.now) (whole_name labels) _
-
--- with nothing before it
 pub plain_asked : (labels : List (List ℕ)) (class : ℕ) (kind : RecordType)
     → whole_name labels ++ (word (class_text class) ++ word (type_display kind)) ≡ question_text labels class kind
 unfolding word
@@ -60,85 +49,6 @@ plain_front r name is =
     ap (λ (n : List ℕ). n ++ (32 ∷ decimal r.ttl) ++ ((32 ∷ class_text r.class) ++ (32 ∷ type_display r.kind))
     ++ codes " " ++ data_text r.«data») is
     ∙ grind (arith, append_assoc)
-
-pub question_put : {O : Type 0} (took : O → List ℕ → O → Type 0) (a b : O) (before : Before) (message : List ℕ)
-    (class : ℕ) (q : QuestionValue) (name : List ℕ) → NameReads message q.name name
-    → WritesInCalls took a (asked_line (Some before) name class q.kind) b
-    → PutsSome took a b (λ shown. QuestionPuts before message class q shown None)
-question_put took a b before message class q name read calls = (
-  asked_line (Some before) name class q.kind,
-  (
-    read.labels,
-    read.names,
-    ap (λ (n : List ℕ). asked_line (Some before) n class q.kind) read.is ∙ asked_is before read.labels class q.kind,
-  ),
-  calls,
-)
-
--- ---- records
-
-pub front_is : (before : Before) (r : RecordTextValue) (name : List ℕ) → name ≡ whole_name r.name
-    → owner_front (Some before) name ++ word (decimal r.ttl) ++ (word (class_text r.class)
-    ++ word (type_display r.kind))
-    ++ codes " " ++ data_text r.«data» ≡ line_behind before (zone_line r)
-unfolding word
-front_is before r name is =
-    ap (λ (n : List ℕ). (before.margin.now ++ before.label.now ++ n) ++ (32 ∷ decimal r.ttl)
-    ++ ((32 ∷ class_text r.class) ++ (32 ∷ type_display r.kind)) ++ codes " " ++ data_text r.«data») is
-    ∙ grind (arith, append_assoc)
-
-module _ (before : Before) (message : List ℕ) (class : ℕ) (r : RecordValue) (name : List ℕ)
-    (read : NameReads message r.name name) where
-  -- a record whose data is not what its type has
-  pub data_refused : (why : Option TextRefusal) → ((value : rdata.RDataValue) → IsDataOf r.kind class r.«data» value
-      → ⊥)
-      → IfSome why (RefusesData class r) → IsSome why → RecordPuts before message class r [] why
-  data_refused None none told some = cc some
-  data_refused (Some why) none (refused, is, refuses) some =
-      subst (λ (w : TextRefusal). RecordPuts before message class r [] (Some w)) (sym is)
-      ((λ value text. none text.read text.data_is), ((read.labels, read.names), none, refuses), refl)
-
-  -- a record whose data is this
-  module _ (value : rdata.RDataValue) (is : IsDataOf r.kind class r.«data» value)
-      (one : (other : rdata.RDataValue) → IsDataOf r.kind class r.«data» other → value ≡ other) where
-    pub name_refused : {O : Type 0} (took : O → List ℕ → O → Type 0) (a b : O) (front : List ℕ) (why : NameRefusal)
-        → PutsSome took a b (λ shown. DataPuts front message value shown (Some why))
-        → PutsSome took a b (λ shown. RecordPuts before message class r shown (Some (TextRefusal.DataName why)))
-    name_refused took a b front why (shown, (none, refused, empty), calls) = (
-      shown,
-      (
-        (λ other text. none other.«data»
-            (subst (λ (v : rdata.RDataValue). IsDataText message v other.«data») (sym (one text.read text.data_is))
-            text.data_text)),
-        ((read.labels, read.names), (value, is, refused)),
-        empty,
-      ),
-      calls,
-    )
-
-    pub record_put : {O : Type 0} (took : O → List ℕ → O → Type 0) (a b : O)
-        → PutsSome took a b (λ shown. DataPuts (owner_front (Some before) name ++ word (decimal r.ttl)
-        ++ (word (class_text class) ++ word (type_display r.kind)) ++ codes " ") message value shown None)
-        → PutsSome took a b (λ shown. RecordPuts before message class r shown None)
-    record_put took a b (shown, (found, data_is, whole), calls) =
-        let line : RecordTextValue =
-        record { name = read.labels; ttl = r.ttl; class = class; kind = r.kind; «data» = found } in (
-          shown,
-          (
-            line,
-            record {
-              name_is = read.names;
-              read = value;
-              data_is = is;
-              data_text = data_is;
-              ttl_is = refl;
-              class_is = refl;
-              kind_is = refl;
-            },
-            whole ∙ front_is before line name read.is,
-          ),
-          calls,
-        )
 
 -- ---- data
 

@@ -1,7 +1,7 @@
 -- What follows the header of a message, in order (RFC 1035 section 4.1): the questions, and then the records that
 -- answer, those that name an authority, and those that add to them, as many of each as the header counts.
-use Rattle.std.specs.Prelude.{◌≡◌, ◌≢◌, ◌+◌, ◌-◌, ◌<◌, ◌⊎◌, Bool, Err, List, None, Ok, Option, Result, Some, ℕ, false}
-use Rattle.std.specs.Prelude.{if◌then◌else◌, nat_lt, not, true}
+use Rattle.std.specs.Prelude.{◌≡◌, ◌≢◌, ◌+◌, ◌<◌, ◌⊎◌, Bool, Err, List, None, Ok, Option, Result, Some, ℕ, false}
+use Rattle.std.specs.Prelude.{if◌then◌else◌, nat_lt, true}
 use Rattle.record_wire.specs.Words.{Refusal, Section, number_of}
 use Rattle.wirebase.specs.declared.error.Error.{Error}
 use Rattle.dns_wire.specs.DnsPacket.{question_count_field, answer_count_field, authority_count_field}

@@ -6,7 +6,6 @@ pub mod Escapes
 pub mod Fields
 pub mod FieldsText
 pub mod Labels
-pub mod Lines
 pub mod Mnemonics
 pub mod Multicast
 pub mod Name

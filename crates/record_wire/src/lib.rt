@@ -27,7 +27,7 @@ pub mod classes;
 pub mod edns;
 pub mod entries;
 mod escapes;
-pub mod line;
+mod line;
 pub mod multicast;
 pub mod name;
 pub mod rdata;

@@ -1,6 +1,6 @@
 // Made from crates/record_wire/src/line.rt by rust/erase.
 //! Lines of questions and records as a zone file has them (RFC 1035 section 5.1), put into a formatter or into another
-//! output, straight from the octets of a message.
+//! output.
 
 use crate::dns_wire::dns::{Packet, Type};
 use crate::record::classes::put_class;
@@ -8,38 +8,10 @@ use crate::record::name::name_text::NameText;
 use crate::record::name::refusal::NameRefusal;
 use crate::record::rdata::fields::Fields;
 use crate::record::rdata::{Authority, RData};
-use crate::record::record::{Question, Record};
-use crate::record::text::refusal::TextRefusal;
 use crate::record::text::words::{put_generic, put_strings};
 use crate::record::types::put_type;
 use crate::wirebase::text::{Sink, put_number, put_v4, put_v6};
 use core::result;
-
-/// What is put before the line of a question or a record.
-#[derive(Clone, Copy)]
-pub struct Before<'a> {
-    /// The margin.
-    pub margin: &'a str,
-    /// What the line is of.
-    pub label: &'a str,
-}
-
-/// Puts the line of a question that is taken as one of this class; where its name can't be read it puts nothing, and
-/// returns why.
-pub fn put_question<'a, O, S: Sink<O>>(
-    output: &mut O,
-    message: &'a [u8],
-    question: &Question<'a>,
-    class: u16,
-    before: Before<'_>,
-) -> result::Result<Option<NameRefusal>, S::Error> {
-    let mut name = NameText::new();
-    if let Err(refusal) = name.read(message, question.name) {
-        return Ok(Some(refusal));
-    }
-    put_asked::<O, S>(output, &name, class, question.type_, Some(before))?;
-    Ok(None)
-}
 
 /// Puts the line of a question.
 pub(crate) fn put_asked<O, S: Sink<O>>(
@@ -47,9 +19,8 @@ pub(crate) fn put_asked<O, S: Sink<O>>(
     name: &NameText,
     class: u16,
     type_: Type,
-    before: Option<Before<'_>>,
 ) -> result::Result<(), S::Error> {
-    put_owner::<O, S>(output, before, name)?;
+    name.put::<O, S>(output)?;
     put_class_and_type::<O, S>(output, class, type_)
 }
 
@@ -66,63 +37,9 @@ fn put_class_and_type<O, S: Sink<O>>(
     put_type::<O, S>(output, type_)
 }
 
-// Puts the start of a line, up to the name.
-#[inline(always)]
-fn put_owner<O, S: Sink<O>>(
-    output: &mut O,
-    before: Option<Before<'_>>,
-    name: &NameText,
-) -> result::Result<(), S::Error> {
-    if let Some(before) = before {
-        S::put_str(output, before.margin)?;
-        S::put_str(output, before.label)?;
-    }
-    name.put::<O, S>(output)
-}
-
-/// Puts the line of a record that is taken as one of this class, and may be one of an update; where a name can't be
-/// read, or the data is not laid out as its type has it, it puts nothing, and returns the check that fails first.
-pub fn put_record<'a, O, S: Sink<O>>(
-    output: &mut O,
-    message: &'a [u8],
-    record: &Record<'a>,
-    class: u16,
-    before: Before<'_>,
-) -> result::Result<Option<TextRefusal>, S::Error> {
-    let mut owner = NameText::new();
-    if let Err(refusal) = owner.read(message, record.name) {
-        return Ok(Some(TextRefusal::Owner(refusal)));
-    }
-    let Ok(data) = RData::parse_update(record.type_, class, record.data) else {
-        return Ok(why_no_data(record, class));
-    };
-    let line = Line {
-        before: Some(before),
-        owner: &owner,
-        ttl: record.ttl,
-        class,
-        type_: record.type_,
-    };
-    if let Some(refusal) = put_data::<O, S>(output, message, Some(&line), &data)? {
-        return Ok(Some(TextRefusal::DataName(refusal)));
-    }
-    Ok(None)
-}
-
-// Why the data of a record, taken as one of this class, is not laid out as its type has it; None where it is. The data
-// is read again for that, so that a record that reads keeps no memory for a reason.
-#[inline(never)]
-fn why_no_data(record: &Record<'_>, class: u16) -> Option<TextRefusal> {
-    match RData::parse_update_or_refusal(record.type_, class, record.data) {
-        Ok(_) => None,
-        Err(refusal) => Some(TextRefusal::Data(refusal)),
-    }
-}
-
 /// The line of a record up to its data.
 #[derive(Clone, Copy)]
-pub(crate) struct Line<'a, 'b> {
-    pub(crate) before: Option<Before<'b>>,
+pub(crate) struct Line<'a> {
     pub(crate) owner: &'a NameText,
     pub(crate) ttl: u32,
     pub(crate) class: u16,
@@ -132,7 +49,7 @@ pub(crate) struct Line<'a, 'b> {
 // Puts the line of a record up to its data, where there is one.
 fn put_front<O, S: Sink<O>>(
     output: &mut O,
-    line: Option<&Line<'_, '_>>,
+    line: Option<&Line<'_>>,
 ) -> result::Result<(), S::Error> {
     match line {
         Some(line) => put_line::<O, S>(output, line),
@@ -140,8 +57,8 @@ fn put_front<O, S: Sink<O>>(
     }
 }
 
-fn put_line<O, S: Sink<O>>(output: &mut O, line: &Line<'_, '_>) -> result::Result<(), S::Error> {
-    put_owner::<O, S>(output, line.before, line.owner)?;
+fn put_line<O, S: Sink<O>>(output: &mut O, line: &Line<'_>) -> result::Result<(), S::Error> {
+    line.owner.put::<O, S>(output)?;
     put_word::<O, S>(output, line.ttl)?;
     put_class_and_type::<O, S>(output, line.class, line.type_)?;
     S::put_str(output, " ")
@@ -152,7 +69,7 @@ fn put_line<O, S: Sink<O>>(output: &mut O, line: &Line<'_, '_>) -> result::Resul
 pub(crate) fn put_data<'a, O, S: Sink<O>>(
     output: &mut O,
     message: &'a [u8],
-    line: Option<&Line<'_, '_>>,
+    line: Option<&Line<'_>>,
     data: &RData<'a>,
 ) -> result::Result<Option<NameRefusal>, S::Error> {
     match *data {
@@ -196,7 +113,7 @@ pub(crate) fn put_data<'a, O, S: Sink<O>>(
 fn put_named<'a, O, S: Sink<O>>(
     output: &mut O,
     message: &'a [u8],
-    line: Option<&Line<'_, '_>>,
+    line: Option<&Line<'_>>,
     numbers: &[u16],
     octets: &'a [u8],
 ) -> result::Result<Option<NameRefusal>, S::Error> {
@@ -223,7 +140,7 @@ fn put_numbers<O, S: Sink<O>>(output: &mut O, numbers: &[u16]) -> result::Result
 pub(crate) fn put_authority<'a, O, S: Sink<O>>(
     output: &mut O,
     message: &'a [u8],
-    line: Option<&Line<'_, '_>>,
+    line: Option<&Line<'_>>,
     soa: &Authority<'a>,
 ) -> result::Result<Option<NameRefusal>, S::Error> {
     let mut primary = NameText::new();
@@ -257,7 +174,7 @@ fn put_word<O, S: Sink<O>>(output: &mut O, number: u32) -> result::Result<(), S:
 fn put_fields<'a, O, S: Sink<O>>(
     output: &mut O,
     message: &'a [u8],
-    line: Option<&Line<'_, '_>>,
+    line: Option<&Line<'_>>,
     read: &Fields<'a>,
 ) -> result::Result<Option<NameRefusal>, S::Error> {
     match read.text(&Packet::new_unchecked(message)) {

@@ -144,7 +144,6 @@ impl fmt::Display for RecordText<'_> {
         }
         let owner = NameText::of(&self.name);
         let line = Line {
-            before: None,
             owner: &owner,
             ttl: self.ttl,
             class: self.class,
@@ -178,7 +177,7 @@ impl fmt::Display for DataText<'_> {
 // Puts the line of a record up to its data, where there is one, and the data.
 fn put_own<O, S: Sink<O>>(
     output: &mut O,
-    line: Option<&Line<'_, '_>>,
+    line: Option<&Line<'_>>,
     data: &DataText<'_>,
 ) -> result::Result<(), S::Error> {
     // Whole names have no pointers, so that they read in any message.

@@ -1,37 +1,30 @@
--- The lines of questions and records, as they are put straight from a message.
+-- The lines of questions and records, as they are put: the results of private functions.
 use Rattle.std.specs.Prelude.{◌≡◌, [], ◌++◌, List, None, Option, Some, ℕ, codes, decimal, flat_map}
 use Rattle.std.specs.Borrow.{Bor}
-use Rattle.record_wire.specs.Words.{NameRefusal, TextRefusal, type_display}
+use Rattle.std.specs.Fmt.{WritesInCalls}
+use Rattle.record_wire.specs.Words.{NameRefusal, type_display}
 use Rattle.record_wire.specs.Mnemonics.{class_text}
 use Rattle.record_wire.specs.private.NameReads.{NameReads, text_of}
 use Rattle.record_wire.specs.NameRefusal.{RefusesName}
 use Rattle.record_wire.specs.Names.{Names}
 use Rattle.record_wire.specs.RData.{RDataValue}
-use Rattle.record_wire.specs.RDataRefusal.{RefusesLayout}
-use Rattle.record_wire.specs.Record.{RecordValue}
 use Rattle.record_wire.specs.RecordText.{DataTextValue, IsDataText, RefusesNameIn, data_text}
-use Rattle.record_wire.specs.Update.{data_layout}
 use Rattle.record_wire.specs.ZoneText.{word}
 use Rattle.dns_wire.specs.declared.dns.tables.Type.{«Type» as RecordType}
-use Rattle.record_wire.specs.declared.line.Before.{Before}
 use Rattle.record_wire.specs.declared.line.Line.{Line}
-use Rattle.record_wire.specs.declared.rdata.refusal.DataRefusal.{DataRefusal}
 
--- the start of a line, up to the name
-abbrev pub before_text : Option Before → List ℕ
-before_text None = []
-before_text (Some before) = before.margin.now ++ before.label.now
+-- a text of this kind was put
+abbrev pub PutsSome : {O : Type 0} → (O → List ℕ → O → Type 0) → O → O → (List ℕ → Type 0) → Type 0
+PutsSome took old new IsText = (text : List ℕ) × IsText text × WritesInCalls took old text new
 
-abbrev pub owner_front : Option Before → List ℕ → List ℕ
-owner_front before name = before_text before ++ name
-
-abbrev pub asked_line : Option Before → List ℕ → ℕ → RecordType → List ℕ
-asked_line before name class kind = owner_front before name ++ (word (class_text class) ++ word (type_display kind))
+-- the line of a question
+abbrev pub asked_line : List ℕ → ℕ → RecordType → List ℕ
+asked_line name class kind = name ++ (word (class_text class) ++ word (type_display kind))
 
 -- the line of a record up to its data
 abbrev pub line_front : Line → List ℕ
 line_front line =
-    owner_front line.before (text_of line.owner.now) ++ word (decimal line.ttl)
+    text_of line.owner.now ++ word (decimal line.ttl)
     ++ (word (class_text line.class) ++ word (type_display line.type_)) ++ codes " "
 
 abbrev pub front_of : Option (Bor Line) → List ℕ
@@ -54,9 +47,3 @@ NamedPuts front message bytes text (Some why) =
 -- numbers, each before a space
 abbrev pub numbers_text : List ℕ → List ℕ
 numbers_text numbers = flat_map (λ number. decimal number ++ codes " ") numbers
-
--- the data of a record, taken as one of a class, is refused, for this reason
-abbrev pub RefusesData : ℕ → RecordValue → TextRefusal → Type 0
-RefusesData class r why =
-    (refusal : DataRefusal) × (why ≡ TextRefusal.Data refusal)
-    × RefusesLayout (data_layout r.kind class r.«data») r.«data» refusal

@@ -91,6 +91,6 @@ impl fmt::Display for QuestionText {
 
     fn fmt<W: fmt::Write>(&self, f: &mut fmt::Formatter<W>) -> fmt::Result {
         let name = NameText::of(&self.name);
-        put_asked::<_, ToFormatter>(f, &name, self.class, self.type_, None)
+        put_asked::<_, ToFormatter>(f, &name, self.class, self.type_)
     }
 }

@@ -68,6 +68,6 @@ impl<'a> Question<'a> {
 impl fmt::Display for QuestionText {
     fn fmt(&self, f: &mut fmt::Formatter<'_>) -> fmt::Result {
         let name = NameText::of(&self.name);
-        put_asked::<_, ToFormatter>(f, &name, self.class, self.type_, None)
+        put_asked::<_, ToFormatter>(f, &name, self.class, self.type_)
     }
 }
