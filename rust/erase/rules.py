@@ -91,7 +91,7 @@ def drop(file, i):
 
 
 # Types of `record_wire` that contracts of other crates name, and no public call: in Rust the crate alone sees them. The
-# `Form` of `packet_fields` is another.
+# `Form` of `packet_fields` and the `Layout` of `dns_fields` are others.
 HIDDEN = {"Layout", "Form", "FrontForm", "RestForm"}
 
 
@@ -100,7 +100,7 @@ def hidden(file, i):
     """A type that only contracts name is not public."""
     if file.text(i) != "pub" or file.text(i + 1) not in ("enum", "struct") or file.text(i + 2) not in HIDDEN:
         return None
-    if "packet_fields" in file.path.parts:
+    if "packet_fields" in file.path.parts or "dns_fields" in file.path.parts:
         return None
     return file.replace(i, i + 1, "pub(crate)")
 

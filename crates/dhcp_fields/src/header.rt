@@ -108,7 +108,8 @@ fn show_hardware<W: Write>(output: &mut W, form: Form, octets: &[u8]) -> io::Res
     field(output, form, "hops", octets.u8_at(place::HOPS))
 }
 
-fn operation(op: u8) -> Option<&'static str>
+/// The name of an operation; None where it has none.
+pub fn operation(op: u8) -> Option<&'static str>
     ensures { option_map (λ name. name.now) result ≡ name_of operations op }
 {
     name_in(OPERATIONS, op as u16)
@@ -186,8 +187,8 @@ fn show_client<W: Write>(output: &mut W, form: Form, octets: &[u8]) -> io::Resul
     )
 }
 
-// The hardware address, of as many bytes as are counted and there is room for.
-fn hardware_address(octets: &[u8]) -> &[u8]
+/// The hardware address, of as many bytes as are counted and there is room for. Requires at least 44 bytes.
+pub fn hardware_address(octets: &[u8]) -> &[u8]
     requires { Reaches chaddr_field octets.now }
     ensures { result.now ≡ hardware_address octets.now }
 {

@@ -2,9 +2,9 @@
 #![tactic(auto)]
 
 pub mod dhcp;
-mod header;
+pub mod header;
 mod kinds;
-mod options;
+pub mod options;
 pub mod refusal;
 mod texts;
 

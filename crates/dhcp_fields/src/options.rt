@@ -190,7 +190,8 @@ fn show_name<W: Write>(output: &mut W, form: Form, name: Option<&str>) -> io::Re
     }
 }
 
-fn message_name(number: u8) -> Option<&'static str>
+/// The name of a type of message; None where it has none.
+pub fn message_name(number: u8) -> Option<&'static str>
     ensures { option_map (λ name. name.now) result ≡ name_of message_names number }
 {
     name_in(MESSAGE_NAMES, number as u16)

@@ -81,7 +81,7 @@ fn area_name(area: Area) -> &'static str
 }
 
 /// The refusal of the first option that is cut.
-pub(crate) fn first_cut(parts: Parts<'_>) -> Option<Refusal>
+pub fn first_cut(parts: Parts<'_>) -> Option<Refusal>
     ensures { result ≡ first_cut parts.entry }
 {
     let mut left = parts;

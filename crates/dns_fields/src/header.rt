@@ -3,9 +3,10 @@
 #![tactic(auto, using(packet_fields::proofs::Fields::prints_both))]
 
 ghost use Rattle.std.specs.Prelude.{◌≡◌, OnOk};
-ghost use Rattle.dns_wire.specs.DnsPacket.{header as header_field, opcode_in};
+ghost use Rattle.std.specs.Option.{option_map};
+ghost use Rattle.dns_wire.specs.DnsPacket.{header as header_field, opcode_in, rcode_in};
 ghost use Rattle.wirebase.specs.Bytes.{Reaches};
-ghost use Rattle.packet_fields.specs.Names.{rows_of};
+ghost use Rattle.packet_fields.specs.Names.{name_in as name_of, rows_of};
 ghost use Rattle.packet_fields.specs.Prints.{Prints};
 ghost use Rattle.dns_fields.specs.Header.{flag_rows, flags_items, header_items, opcode_items, opcode_rows, rcode_items};
 ghost use Rattle.dns_fields.specs.Header.{rcode_rows, word_in, word_items};
@@ -43,7 +44,7 @@ pub(crate) fn show_header<W: Write>(
 }
 
 /// The word of the header that has the flags, the kind of query and the outcome. Requires at least 12 bytes.
-pub(crate) fn word_of(octets: &[u8]) -> u16
+pub fn word_of(octets: &[u8]) -> u16
     requires { Reaches header_field octets.now }
     ensures { result ≡ word_in octets.now }
 {
@@ -87,12 +88,24 @@ fn show_opcode<W: Write>(output: &mut W, form: Form, kind: Kind, word: u16) -> i
     ensures { OnOk result (Prints form (W.contents output.old) (W.contents output.new) (opcode_items kind word)) }
 {
     let opcode = opcode_of(word);
-    let name = name_in(opcode_rows(kind), opcode);
-    named(output, form, "opcode", u64::from(opcode), name)
+    named(
+        output,
+        form,
+        "opcode",
+        u64::from(opcode),
+        opcode_name(kind, word),
+    )
 }
 
-/// The kind of query.
-pub(crate) fn opcode_of(word: u16) -> u16
+/// The name of the kind of query in a word of the header; None where it has none here.
+pub fn opcode_name(kind: Kind, word: u16) -> Option<&'static str>
+    ensures { option_map (λ name. name.now) result ≡ name_of (opcode_rows kind) (opcode_in word) }
+{
+    name_in(opcode_rows(kind), opcode_of(word))
+}
+
+/// The kind of query in a word of the header.
+pub fn opcode_of(word: u16) -> u16
     ensures { result ≡ opcode_in word }
 {
     (word >> 11) % 16
@@ -112,9 +125,28 @@ fn opcode_rows(kind: Kind) -> &'static [Row]
 fn show_rcode<W: Write>(output: &mut W, form: Form, kind: Kind, word: u16) -> io::Result<()>
     ensures { OnOk result (Prints form (W.contents output.old) (W.contents output.new) (rcode_items kind word)) }
 {
-    let rcode = word % 16;
-    let name = name_in(rcode_rows(kind), rcode);
-    named(output, form, "rcode", u64::from(rcode), name)
+    let rcode = rcode_of(word);
+    named(
+        output,
+        form,
+        "rcode",
+        u64::from(rcode),
+        rcode_name(kind, word),
+    )
+}
+
+/// The outcome in a word of the header.
+pub fn rcode_of(word: u16) -> u16
+    ensures { result ≡ rcode_in word }
+{
+    word % 16
+}
+
+/// The name of the outcome in a word of the header; None where it has none here.
+pub fn rcode_name(kind: Kind, word: u16) -> Option<&'static str>
+    ensures { option_map (λ name. name.now) result ≡ name_of (rcode_rows kind) (rcode_in word) }
+{
+    name_in(rcode_rows(kind), rcode_of(word))
 }
 
 #[tactic(auto, unfolding(crate::specs::Header::dns_rcodes, crate::specs::Header::nbns_rcodes))]

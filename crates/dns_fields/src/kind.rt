@@ -75,7 +75,7 @@ impl Kind {
 
 /// A name in a message of a kind.
 #[derive(Clone, Copy)]
-pub(crate) struct NameOf<'a>(pub(crate) Kind, pub(crate) &'a Name);
+pub struct NameOf<'a>(pub Kind, pub &'a Name);
 
 impl Text for NameOf<'_> {
     ghost text_of = { λ name. name_text name.0 (labels_of name.1.now) };
@@ -90,7 +90,7 @@ impl Text for NameOf<'_> {
 
 /// A type of records in a message of a kind.
 #[derive(Clone, Copy)]
-pub(crate) struct TypeOf(pub(crate) Kind, pub(crate) Type);
+pub struct TypeOf(pub Kind, pub Type);
 
 impl Text for TypeOf {
     ghost text_of = { λ it. type_text it.0 it.1 };

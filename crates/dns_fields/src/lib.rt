@@ -2,13 +2,13 @@
 #![tactic(auto)]
 
 mod edns;
-mod header;
+pub mod header;
 pub mod kind;
 mod lists;
 pub mod message;
-mod nbns;
+pub mod nbns;
 mod netbios;
-mod node;
-mod record;
+pub mod node;
+pub mod record;
 pub mod unread;
 mod words;

@@ -33,7 +33,7 @@ mod field {
 
 /// A kind of entries of data.
 #[derive(Debug, PartialEq, Eq, Clone, Copy)]
-pub(crate) enum Part {
+pub enum Part {
     /// Two octets of flags, and an IPv4 address.
     Address,
     /// A name of 16 octets, and two of flags.
@@ -42,7 +42,7 @@ pub(crate) enum Part {
 
 impl Part {
     /// The octets of an entry.
-    pub(crate) fn width(self) -> usize
+    pub fn width(self) -> usize
         ensures { result ≡ width self }
     {
         match self {
@@ -104,11 +104,13 @@ fn put_others<W: Write>(output: &mut W, form: Form, part: Part, octets: &[u8]) -
     Ok(())
 }
 
-// An entry of data.
+/// An entry of data, by its text.
 #[derive(Clone, Copy)]
-struct OnePart<'a> {
-    part: Part,
-    octets: &'a [u8],
+pub struct OnePart<'a> {
+    /// What it is.
+    pub part: Part,
+    /// Its octets, as many as the width of such entries.
+    pub octets: &'a [u8],
     ghost whole: { length octets.now ≡ width part },
 }
 

@@ -230,8 +230,8 @@ pub(crate) fn show_record<'a, W: Write>(
     }
 }
 
-// The record with its names read; in multicast DNS its class is without the top bit.
-fn read_text<'a>(
+/// The record with its names read; in multicast DNS its class is without the top bit.
+pub fn read_text<'a>(
     kind: Kind,
     packet: &Packet<&'a [u8]>,
     record: &Record<'a>,

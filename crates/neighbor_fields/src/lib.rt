@@ -8,6 +8,6 @@ pub mod lack;
 mod messages;
 pub mod mld;
 pub mod ndisc;
-mod records;
+pub mod records;
 
 pub use lack::Lack;

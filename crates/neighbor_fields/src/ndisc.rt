@@ -11,7 +11,7 @@ ghost use Rattle.neighbor_fields.specs.Ndisc.{body_items, fields_items, flags_it
 ghost use Rattle.neighbor_fields.specs.Ndisc.{neighbor_flags, neighbor_items, preference_items, preference_names};
 ghost use Rattle.neighbor_fields.specs.Ndisc.{redirect_items, router_flags, router_items, target_items};
 
-mod options;
+pub mod options;
 
 use crate::messages::{HEAD_LEN, millis, show_cut, show_head};
 use options::show_options;
@@ -77,8 +77,8 @@ fn show_body<W: Write>(output: &mut W, form: Form, message: &[u8]) -> io::Result
     show_options(output, form, options)
 }
 
-// The octets before the options.
-fn header_len(type_: u8) -> usize
+/// The octets before the options of a message of this type.
+pub fn header_len(type_: u8) -> usize
     ensures { result ≡ header_len type_ }
 {
     match type_ {

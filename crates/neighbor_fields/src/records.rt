@@ -122,8 +122,8 @@ fn is_cut(width: usize, octets: &[u8]) -> bool
     octets.len() < HEAD_LEN || octets.len() < counted_len(width, octets)
 }
 
-// Records with addresses of IPv6.
-struct RecordsV6;
+/// Records with addresses of IPv6.
+pub struct RecordsV6;
 
 impl Part for RecordsV6 {
     ghost part_len = { record_len 16 };
@@ -139,8 +139,8 @@ impl Part for RecordsV6 {
     }
 }
 
-// Records with addresses of IPv4.
-struct RecordsV4;
+/// Records with addresses of IPv4.
+pub struct RecordsV4;
 
 impl Part for RecordsV4 {
     ghost part_len = { record_len 4 };
@@ -156,8 +156,8 @@ impl Part for RecordsV4 {
     }
 }
 
-// The octets of the first record.
-fn record_len(width: usize, octets: &[u8]) -> usize
+/// The octets of the first record, all where it is cut. Requires an octet, and addresses of at most 16.
+pub fn record_len(width: usize, octets: &[u8]) -> usize
     requires some { 1 ≤ length octets.now }
     requires small { width ≤ 16 }
     ensures value { result ≡ record_len width octets.now }
@@ -181,8 +181,8 @@ fn sources_end(width: usize, record: &[u8]) -> usize
     HEAD_LEN + width + width * record.u16_at(place::NUM_SRCS) as usize
 }
 
-// The octets that a record counts.
-fn counted_len(width: usize, record: &[u8]) -> usize
+/// The octets that a record counts. Requires at least 4 octets, and addresses of at most 16.
+pub fn counted_len(width: usize, record: &[u8]) -> usize
     requires room { 4 ≤ length «record».now }
     requires small { width ≤ 16 }
     ensures value { result ≡ counted_len width «record».now }
@@ -368,8 +368,8 @@ fn scale(exponent: u8) -> u32
     }
 }
 
-// What a record is called.
-fn label_of(type_: u8) -> Label<'static>
+/// What a record is called.
+pub fn label_of(type_: u8) -> Label<'static>
     ensures value { label_text (option_map (λ name. name.now) result.name) result.kind.now result.number
         ≡ label_of type_ }
     ensures number { result.number ≡ type_ }

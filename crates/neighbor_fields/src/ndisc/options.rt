@@ -85,8 +85,8 @@ pub(super) fn show_options<W: Write>(output: &mut W, form: Form, options: &[u8])
     show_parts::<Options, W>(output, form, "options", options.len(), options)
 }
 
-// The options as parts of octets.
-struct Options;
+/// The options as parts of octets.
+pub struct Options;
 
 impl Part for Options {
     ghost part_len = { option_len };
@@ -108,8 +108,8 @@ impl Part for Options {
     }
 }
 
-// Why an option is refused, where it is.
-fn refusal(option: &[u8]) -> Option<&'static str>
+/// Why an option is refused, where it is. Requires an octet.
+pub fn refusal(option: &[u8]) -> Option<&'static str>
     requires { 1 ≤ length option.now }
     ensures { option_map (λ why. why.now) result ≡ refusal option.now }
 {
@@ -264,11 +264,13 @@ fn show_flags<W: Write>(output: &mut W, form: Form, bits: u8) -> io::Result<()>
     keyed_cell(output, form, "flags", flags)
 }
 
-// An address, and a length in bits.
+/// A prefix, by its text.
 #[derive(Clone, Copy)]
-struct Prefix<'a> {
-    address: Address<'a>,
-    len: u8,
+pub struct Prefix<'a> {
+    /// The address.
+    pub address: Address<'a>,
+    /// The length in bits.
+    pub len: u8,
 }
 
 impl Text for Prefix<'_> {

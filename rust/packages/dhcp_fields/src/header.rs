@@ -86,7 +86,8 @@ fn show_hardware<W: Write>(output: &mut W, form: Form, octets: &[u8]) -> io::Res
     field(output, form, "hops", octets.u8_at(place::HOPS))
 }
 
-fn operation(op: u8) -> Option<&'static str> {
+/// The name of an operation; None where it has none.
+pub fn operation(op: u8) -> Option<&'static str> {
     name_in(OPERATIONS, op as u16)
 }
 
@@ -138,8 +139,8 @@ fn show_client<W: Write>(output: &mut W, form: Form, octets: &[u8]) -> io::Resul
     )
 }
 
-// The hardware address, of as many bytes as are counted and there is room for.
-fn hardware_address(octets: &[u8]) -> &[u8] {
+/// The hardware address, of as many bytes as are counted and there is room for. Requires at least 44 bytes.
+pub fn hardware_address(octets: &[u8]) -> &[u8] {
     let len = octets.u8_at(place::HLEN) as usize;
     let (_, rest) = octets.split_at(place::CHADDR.start);
     &rest[..len.min(MOST_HARDWARE)]

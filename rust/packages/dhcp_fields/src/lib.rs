@@ -2,9 +2,9 @@
 //! The fields of DHCP packets, in lines or in JSON.
 
 pub mod dhcp;
-mod header;
+pub mod header;
 mod kinds;
-mod options;
+pub mod options;
 pub mod refusal;
 mod texts;
 

@@ -62,7 +62,7 @@ fn area_name(area: Area) -> &'static str {
 }
 
 /// The refusal of the first option that is cut.
-pub(crate) fn first_cut(parts: Parts<'_>) -> Option<Refusal> {
+pub fn first_cut(parts: Parts<'_>) -> Option<Refusal> {
     let mut left = parts;
     while let Some(answer) = left.next() {
         if let Err(cut) = answer {

@@ -31,7 +31,7 @@ pub(crate) fn show_header<W: Write>(
 }
 
 /// The word of the header that has the flags, the kind of query and the outcome. Requires at least 12 bytes.
-pub(crate) fn word_of(octets: &[u8]) -> u16 {
+pub fn word_of(octets: &[u8]) -> u16 {
     octets.u16_at(field_of::WORD)
 }
 
@@ -63,12 +63,22 @@ fn flag_rows(kind: Kind) -> &'static [Row] {
 // Prints the kind of query.
 fn show_opcode<W: Write>(output: &mut W, form: Form, kind: Kind, word: u16) -> io::Result<()> {
     let opcode = opcode_of(word);
-    let name = name_in(opcode_rows(kind), opcode);
-    named(output, form, "opcode", u64::from(opcode), name)
+    named(
+        output,
+        form,
+        "opcode",
+        u64::from(opcode),
+        opcode_name(kind, word),
+    )
 }
 
-/// The kind of query.
-pub(crate) fn opcode_of(word: u16) -> u16 {
+/// The name of the kind of query in a word of the header; None where it has none here.
+pub fn opcode_name(kind: Kind, word: u16) -> Option<&'static str> {
+    name_in(opcode_rows(kind), opcode_of(word))
+}
+
+/// The kind of query in a word of the header.
+pub fn opcode_of(word: u16) -> u16 {
     (word >> 11) % 16
 }
 
@@ -81,9 +91,24 @@ fn opcode_rows(kind: Kind) -> &'static [Row] {
 
 // Prints the outcome.
 fn show_rcode<W: Write>(output: &mut W, form: Form, kind: Kind, word: u16) -> io::Result<()> {
-    let rcode = word % 16;
-    let name = name_in(rcode_rows(kind), rcode);
-    named(output, form, "rcode", u64::from(rcode), name)
+    let rcode = rcode_of(word);
+    named(
+        output,
+        form,
+        "rcode",
+        u64::from(rcode),
+        rcode_name(kind, word),
+    )
+}
+
+/// The outcome in a word of the header.
+pub fn rcode_of(word: u16) -> u16 {
+    word % 16
+}
+
+/// The name of the outcome in a word of the header; None where it has none here.
+pub fn rcode_name(kind: Kind, word: u16) -> Option<&'static str> {
+    name_in(rcode_rows(kind), rcode_of(word))
 }
 
 fn rcode_rows(kind: Kind) -> &'static [Row] {

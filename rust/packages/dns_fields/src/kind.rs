@@ -56,7 +56,7 @@ impl Kind {
 
 /// A name in a message of a kind.
 #[derive(Clone, Copy)]
-pub(crate) struct NameOf<'a>(pub(crate) Kind, pub(crate) &'a Name);
+pub struct NameOf<'a>(pub Kind, pub &'a Name);
 
 impl Text for NameOf<'_> {
     fn put_into<O, S: Sink<O>>(self, output: &mut O) -> Result<(), S::Error> {
@@ -69,7 +69,7 @@ impl Text for NameOf<'_> {
 
 /// A type of records in a message of a kind.
 #[derive(Clone, Copy)]
-pub(crate) struct TypeOf(pub(crate) Kind, pub(crate) Type);
+pub struct TypeOf(pub Kind, pub Type);
 
 impl Text for TypeOf {
     fn put_into<O, S: Sink<O>>(self, output: &mut O) -> Result<(), S::Error> {

@@ -2,13 +2,13 @@
 //! The fields of DNS messages, and of the NetBIOS name service, in lines or in JSON.
 
 mod edns;
-mod header;
+pub mod header;
 pub mod kind;
 mod lists;
 pub mod message;
-mod nbns;
+pub mod nbns;
 mod netbios;
-mod node;
-mod record;
+pub mod node;
+pub mod record;
 pub mod unread;
 mod words;

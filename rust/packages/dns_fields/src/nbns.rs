@@ -26,7 +26,7 @@ const WACK: u16 = 7;
 
 /// How the data of a record are laid out.
 #[derive(Debug, PartialEq, Eq, Clone, Copy)]
-pub(crate) enum Layout {
+pub enum Layout {
     /// Addresses, each after its flags (RFC 1002 section 4.2.1.3).
     Addresses,
     /// A number of names with their flags, and statistics (RFC 1002 section 4.2.18).
@@ -67,8 +67,8 @@ pub(crate) fn show_record<'a, W: Write>(
     }
 }
 
-// How the data of a record are laid out, by the word of flags of its message.
-fn layout_of(word: u16, record: &Record<'_>) -> Layout {
+/// How the data of a record are laid out, by the word of flags of its message.
+pub fn layout_of(word: u16, record: &Record<'_>) -> Layout {
     if opcode_of(word) == WACK {
         return Layout::Octets;
     }
@@ -125,8 +125,8 @@ fn show_names<W: Write>(output: &mut W, form: Form, data: &[u8]) -> io::Result<(
     keyed_cell(output, form, "statistics", statistics)
 }
 
-// The octets of the names, as many as there are of those that the first octet counts, and those behind them.
-fn split_names(data: &[u8]) -> (&[u8], &[u8]) {
+/// The octets of the names, as many as there are of those that the first octet counts, and those behind them.
+pub fn split_names(data: &[u8]) -> (&[u8], &[u8]) {
     let [_, rest @ ..] = data else {
         return (&[], &[]);
     };

@@ -24,7 +24,7 @@ mod field {
 
 /// A kind of entries of data.
 #[derive(Debug, PartialEq, Eq, Clone, Copy)]
-pub(crate) enum Part {
+pub enum Part {
     /// Two octets of flags, and an IPv4 address.
     Address,
     /// A name of 16 octets, and two of flags.
@@ -33,7 +33,7 @@ pub(crate) enum Part {
 
 impl Part {
     /// The octets of an entry.
-    pub(crate) fn width(self) -> usize {
+    pub fn width(self) -> usize {
         match self {
             Part::Address => field::ADDRESS.end,
             Part::Name => field::NAME_FLAGS.end,
@@ -85,11 +85,13 @@ fn put_others<W: Write>(output: &mut W, form: Form, part: Part, octets: &[u8]) -
     Ok(())
 }
 
-// An entry of data.
+/// An entry of data, by its text.
 #[derive(Clone, Copy)]
-struct OnePart<'a> {
-    part: Part,
-    octets: &'a [u8],
+pub struct OnePart<'a> {
+    /// What it is.
+    pub part: Part,
+    /// Its octets, as many as the width of such entries.
+    pub octets: &'a [u8],
 }
 
 impl Text for OnePart<'_> {

@@ -176,8 +176,8 @@ fn show_other<W: Write>(output: &mut W, form: Form, message: &[u8]) -> io::Resul
     field(output, form, "data", octets)
 }
 
-// The name of a type of message; None where this library has none.
-fn type_name(type_: u8) -> Option<&'static str> {
+/// The name of a type of message; None where this library has none.
+pub fn type_name(type_: u8) -> Option<&'static str> {
     name_in(TYPES, type_ as u16)
 }
 

@@ -4,10 +4,7 @@
 
 pub mod hop_by_hop;
 pub mod igmp;
-pub mod lack;
 mod messages;
 pub mod mld;
 pub mod ndisc;
-mod records;
-
-pub use lack::Lack;
+pub mod records;

@@ -1,7 +1,7 @@
 // Made from crates/neighbor_fields/src/ndisc.rt by rust/erase.
 //! Messages of neighbor discovery (RFC 4861 section 4).
 
-mod options;
+pub mod options;
 
 use crate::messages::{HEAD_LEN, millis, show_cut, show_head};
 use control_wire::Octets;
@@ -60,8 +60,8 @@ fn show_body<W: Write>(output: &mut W, form: Form, message: &[u8]) -> io::Result
     show_options(output, form, options)
 }
 
-// The octets before the options.
-fn header_len(type_: u8) -> usize {
+/// The octets before the options of a message of this type.
+pub fn header_len(type_: u8) -> usize {
     match type_ {
         ROUTER_ADVERTISEMENT => 16,
         NEIGHBOR_SOLICITATION | NEIGHBOR_ADVERTISEMENT => 24,

@@ -71,8 +71,8 @@ pub(super) fn show_options<W: Write>(output: &mut W, form: Form, options: &[u8])
     show_parts::<Options, W>(output, form, "options", options.len(), options)
 }
 
-// The options as parts of octets.
-struct Options;
+/// The options as parts of octets.
+pub struct Options;
 
 impl Part for Options {
     fn len_of(octets: &[u8]) -> usize {
@@ -90,8 +90,8 @@ impl Part for Options {
     }
 }
 
-// Why an option is refused, where it is.
-fn refusal(option: &[u8]) -> Option<&'static str> {
+/// Why an option is refused, where it is. Requires an octet.
+pub fn refusal(option: &[u8]) -> Option<&'static str> {
     if option.len() < HEAD_LEN {
         return Some("no length");
     }
@@ -219,11 +219,13 @@ fn show_flags<W: Write>(output: &mut W, form: Form, bits: u8) -> io::Result<()> 
     keyed_cell(output, form, "flags", flags)
 }
 
-// An address, and a length in bits.
+/// A prefix, by its text.
 #[derive(Clone, Copy)]
-struct Prefix<'a> {
-    address: Address<'a>,
-    len: u8,
+pub struct Prefix<'a> {
+    /// The address.
+    pub address: Address<'a>,
+    /// The length in bits.
+    pub len: u8,
 }
 
 impl Text for Prefix<'_> {

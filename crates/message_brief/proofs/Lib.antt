@@ -1,0 +1,4 @@
+mod Endings
+mod NextEntries
+mod PartsInTurn
+mod Rooms

@@ -1,0 +1,9 @@
+pub mod Dhcp
+pub mod Dns
+pub mod Groups
+pub mod Icmp
+pub mod Messages
+pub mod Neighbors
+pub mod Quote
+pub mod Words
+pub mod private

@@ -1,0 +1,2 @@
+pub mod DnsValues
+pub mod Options

@@ -1,0 +1,207 @@
+//! What ICMP errors quote of a datagram: from where it came and to where it went, and its protocol.
+
+#![tactic(auto, using(wirebase::proofs::Sinks::puts, wirebase::proofs::Sinks::put_none), unfolding(crate::specs::Quote::with_port, crate::specs::Quote::quoted_text))]
+
+ghost use Rattle.std.specs.Prelude.{◌≡◌, ◌≤◌, length, true};
+ghost use Rattle.wirebase.specs.Ipv4.{header_len_in};
+ghost use Rattle.wirebase.specs.Sink.{PutsText};
+ghost use Rattle.message_brief.specs.Quote.{path_text, ports4, ports6, protocol4, protocol6, quote4_text, quote6_text};
+ghost use Rattle.message_brief.specs.Quote.{quoted_text, quotes4, quotes6, with_port};
+
+use crate::words::put_word;
+use icmp_fields::protocol_names::protocol_name;
+use packet_fields::label::Label;
+use packet_fields::ports::ports_of;
+use packet_fields::texts::Address;
+use packet_fields::value::Text;
+use wirebase::text::{Sink, put_number};
+use wirebase::{IpProtocol, Octets};
+
+// The fields of the header of IPv4 (RFC 791 section 3.1), and the least of its length.
+mod ipv4 {
+    use wirebase::Field;
+
+    pub const VERSION: usize = 0;
+
+    pub const FRAGMENT: Field = 6..8;
+
+    pub const PROTOCOL: usize = 9;
+
+    pub const SRC_ADDR: Field = 12..16;
+
+    pub const DST_ADDR: Field = 16..20;
+
+    pub const HEADER_LEN: usize = 20;
+}
+
+// The fields of the header of IPv6 (RFC 8200 section 3), and its length.
+mod ipv6 {
+    use wirebase::Field;
+
+    pub const VERSION: usize = 0;
+
+    pub const NEXT_HEADER: usize = 6;
+
+    pub const SRC_ADDR: Field = 8..24;
+
+    pub const DST_ADDR: Field = 24..40;
+
+    pub const HEADER_LEN: usize = 40;
+}
+
+// The octets of an IPv6 address.
+const V6_LEN: usize = 16;
+
+/// Puts what an error of ICMPv4 quotes, where it is the front of a datagram.
+pub(crate) fn put_quote4<O, S: Sink<O>>(output: &mut O, octets: &[u8]) -> Result<(), S::Error>
+    ensures { PutsText S.took output.old (quote4_text octets.now) result output.new }
+{
+    if !quotes4(octets) {
+        return Ok(());
+    }
+    let source = octets.field(ipv4::SRC_ADDR);
+    let destination = octets.field(ipv4::DST_ADDR);
+    put_quoted::<O, S>(
+        output,
+        source,
+        destination,
+        ports4(octets),
+        protocol4(octets),
+    )
+}
+
+/// Whether octets begin with a header of IPv4.
+pub(crate) fn quotes4(octets: &[u8]) -> bool
+    ensures { result ≡ quotes4 octets.now }
+{
+    octets.len() >= ipv4::HEADER_LEN
+        && octets[ipv4::VERSION] / 16 == 4
+        && header_len(octets) >= ipv4::HEADER_LEN
+        && header_len(octets) <= octets.len()
+}
+
+// The length of the header of IPv4.
+fn header_len(octets: &[u8]) -> usize
+    requires { 20 ≤ length octets.now }
+    ensures { result ≡ header_len_in octets.now }
+{
+    4 * (octets[ipv4::VERSION] % 16) as usize
+}
+
+fn protocol4(octets: &[u8]) -> IpProtocol
+    requires { 20 ≤ length octets.now }
+    ensures { result ≡ protocol4 octets.now }
+{
+    IpProtocol::from(octets[ipv4::PROTOCOL])
+}
+
+// The ports; a fragment that is not the first begins with no header.
+fn ports4(octets: &[u8]) -> Option<(u16, u16)>
+    requires room { 20 ≤ length octets.now }
+    requires header { header_len_in octets.now ≤ length octets.now }
+    ensures { result ≡ ports4 octets.now }
+{
+    if 8 * (octets.u16_at(ipv4::FRAGMENT) as usize % 0x2000) != 0 {
+        return None;
+    }
+    let (_, payload) = octets.split_at(header_len(octets));
+    ports_of(protocol4(octets), payload)
+}
+
+/// Puts what an error of ICMPv6 quotes, where it is the front of a packet.
+pub(crate) fn put_quote6<O, S: Sink<O>>(output: &mut O, octets: &[u8]) -> Result<(), S::Error>
+    ensures { PutsText S.took output.old (quote6_text octets.now) result output.new }
+{
+    if !quotes6(octets) {
+        return Ok(());
+    }
+    let source = octets.field(ipv6::SRC_ADDR);
+    let destination = octets.field(ipv6::DST_ADDR);
+    put_quoted::<O, S>(
+        output,
+        source,
+        destination,
+        ports6(octets),
+        protocol6(octets),
+    )
+}
+
+/// Whether octets begin with a header of IPv6.
+pub(crate) fn quotes6(octets: &[u8]) -> bool
+    ensures { result ≡ quotes6 octets.now }
+{
+    octets.len() >= ipv6::HEADER_LEN && octets[ipv6::VERSION] / 16 == 6
+}
+
+fn protocol6(octets: &[u8]) -> IpProtocol
+    requires { 40 ≤ length octets.now }
+    ensures { result ≡ protocol6 octets.now }
+{
+    IpProtocol::from(octets[ipv6::NEXT_HEADER])
+}
+
+fn ports6(octets: &[u8]) -> Option<(u16, u16)>
+    requires { 40 ≤ length octets.now }
+    ensures { result ≡ ports6 octets.now }
+{
+    let (_, payload) = octets.split_at(ipv6::HEADER_LEN);
+    ports_of(protocol6(octets), payload)
+}
+
+// Puts what is quoted.
+fn put_quoted<O, S: Sink<O>>(
+    output: &mut O,
+    source: &[u8],
+    destination: &[u8],
+    ports: Option<(u16, u16)>,
+    protocol: IpProtocol,
+) -> Result<(), S::Error>
+    ensures { PutsText S.took output.old (quoted_text source.now destination.now ports protocol) result output.new }
+{
+    let label = Label {
+        name: protocol_name(protocol),
+        kind: "protocol",
+        number: u8::from(protocol),
+    };
+    S::put_str(output, " quoted=")?;
+    put_path::<O, S>(output, source, destination, ports)?;
+    put_word::<O, S, Label<'_>>(output, label)
+}
+
+// Puts from where and to where, with ports where they are known.
+fn put_path<O, S: Sink<O>>(
+    output: &mut O,
+    source: &[u8],
+    destination: &[u8],
+    ports: Option<(u16, u16)>,
+) -> Result<(), S::Error>
+    ensures { PutsText S.took output.old (path_text source.now destination.now ports) result output.new }
+{
+    match ports {
+        Some((from, to)) => {
+            put_with_port::<O, S>(output, source, from)?;
+            S::put_str(output, ">")?;
+            put_with_port::<O, S>(output, destination, to)
+        }
+        None => {
+            Address(source).put_into::<O, S>(output)?;
+            S::put_str(output, ">")?;
+            Address(destination).put_into::<O, S>(output)
+        }
+    }
+}
+
+// Puts an address and its port.
+fn put_with_port<O, S: Sink<O>>(output: &mut O, address: &[u8], port: u16) -> Result<(), S::Error>
+    ensures { PutsText S.took output.old (with_port address.now port) result output.new }
+{
+    if address.len() == V6_LEN {
+        S::put_str(output, "[")?;
+        Address(address).put_into::<O, S>(output)?;
+        S::put_str(output, "]:")?;
+        return put_number::<O, S>(output, port as u64);
+    }
+    Address(address).put_into::<O, S>(output)?;
+    S::put_str(output, ":")?;
+    put_number::<O, S>(output, port as u64)
+}

@@ -1,0 +1,27 @@
+// What the tests compare by, over one macro of std: the prover goes through the code of a macro again wherever it is
+// used, and through a call of these in a sixth of the time. They take the test's runtime, so they can't be in one
+// library for all tests: the gate refuses a public function that may end the process.
+
+ghost use Rattle.std.specs.Prelude.{◌≡◌, true};
+
+use std::fmt::Debug;
+use std::process::Abort;
+
+// Ends the test where the two differ, and says what they are of.
+pub(crate) fn same_of<T: PartialEq + Debug + Drop>(
+    rt: &impl Abort,
+    of: impl Debug + Drop,
+    left: T,
+    right: T,
+)
+    ensures { T.eq left right ≡ true }
+{
+    assert!(rt; left == right, "{of:?}: {left:?} is not {right:?}");
+}
+
+// Ends the test where this does not hold, and says what it was to hold of.
+pub(crate) fn holds_of(rt: &impl Abort, of: impl Debug + Drop, is_so: bool)
+    ensures { is_so ≡ true }
+{
+    same_of(rt, of, is_so, true);
+}

@@ -1,0 +1,226 @@
+// Made from crates/message_brief/src/icmp.rt by rust/erase.
+//! Brief lines of ICMPv4 (RFC 792) and ICMPv6 (RFC 4443).
+
+use crate::quote::{put_quote4, put_quote6, quotes4, quotes6};
+use crate::words::{Number, put_keyed, put_word};
+use control_wire::Octets;
+use control_wire::inside::text::Sink;
+use icmp_fields::icmp_names::{icmp4_code_name, icmp4_type_name, icmp6_code_name, icmp6_type_name};
+use packet_fields::label::Label;
+use packet_fields::texts::Address;
+
+// The fields of messages; their picture is in the specs of `wirebase`.
+mod place {
+    use control_wire::Field;
+
+    pub const TYPE: usize = 0;
+
+    pub const CODE: usize = 1;
+
+    pub const HEAD_LEN: usize = 4;
+
+    pub const IDENT: Field = 4..6;
+
+    pub const SEQ_NO: Field = 6..8;
+
+    pub const GATEWAY: Field = 4..8;
+
+    pub const POINTER4: usize = 4;
+
+    pub const MTU4: Field = 6..8;
+
+    pub const REST: Field = 4..8;
+
+    pub const HEADER_LEN: usize = 8;
+}
+
+// The types of ICMPv4 errors that tell something in their header, and the code that has an MTU (RFC 1191 section 4).
+const UNREACHABLE: u8 = 3;
+
+const REDIRECT: u8 = 5;
+
+const PARAMETER_PROBLEM4: u8 = 12;
+
+const FRAGMENTATION_NEEDED: u8 = 4;
+
+// Those of ICMPv6.
+const PACKET_TOO_BIG: u8 = 2;
+
+const PARAMETER_PROBLEM6: u8 = 4;
+
+/// Puts what an ICMPv4 message says.
+pub(crate) fn put_icmp4<O, S: Sink<O>>(output: &mut O, octets: &[u8]) -> Result<(), S::Error> {
+    if octets.len() < place::HEAD_LEN {
+        return Ok(());
+    }
+    put_head4::<O, S>(output, octets[place::TYPE], octets[place::CODE])?;
+    put_behind4::<O, S>(output, octets)
+}
+
+/// Whether all is there that such a line tells of an ICMPv4 message.
+pub(crate) fn is_whole4(octets: &[u8]) -> bool {
+    if octets.len() < place::HEADER_LEN {
+        return false;
+    }
+    let (_, quoted) = octets.split_at(place::HEADER_LEN);
+    !is_error4(octets[place::TYPE]) || quotes4(quoted)
+}
+
+fn put_head4<O, S: Sink<O>>(output: &mut O, type_: u8, code: u8) -> Result<(), S::Error> {
+    let name = icmp4_type_name(type_);
+    put_head::<O, S>(output, name, type_, icmp4_code_name(type_, code), code)
+}
+
+fn put_behind4<O, S: Sink<O>>(output: &mut O, octets: &[u8]) -> Result<(), S::Error> {
+    if octets.len() < place::HEADER_LEN {
+        return Ok(());
+    }
+    put_body4::<O, S>(output, octets)
+}
+
+fn put_body4<O, S: Sink<O>>(output: &mut O, octets: &[u8]) -> Result<(), S::Error> {
+    if is_echo4(octets[place::TYPE]) {
+        return put_echo::<O, S>(output, octets);
+    }
+    if !is_error4(octets[place::TYPE]) {
+        return Ok(());
+    }
+    let (_, quoted) = octets.split_at(place::HEADER_LEN);
+    put_told4::<O, S>(output, octets)?;
+    put_quote4::<O, S>(output, quoted)
+}
+
+fn is_echo4(type_: u8) -> bool {
+    matches!(type_, 0 | 8)
+}
+
+fn is_error4(type_: u8) -> bool {
+    matches!(type_, 3 | 4 | 5 | 11 | 12)
+}
+
+// Puts what the header of an ICMPv4 error tells behind its checksum.
+fn put_told4<O, S: Sink<O>>(output: &mut O, octets: &[u8]) -> Result<(), S::Error> {
+    match octets[place::TYPE] {
+        UNREACHABLE if octets[place::CODE] == FRAGMENTATION_NEEDED => {
+            put_mtu::<O, S>(output, octets.u16_at(place::MTU4) as u64)
+        }
+        REDIRECT => put_gateway::<O, S>(output, octets.field(place::GATEWAY)),
+        PARAMETER_PROBLEM4 => put_pointer::<O, S>(output, octets[place::POINTER4] as u64),
+        _ => Ok(()),
+    }
+}
+
+/// Puts what an ICMPv6 message says, but for those of neighbors and of multicast listeners.
+pub(crate) fn put_icmp6<O, S: Sink<O>>(output: &mut O, octets: &[u8]) -> Result<(), S::Error> {
+    if octets.len() < place::HEAD_LEN {
+        return Ok(());
+    }
+    put_head6::<O, S>(output, octets[place::TYPE], octets[place::CODE])?;
+    put_behind6::<O, S>(output, octets)
+}
+
+/// Whether all is there that such a line tells of an ICMPv6 message.
+pub(crate) fn is_whole6(octets: &[u8]) -> bool {
+    if octets.len() < place::HEADER_LEN {
+        return false;
+    }
+    let (_, quoted) = octets.split_at(place::HEADER_LEN);
+    !is_error6(octets[place::TYPE]) || quotes6(quoted)
+}
+
+/// Puts the names of a type and a code of ICMPv6.
+pub(crate) fn put_head6<O, S: Sink<O>>(
+    output: &mut O,
+    type_: u8,
+    code: u8,
+) -> Result<(), S::Error> {
+    let name = icmp6_type_name(type_);
+    put_head::<O, S>(output, name, type_, icmp6_code_name(type_, code), code)
+}
+
+fn put_behind6<O, S: Sink<O>>(output: &mut O, octets: &[u8]) -> Result<(), S::Error> {
+    if octets.len() < place::HEADER_LEN {
+        return Ok(());
+    }
+    put_body6::<O, S>(output, octets)
+}
+
+fn put_body6<O, S: Sink<O>>(output: &mut O, octets: &[u8]) -> Result<(), S::Error> {
+    if is_echo6(octets[place::TYPE]) {
+        return put_echo::<O, S>(output, octets);
+    }
+    if !is_error6(octets[place::TYPE]) {
+        return Ok(());
+    }
+    let (_, quoted) = octets.split_at(place::HEADER_LEN);
+    put_told6::<O, S>(output, octets)?;
+    put_quote6::<O, S>(output, quoted)
+}
+
+fn is_echo6(type_: u8) -> bool {
+    matches!(type_, 128 | 129)
+}
+
+fn is_error6(type_: u8) -> bool {
+    matches!(type_, 1..=4)
+}
+
+// Puts what the header of an ICMPv6 error tells behind its checksum.
+fn put_told6<O, S: Sink<O>>(output: &mut O, octets: &[u8]) -> Result<(), S::Error> {
+    let rest = octets.u32_at(place::REST) as u64;
+    match octets[place::TYPE] {
+        PACKET_TOO_BIG => put_mtu::<O, S>(output, rest),
+        PARAMETER_PROBLEM6 => put_pointer::<O, S>(output, rest),
+        _ => Ok(()),
+    }
+}
+
+// Puts the names of a type and a code, or their numbers.
+fn put_head<O, S: Sink<O>>(
+    output: &mut O,
+    type_name: Option<&str>,
+    type_: u8,
+    code_name: Option<&str>,
+    code: u8,
+) -> Result<(), S::Error> {
+    let label = Label {
+        name: type_name,
+        kind: "type",
+        number: type_,
+    };
+    put_word::<O, S, Label<'_>>(output, label)?;
+    put_code::<O, S>(output, code_name, code)
+}
+
+fn put_code<O, S: Sink<O>>(output: &mut O, name: Option<&str>, code: u8) -> Result<(), S::Error> {
+    match name {
+        Some(name) => put_word::<O, S, &str>(output, name),
+        None if code == 0 => Ok(()),
+        None => put_keyed::<O, S, Number>(output, "code", Number(code as u64)),
+    }
+}
+
+// Puts what an echo says.
+fn put_echo<O, S: Sink<O>>(output: &mut O, octets: &[u8]) -> Result<(), S::Error> {
+    let ident = Number(octets.u16_at(place::IDENT) as u64);
+    let seq_no = Number(octets.u16_at(place::SEQ_NO) as u64);
+    let len = Number((octets.len() - place::HEADER_LEN) as u64);
+    put_word::<O, S, Number>(output, ident)?;
+    put_word::<O, S, Number>(output, seq_no)?;
+    put_keyed::<O, S, Number>(output, "len", len)
+}
+
+fn put_mtu<O, S: Sink<O>>(output: &mut O, mtu: u64) -> Result<(), S::Error> {
+    if mtu == 0 {
+        return Ok(());
+    }
+    put_keyed::<O, S, Number>(output, "mtu", Number(mtu))
+}
+
+fn put_gateway<O, S: Sink<O>>(output: &mut O, octets: &[u8]) -> Result<(), S::Error> {
+    put_keyed::<O, S, Address<'_>>(output, "gateway", Address(octets))
+}
+
+fn put_pointer<O, S: Sink<O>>(output: &mut O, pointer: u64) -> Result<(), S::Error> {
+    put_keyed::<O, S, Number>(output, "pointer", Number(pointer))
+}

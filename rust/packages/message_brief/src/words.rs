@@ -1,0 +1,50 @@
+// Made from crates/message_brief/src/words.rt by rust/erase.
+//! The words that a brief line is made of.
+
+use control_wire::inside::text::{Sink, put_number};
+use packet_fields::value::Text;
+
+/// A number in decimal digits.
+#[derive(Clone, Copy)]
+pub(crate) struct Number(pub(crate) u64);
+
+impl Text for Number {
+    fn put_into<O, S: Sink<O>>(self, output: &mut O) -> Result<(), S::Error> {
+        put_number::<O, S>(output, self.0)
+    }
+}
+
+/// Puts a text as a word.
+pub(crate) fn put_word<O, S: Sink<O>, T: Text>(output: &mut O, text: T) -> Result<(), S::Error> {
+    S::put_str(output, " ")?;
+    text.put_into::<O, S>(output)
+}
+
+/// Puts a text as a word with its key before it.
+pub(crate) fn put_keyed<O, S: Sink<O>, T: Text>(
+    output: &mut O,
+    key: &str,
+    text: T,
+) -> Result<(), S::Error> {
+    S::put_str(output, " ")?;
+    S::put_str(output, key)?;
+    S::put_str(output, "=")?;
+    text.put_into::<O, S>(output)
+}
+
+/// Puts how many more there are, where there are any.
+pub(crate) fn put_more<O, S: Sink<O>>(output: &mut O, count: u64) -> Result<(), S::Error> {
+    if count == 0 {
+        return Ok(());
+    }
+    S::put_str(output, ", +")?;
+    put_number::<O, S>(output, count)
+}
+
+/// Puts what tells that something of the message is missing or does not read, where it is so.
+pub(crate) fn put_ending<O, S: Sink<O>>(output: &mut O, is_whole: bool) -> Result<(), S::Error> {
+    if is_whole {
+        return Ok(());
+    }
+    S::put_str(output, " ...")
+}
