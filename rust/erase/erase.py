@@ -354,7 +354,7 @@ def public_path(file):
 
 
 # What the tests of the library have no use for.
-UNUSED = re.compile(r"#!\[forbid.*\n|pub mod (env|fs|hex|io);\n|pub use std::fmt;\n")
+UNUSED = re.compile(r"#!\[forbid.*\n|pub mod (collections|env|fs|hex|io);\n|pub use std::fmt;\n")
 
 
 def std_of_tests():

@@ -6,7 +6,7 @@ HANDED = {"rt", "alloc"}
 MACROS = {"assert", "assert_eq", "assert_ne", "panic"}
 PRINTS = {"println", "eprintln"}
 TAKE_ALLOC = {"to_string", "concat", "to_vec", "repeat"}
-MODULES = {"alloc", "test", "io", "env", "fs"}
+MODULES = {"alloc", "collections", "test", "io", "env", "fs"}
 PRELUDE = {"Vec", "String", "try_clone"} | {f"{word}_in" for word in TAKE_ALLOC}
 
 

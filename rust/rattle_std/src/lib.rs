@@ -5,6 +5,7 @@
 #![forbid(unsafe_code)]
 
 pub mod alloc;
+pub mod collections;
 pub mod env;
 pub mod fs;
 pub mod hex;

@@ -4,7 +4,10 @@
 
 pub mod hop_by_hop;
 pub mod igmp;
+pub mod lack;
 mod messages;
 pub mod mld;
 pub mod ndisc;
 pub mod records;
+
+pub use lack::Lack;

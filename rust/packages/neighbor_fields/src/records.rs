@@ -1,6 +1,7 @@
 // Made from crates/neighbor_fields/src/records.rt by rust/erase.
 //! Records and sources of multicast groups (RFC 3810 section 5, RFC 3376 section 4).
 
+use crate::lack::Lack;
 use crate::messages::{show_additional, show_lack};
 use control_wire::Octets;
 use packet_fields::Form;
@@ -30,18 +31,62 @@ mod place {
     pub const NUM_SRCS: Field = 2..4;
 }
 
-// Prints `count` records of a kind, and what stands behind them.
-pub(crate) fn show_records<P: Part, W: Write>(
+// Prints `count` records with addresses of IPv6 and what stands behind them, and returns whether fewer are whole.
+pub(crate) fn show_records_v6<W: Write>(
     output: &mut W,
     form: Form,
     count: u16,
     octets: &[u8],
+) -> io::Result<Option<Lack>> {
+    let lack = records_lack(16, count, octets);
+    show_records::<RecordsV6, W>(output, form, count, lack, octets)?;
+    Ok(lack)
+}
+
+// The same with addresses of IPv4.
+pub(crate) fn show_records_v4<W: Write>(
+    output: &mut W,
+    form: Form,
+    count: u16,
+    octets: &[u8],
+) -> io::Result<Option<Lack>> {
+    let lack = records_lack(4, count, octets);
+    show_records::<RecordsV4, W>(output, form, count, lack, octets)?;
+    Ok(lack)
+}
+
+// Prints `count` records of a kind, that fewer are whole, where that is so, and what stands behind them.
+fn show_records<P: Part, W: Write>(
+    output: &mut W,
+    form: Form,
+    count: u16,
+    lack: Option<Lack>,
+    octets: &[u8],
 ) -> io::Result<()> {
     show_parts::<P, W>(output, form, "records", count as usize, octets)?;
+    show_lack(output, form, lack)?;
     let behind = behind_parts::<P>(count as usize, octets);
-    let why = "fewer records than the report counts";
-    show_lack(output, form, behind.missing > 0, why)?;
     show_additional(output, form, behind.octets)
+}
+
+// Whether fewer than `count` records are whole.
+fn records_lack(width: usize, count: u16, octets: &[u8]) -> Option<Lack> {
+    let mut rest = octets;
+    let mut left = count;
+    while left > 0 {
+        if is_cut(width, rest) {
+            return Some(Lack::Records);
+        }
+        let (_, others) = rest.split_at(counted_len(width, rest));
+        rest = others;
+        left -= 1;
+    }
+    None
+}
+
+// Whether octets end before the record at their front does.
+fn is_cut(width: usize, octets: &[u8]) -> bool {
+    octets.len() < HEAD_LEN || octets.len() < counted_len(width, octets)
 }
 
 /// Records with addresses of IPv6.
@@ -151,25 +196,29 @@ fn show_aux_data<W: Write>(output: &mut W, form: Form, data: &[u8]) -> io::Resul
     keyed_cell(output, form, "aux_data", data)
 }
 
-// Prints `count` sources of a query, and what stands behind them.
+// Prints `count` sources of a query and what stands behind them, and returns whether fewer are whole.
 pub(crate) fn show_sources<W: Write>(
     output: &mut W,
     form: Form,
     width: usize,
     count: u16,
     octets: &[u8],
-) -> io::Result<()> {
-    let len = width * count as usize;
-    let is_short = octets.len() < len;
-    let (octets, behind) = octets.split_at(len.min(octets.len()));
+) -> io::Result<Option<Lack>> {
+    let lack = sources_lack(width, count, octets);
+    let len = octets.len().min(width * count as usize);
+    let (octets, behind) = octets.split_at(len);
     field(output, form, "sources", Addresses { width, octets })?;
-    show_lack(
-        output,
-        form,
-        is_short,
-        "fewer sources than the query counts",
-    )?;
-    show_additional(output, form, behind)
+    show_lack(output, form, lack)?;
+    show_additional(output, form, behind)?;
+    Ok(lack)
+}
+
+// Whether fewer than `count` sources are whole.
+fn sources_lack(width: usize, count: u16, octets: &[u8]) -> Option<Lack> {
+    if octets.len() < width * count as usize {
+        return Some(Lack::Sources);
+    }
+    None
 }
 
 // Prints what a query says of its querier.

@@ -1,0 +1,13 @@
+pub mod Bounds
+pub mod Echo
+pub mod Exchange
+pub mod Key
+pub mod Lease
+pub mod Message
+pub mod Names
+pub mod Neighbor
+pub mod Pairs
+pub mod Runs
+pub mod Shown
+pub mod Types
+pub mod private

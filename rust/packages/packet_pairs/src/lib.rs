@@ -1,0 +1,19 @@
+// Made from crates/packet_pairs/src/lib.rt by rust/erase.
+//! Which message answers which: questions and answers of DNS and its kin, echoes, DHCP and neighbor discovery, paired
+//! in bounded memory.
+
+mod echo;
+mod exchange;
+mod key;
+mod lease;
+mod names;
+mod neighbor;
+mod pairs;
+mod show;
+mod unanswered;
+
+pub use exchange::{Exchange, Role, exchange_of};
+pub use key::{EchoKey, Key, LeaseKey, NameKey, NeighborKey, NetbiosKey, Reply, Way};
+pub use pairs::{Answered, Asked, Fault, MOST_ANSWERED, MOST_WAITING, Pairs};
+pub use show::show_answered;
+pub use unanswered::show_asked;

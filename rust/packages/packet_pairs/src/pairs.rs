@@ -1,0 +1,232 @@
+// Made from crates/packet_pairs/src/pairs.rt by rust/erase.
+//! The questions that wait for an answer.
+
+use crate::exchange::{Exchange, Role};
+use crate::key::Key;
+use rattle_std::collections::VecDeque;
+
+/// The most questions that wait for an answer.
+pub const MOST_WAITING: usize = 2_048;
+
+/// The most questions that are remembered behind an answer, since others may answer them too.
+pub const MOST_ANSWERED: usize = 64;
+
+/// A question that was asked.
+pub struct Asked {
+    pub(crate) key: Key,
+    pub(crate) number: u64,
+    time: Option<u64>,
+    pub(crate) tries: u64,
+}
+
+/// The question that an answer is to.
+#[derive(Debug, PartialEq, Eq, Clone, Copy)]
+pub struct Answered {
+    /// The number of the packet that it was asked in, for the first time.
+    pub number: u64,
+    /// The nanoseconds from then to the answer. None where one of the times is not known, or the answer's is the
+    /// earlier one.
+    pub after: Option<u64>,
+}
+
+/// What keeps a question from being kept.
+#[derive(Debug, PartialEq, Eq, Clone, Copy)]
+pub enum Fault {
+    /// There was no memory.
+    Memory,
+}
+
+impl Asked {
+    /// What it has in common with its answers.
+    pub fn key(&self) -> &Key {
+        &self.key
+    }
+
+    /// The number of the packet that it was asked in, for the first time.
+    pub fn number(&self) -> u64 {
+        self.number
+    }
+
+    /// The time of that packet, where it is known.
+    pub fn time(&self) -> Option<u64> {
+        self.time
+    }
+
+    /// How often it was asked.
+    pub fn tries(&self) -> u64 {
+        self.tries
+    }
+
+    // Counts that it is asked again.
+    fn ask_again(&mut self) {
+        self.tries = self.tries.saturating_add(1);
+    }
+
+    // What an answer at this time is to it.
+    fn answered(&self, time: Option<u64>) -> Answered {
+        Answered {
+            number: self.number,
+            after: nanoseconds_between(self.time, time),
+        }
+    }
+}
+
+// The nanoseconds from one time to another, where both are known and the other is not before the one.
+fn nanoseconds_between(before: Option<u64>, after: Option<u64>) -> Option<u64> {
+    match (before, after) {
+        (Some(before), Some(after)) if before <= after => Some(after - before),
+        _ => None,
+    }
+}
+
+/// The questions that wait for an answer, in the order in which they were asked, at most `MOST_WAITING`: where there is
+/// no room for another, the one that was asked first is dropped. Each takes less than 400 bytes, so that all take less
+/// than 1 MB. To see a message takes time that is linear in their number.
+///
+/// A question that is asked again while it waits keeps the number and the time of the first try, since its asker waits
+/// from then on, and any of the tries may be the one that is answered; the tries are counted. An answer takes its
+/// question out. What many may answer, as a DISCOVER of DHCP or a question of LLMNR, is remembered behind its first
+/// answer, so that each server that offers is told to answer: the `MOST_ANSWERED` latest of these. Another answer to
+/// any other question is one to none.
+pub struct Pairs {
+    waiting: VecDeque<Asked>,
+    // The latest first.
+    answered: VecDeque<Asked>,
+    dropped: u64,
+}
+
+impl Pairs {
+    /// No message was seen yet. A question that is new is paired with the next answer to it, unless `MOST_WAITING`
+    /// other questions come in between.
+    pub fn new() -> Pairs {
+        Pairs {
+            waiting: VecDeque::new(),
+            answered: VecDeque::new(),
+            dropped: 0,
+        }
+    }
+
+    /// The questions that wait for an answer, in the order in which they were asked: those of the first slice, and then
+    /// those of the second.
+    pub fn waiting(&self) -> (&[Asked], &[Asked]) {
+        self.waiting.as_slices()
+    }
+
+    /// How many questions were dropped, since there was no room, before an answer came.
+    pub fn dropped(&self) -> u64 {
+        self.dropped
+    }
+
+    /// Sees the message of the packet of this number, which came at this time, in nanoseconds, where that is known.
+    /// Returns the question that it answers, where it answers one. A question that is new and an answer to one that
+    /// waits take memory; where there is none, nothing changes.
+    pub fn see(
+        &mut self,
+        number: u64,
+        time: Option<u64>,
+        exchange: Exchange,
+    ) -> Result<Option<Answered>, Fault> {
+        self.take(number, time, exchange)
+    }
+
+    // Sees a message.
+    fn take(
+        &mut self,
+        number: u64,
+        time: Option<u64>,
+        exchange: Exchange,
+    ) -> Result<Option<Answered>, Fault> {
+        match exchange.role {
+            Role::Asks => self.ask(number, time, exchange.key),
+            Role::Answers => self.answer(time, &exchange.key),
+        }
+    }
+
+    // Sees a question.
+    fn ask(&mut self, number: u64, time: Option<u64>, key: Key) -> Result<Option<Answered>, Fault> {
+        if let Some(place) = find(&self.waiting, &key) {
+            self.waiting[place].ask_again();
+            return Ok(None);
+        }
+        self.begin(number, time, key)
+    }
+
+    // Keeps a question behind the others, and drops the one that was asked first where there are too many.
+    fn begin(
+        &mut self,
+        number: u64,
+        time: Option<u64>,
+        key: Key,
+    ) -> Result<Option<Answered>, Fault> {
+        let asked = Asked {
+            key,
+            number,
+            time,
+            tries: 1,
+        };
+        if self.waiting.len() < MOST_WAITING {
+            return self.append(asked);
+        }
+        self.make_room();
+        self.append(asked)
+    }
+
+    // Keeps a question behind the others.
+    fn append(&mut self, asked: Asked) -> Result<Option<Answered>, Fault> {
+        if self.waiting.push_back(asked).is_err() {
+            return Err(Fault::Memory);
+        }
+        Ok(None)
+    }
+
+    // Drops the question that was asked first.
+    fn make_room(&mut self) {
+        self.waiting.pop_front();
+        self.dropped = self.dropped.saturating_add(1);
+    }
+
+    // Sees an answer.
+    fn answer(&mut self, time: Option<u64>, key: &Key) -> Result<Option<Answered>, Fault> {
+        let place = match find(&self.waiting, key) {
+            Some(place) => place,
+            None => return Ok(self.answer_too(time, key)),
+        };
+        if self.answered.try_reserve(1).is_err() {
+            return Err(Fault::Memory);
+        }
+        match self.waiting.remove(place) {
+            Some(asked) => {
+                let answered = asked.answered(time);
+                self.remember(asked);
+                Ok(Some(answered))
+            }
+            None => Ok(None),
+        }
+    }
+
+    // Remembers a question that was answered, where others may answer it too.
+    fn remember(&mut self, asked: Asked) {
+        if asked.key.goes_to_many() {
+            let _pushed = self.answered.push_front(asked);
+            self.answered.truncate(MOST_ANSWERED);
+        }
+    }
+
+    // Sees an answer to no question that waits.
+    fn answer_too(&self, time: Option<u64>, key: &Key) -> Option<Answered> {
+        match find(&self.answered, key) {
+            Some(place) => Some(self.answered[place].answered(time)),
+            None => None,
+        }
+    }
+}
+
+// The place of the first question with this key.
+fn find(questions: &VecDeque<Asked>, key: &Key) -> Option<usize> {
+    for place in 0..questions.len() {
+        if questions[place].key.is(key) {
+            return Some(place);
+        }
+    }
+    None
+}
