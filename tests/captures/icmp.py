@@ -1,8 +1,10 @@
 """Messages of ICMPv4 (RFC 792) and ICMPv6 (RFC 4443) but for those of neighbors and listeners, as items."""
-from frames import TCP, UDP, Refused, ports
+from frames import Refused
+from ip import TCP, UDP
 from items import Field, named
 from registries import ICMP4_CODES, ICMP4_TYPES, ICMP6_CODES, ICMP6_TYPES, PROTOCOLS
 from text import be, colons, dotted
+from transport import ports
 
 # The types of errors, and of echoes.
 ERRORS4, ECHOES4 = (3, 4, 5, 11, 12), (0, 8)

@@ -1,6 +1,7 @@
 """What wiredump prints of ICMP of both families, IGMP, neighbor discovery, DHCP and hop-by-hop options. The function of
 a listing gives its lines, or refuses."""
-from frames import ICMP6, Refused
+from frames import Refused
+from ip import ICMP6
 from text import be, dotted, field, hexadecimal, is_good, pseudo_sum, truth
 
 

@@ -4,9 +4,11 @@ import dns
 import icmp
 import neighbors
 from dhcp import dhcp
-from frames import EXTENSIONS, FRAGMENT, ICMP4, ICMP6, IGMP, UDP, Refused, ports, udp_length
+from frames import Refused
+from ip import EXTENSIONS, FRAGMENT, ICMP4, ICMP6, IGMP, TCP, UDP
 from items import Field
 from text import is_good, pseudo_sum
+from transport import ports, udp_length
 
 KINDS = ("icmp4", "igmp", "icmp6", "dns", "mdns", "llmnr", "nbns", "dhcp", "frame")
 REASONS = ("cut", "fragment", "short", "checksum", "type", "quote", "name", "malformed")
@@ -44,10 +46,10 @@ class Checksum(Field):
         return super().lines() if self.is_bad() else []
 
 
-def read(kind, of, is_strict=False):
-    """The items of a message, and the reason under which it is counted, or None where all of it is in order. One of a
-    datagram that lacks octets has the reason `ended`."""
-    octets, missing, why = of.payload, of.missing, "ended"
+def read(kind, of, why=None, is_strict=False):
+    """The items of a message, and the reason under which it is counted, or None where all of it is in order; `why` is
+    that of a datagram that lacks octets."""
+    octets, missing = of.payload, of.missing
     try:
         if of.protocol == UDP:
             length = udp_length(octets)
@@ -66,6 +68,17 @@ def read(kind, of, is_strict=False):
     return [checksum] + cut + items, reason
 
 
+def read_segment(of, messages, is_strict=False):
+    """The items of each message of a segment of TCP, and the first reason of those, or None."""
+    checksum = checksum_of(of, of.payload)
+    if is_strict and checksum.is_bad():
+        return [[Field("refused", "the checksum does not hold")] for _ in messages], "checksum"
+    found = [dns.message(message, "dns") for message in messages]
+    reasons = [refused.reason for _, refused in found if refused]
+    return ([[checksum] + items for items, _ in found],
+            "checksum" if checksum.is_bad() else next(iter(reasons), None))
+
+
 def checksum_of(of, octets):
     """Whether the checksum of whole octets holds."""
     if len(octets) < 4:
@@ -73,7 +86,7 @@ def checksum_of(of, octets):
     if of.protocol == UDP and octets[6:8] == b"\0\0":
         # Over IPv6 there has to be one (RFC 8200 section 8.1).
         return Checksum("none") if len(of.source) == 4 else Checksum("bad")
-    has_pseudo = of.protocol in (UDP, ICMP6)
+    has_pseudo = of.protocol in (TCP, UDP, ICMP6)
     extra = pseudo_sum(of.source, of.destination, of.protocol, len(octets)) if has_pseudo else 0
     return Checksum("good" if is_good(octets, extra) else "bad")
 

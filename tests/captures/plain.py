@@ -14,12 +14,16 @@ import frames  # noqa: E402
 import items  # noqa: E402
 import messages  # noqa: E402
 import reading  # noqa: E402
+import tunnels  # noqa: E402
+from fragments import Fragments  # noqa: E402
 from frames import Refused  # noqa: E402
-from items import Field, Named  # noqa: E402
+from ip import TCP, UDP  # noqa: E402
+from items import Cell, Entry, Field, Named  # noqa: E402
 from messages import KINDS, REASONS, kind_of  # noqa: E402
 from neighbors import hop_by_hop  # noqa: E402
 from registries import LINKS  # noqa: E402
 from text import address, endpoint, time  # noqa: E402
+from transport import dns_messages, ports  # noqa: E402
 
 # What --only takes besides kinds: a word for both of ICMP, and one for packets of any kind.
 FAMILIES = {"icmp": ("icmp4", "icmp6"), "hbh": ("hbh",)}
@@ -49,8 +53,9 @@ class Options:
 
 class Shown:
     """What a packet prints: its kind, where it is one of those that are printed; the reason under which it is counted,
-    or None where all of it is in order; its datagram as far as it is known, its VLANs and its items. `unread` is the
-    number of a link that is not read."""
+    or None where all of it is in order; what it leads to as far as that is known, its VLANs, and its items, once for
+    each of its messages. One that is of no kind has a name of its protocol in `other`, or as a fragment that is kept in
+    `fragment`, or in `link` the name of its link, where that is not read."""
 
     def __init__(self):
         self.kind = None
@@ -58,9 +63,14 @@ class Shown:
         self.datagram = None
         self.ports = (None, None)
         self.vlans = []
-        self.items = []
+        self.tunnels = []
+        self.numbers = None
+        self.is_tcp = False
+        self.messages = [[]]
         self.has_options = False
-        self.unread = None
+        self.other = None
+        self.fragment = None
+        self.link = None
 
     def text(self, number, packet):
         """A line of what the headers tell, and below it a line of each item."""
@@ -68,89 +78,156 @@ class Shown:
         of = self.datagram
         if of is not None:
             words += [endpoint(of.source, self.ports[0]), ">", endpoint(of.destination, self.ports[1])]
-        words += ["vlan=%d" % vlan for vlan in self.vlans] + (["hbh"] if self.has_options else []) + [self.kind]
-        return " ".join(words) + "\n" + "".join("  %s\n" % line for line in items.lines(self.items))
+        words += ["vlan=%d" % vlan for vlan in self.vlans]
+        words += ["in=%s,%s,%s" % (tunnel.name, address(tunnel.source), address(tunnel.destination))
+                  for tunnel in self.tunnels]
+        words += ["frames=" + ",".join(map(str, self.numbers))] if self.numbers else []
+        words += (["hbh"] if self.has_options else []) + (["tcp"] if self.is_tcp else []) + [self.kind]
+        heading = " ".join(words) + "\n"
+        return "".join(heading + "".join("  %s\n" % line for line in items.lines(of)) for of in self.messages)
 
     def json(self, number, packet):
         """The same as an object of JSON."""
         of = self.datagram
-        return items.json_line([
+        tunnels = [Entry(("tunnel", tunnel.name), ("src_addr", address(tunnel.source)),
+                         Cell("dst_addr", address(tunnel.destination))) for tunnel in self.tunnels]
+        front = [
             Field("number", number), Field("time", None if packet.nanoseconds is None else time(packet.nanoseconds)),
             Named("link", packet.link_type, LINKS.get(packet.link_type)), Field("length", len(packet.octets)),
             Field("original_length", packet.original_len), Field("vlans", self.vlans),
+        ] + ([Field("tunnels", tunnels)] if tunnels else []) + [
             Field("src_addr", of and address(of.source)), Field("dst_addr", of and address(of.destination)),
-            Field("src_port", self.ports[0]), Field("dst_port", self.ports[1]), Field("kind", self.kind),
-        ] + self.items) + "\n"
+            Field("src_port", self.ports[0]), Field("dst_port", self.ports[1]),
+        ] + ([Field("frames", self.numbers)] if self.numbers else []) + (
+            [Field("transport", "tcp")] if self.is_tcp else []) + [Field("kind", self.kind)]
+        return "".join(items.json_line(front + of) + "\n" for of in self.messages)
 
 
-def show(packet, is_strict=False):
-    """What a packet prints."""
+def show(packet, number, fragments, is_strict=False):
+    """What a packet prints of this number. `fragments` are those of the packets before."""
     shown = Shown()
     if packet.link_type not in frames.LINKS:
-        shown.unread = packet.link_type
+        shown.link = LINKS.get(packet.link_type, str(packet.link_type))
         return shown
+    is_cut = len(packet.octets) < packet.original_len
     try:
         frame = frames.LINKS[packet.link_type](packet.octets)
-        if frame.version is not None:
-            shown.vlans = frame.vlans
-            show_datagram(shown, frame, is_strict)
     except Refused as refused:
-        shown.items += refused.fields()
-        shown.reason = refused.reason
         # Where the header of the link does not read, no kind is known.
-        shown.kind = shown.kind or "frame"
-    if shown.reason == "ended":
-        shown.reason = "cut" if len(packet.octets) < packet.original_len else "short"
+        shown.kind, shown.messages = "frame", [refused.fields()]
+        shown.reason = refused.reason if refused.reason != "ended" else "cut" if is_cut else "short"
+        return shown
+    shown.vlans, shown.other = frame.vlans, frame.network
+    if frame.version is not None:
+        show_datagram(shown, tunnels.follow(frame.version, frame.payload, number, is_cut, fragments), is_strict)
     return shown
 
 
-def show_datagram(shown, frame, is_strict):
-    refused = None
-    try:
-        of = frames.datagram(frame.version, frame.payload)
-    except Refused as why:
-        refused, of = why, frames.known(frame.version, frame.payload)
-    head(shown, frame.version, of)
+def show_datagram(shown, found, is_strict):
+    of = found.of
+    if found.kept:
+        shown.fragment, shown.other = found.protocol_name(), None
+        return
+    segments = dns_messages(of.payload) if of is not None and of.protocol == TCP and found.refused is None else []
+    head(shown, found, segments)
     if shown.kind is None:
         return
+    if is_strict and found.is_bad:
+        why = Refused("cut" if found.refused and found.refused.reason == "cut" else "checksum", BAD_HEADER)
+        shown.messages, shown.reason = [why.fields()] * max(1, len(segments)), why.reason
+        return
+    front = [Field("ip_checksum", "bad")] if found.is_bad else []
     if of is not None and of.hop_by_hop is not None:
         shown.has_options = True
-        shown.items += hop_by_hop(of.hop_by_hop)
-    # Of one that is cut the message is told as far as it is there.
-    if refused and (shown.kind == "frame" or not of.missing):
-        raise refused
-    if shown.kind == "frame":
-        raise Refused("short", "fewer than 8 bytes")
-    found, shown.reason = messages.read(shown.kind, of, is_strict)
-    shown.items += found
+        front += hop_by_hop(of.hop_by_hop)
+    shown.messages = [front + message for message in show_messages(shown, found, segments, is_strict)]
+    if found.is_bad and shown.reason != "cut":
+        shown.reason = "checksum"
 
 
-def head(shown, version, of):
+BAD_HEADER = "the checksum of the IPv4 header does not hold"
+
+
+def head(shown, found, segments):
     """Puts the kind and the addresses, as far as they are known."""
-    shown.datagram, shown.kind = of, "frame"
-    if of is not None:
-        shown.kind = kind_of(version, of.protocol, of.payload)
-        if of.protocol == frames.UDP:
-            shown.ports = frames.ports(of.payload) or (None, None)
+    of = found.of
+    shown.datagram, shown.tunnels, shown.numbers, shown.kind = of, found.tunnels, found.numbers, "frame"
+    if of is None:
+        return
+    shown.kind = "dns" if segments else kind_of(found.version, of.protocol, of.payload)
+    shown.is_tcp = bool(segments)
+    if of.protocol == UDP or segments:
+        shown.ports = ports(of.payload) or (None, None)
+    if shown.kind is None:
+        shown.other = found.other or found.protocol_name()
+
+
+def show_messages(shown, found, segments, is_strict):
+    """The items of each message, of which there is one but over TCP."""
+    of, refused = found.of, found.refused
+    # Of one that is cut the message is told as far as it is there.
+    if shown.kind == "frame" or refused and not of.missing:
+        refused = refused or Refused("short", "fewer than 8 bytes")
+        shown.reason = refused.reason
+        return [refused.fields()]
+    if segments:
+        found, shown.reason = messages.read_segment(of, segments, is_strict)
+        return found
+    found, shown.reason = messages.read(shown.kind, of, refused and refused.reason, is_strict)
+    return [found]
+
+
+class Names:
+    """How many packets there are of each name, in the order in which these came."""
+
+    # So many are told by their names.
+    MOST = 16
+
+    def __init__(self):
+        self.counts = {}
+
+    def add(self, name):
+        self.counts[name] = self.counts.get(name, 0) + 1
+
+    def total(self):
+        return sum(self.counts.values())
+
+    def told(self):
+        return list(self.counts.items())[:self.MOST]
+
+    def further(self):
+        return sum(list(self.counts.values())[self.MOST:])
+
+    def text(self):
+        """The names in brackets, where there are any."""
+        further = self.further()
+        words = ["%d %s" % (count, name) for name, count in self.told()] + (["%d further" % further] if further else [])
+        return " (%s)" % ", ".join(words) if words else ""
 
 
 class Counts:
     """What was counted of packets: of each kind those listed, those refused by reason, and their octets; those of other
-    protocols, and the frames of each link that is not read."""
+    protocols, fragments that were kept, and the frames of each link that is not read."""
 
     def __init__(self):
         self.packets = 0
         self.kinds = {kind: dict.fromkeys(("listed",) + REASONS + ("octets",), 0) for kind in KINDS}
-        self.others = 0
+        self.others = Names()
+        self.fragments = Names()
+        self.joined = 0
         self.passed = 0
-        self.links = {}
+        self.links = Names()
 
     def add(self, shown, octets, options):
         self.packets += 1
-        if shown.unread is not None:
-            self.links[shown.unread] = self.links.get(shown.unread, 0) + 1
+        if shown.numbers:
+            self.joined += len(shown.numbers) - 1
+        if shown.link is not None:
+            self.links.add(shown.link)
+        elif shown.fragment is not None:
+            self.fragments.add(shown.fragment)
         elif shown.kind is None:
-            self.others += 1
+            self.others.add(shown.other)
         elif not options.passes(shown):
             self.passed += 1
         else:
@@ -167,9 +244,12 @@ class Counts:
         refused = "%d refused" % sum(self.total(reason) for reason in REASONS)
         parts = ["%d packets" % self.packets, "%d listed" % self.total("listed")]
         parts.append(refused + (" (%s)" % ", ".join(reasons) if reasons else ""))
-        parts.append("%d of other protocols" % self.others)
+        parts.append("%d of other protocols%s" % (self.others.total(), self.others.text()))
         parts += ["%d of kinds that are not printed" % self.passed] if self.passed else []
-        parts += ["%d of link %d" % (count, link) for link, count in self.links.items()]
+        parts += ["%d fragments%s" % (self.fragments.total(), self.fragments.text())] if self.fragments.total() else []
+        parts += ["%d of them put together" % self.joined] if self.joined else []
+        parts += ["%d of link %s" % (count, link) for link, count in self.links.told()]
+        parts += ["%d of other links" % self.links.further()] if self.links.further() else []
         return ", ".join(parts)
 
     def table(self, only=None):
@@ -204,9 +284,9 @@ def dump(octets, options=Options(), total=None):
     """What the octets of a capture print. `total` counts the packets of several captures."""
     counts = Counts()
     capture = reading.Capture(octets)
-    texts = []
+    fragments, texts = Fragments(), []
     for number, packet in enumerate(capture, 1):
-        shown = show(packet, options.is_strict)
+        shown = show(packet, number, fragments, options.is_strict)
         counts.add(shown, packet.octets, options)
         if total is not None:
             total.add(shown, packet.octets, options)
