@@ -3,7 +3,7 @@ import struct
 
 from text import pseudo_sum, word_sum
 
-ICMP4, IGMP, TCP, UDP, ICMP6 = 1, 2, 6, 17, 58
+ICMP4, IGMP, IP4, TCP, UDP, IP6, GRE, ICMP6 = 1, 2, 4, 6, 17, 41, 47, 58
 MAC_A, MAC_B = bytes.fromhex("020000000001"), bytes.fromhex("020000000002")
 
 
@@ -43,9 +43,10 @@ def sealed(octets, at, extra=0):
 
 # ---- datagrams
 
-def ip4(payload, protocol, source=HOST4, destination=SERVER4, options=b"", fragment=0x4000, ttl=64, total=None):
+def ip4(payload, protocol, source=HOST4, destination=SERVER4, options=b"", fragment=0x4000, ttl=64, total=None,
+        ident=0x1234):
     length = 20 + len(options) + len(payload) if total is None else total
-    header = struct.pack(">BBHHHBBH4s4s", 0x45 + len(options) // 4, 0, length, 0x1234, fragment, ttl, protocol, 0,
+    header = struct.pack(">BBHHHBBH4s4s", 0x45 + len(options) // 4, 0, length, ident, fragment, ttl, protocol, 0,
                          source, destination) + options
     return sealed(header, 10) + payload
 
@@ -71,6 +72,32 @@ def udp4(data, source_port, port, source=HOST4, destination=SERVER4, **more):
 
 def udp6(data, source_port, port, source=HOST6, destination=SERVER6, **more):
     return ip6(udp(data, source_port, port, source, destination), UDP, source, destination, **more)
+
+
+def tcp(data, source_port, port, source=HOST4, destination=SERVER4, options=b"", words=None):
+    words = 5 + len(options) // 4 if words is None else words
+    octets = struct.pack(">HHIIBBHHH", source_port, port, 1, 1, words << 4, 0x18, 8192, 0, 0) + options + data
+    return sealed(octets, 16, pseudo_sum(source, destination, TCP, len(octets)))
+
+
+def gre(payload, ethertype=0x0800, flags=0, fields=b""):
+    """What GRE carries, behind the fields that its flags tell (RFC 2784, RFC 2890)."""
+    return struct.pack(">HH", flags, ethertype) + fields + payload
+
+
+# ---- fragments
+
+def part4(payload, start, end, protocol=ICMP4, more=None, ident=1, **fields):
+    """The octets of a datagram's payload from one place to another as a fragment of IPv4."""
+    more = end < len(payload) if more is None else more
+    return ip4(payload[start:end], protocol, fragment=0x2000 * more + start // 8, ident=ident, **fields)
+
+
+def part6(payload, start, end, following=ICMP6, more=None, ident=1, **fields):
+    """The same of IPv6."""
+    more = end < len(payload) if more is None else more
+    header = struct.pack(">BBHI", following, 0, start + more, ident)
+    return ip6(header + payload[start:end], 44, **fields)
 
 
 # ---- messages

@@ -6,7 +6,11 @@ from building import (HOST6, NOON, SERVER6, TCP, attribute, block, c_hdlc, cooke
                       icmp4, interface, ip4, ip6_icmp6, ipnet, ipoib, nflog, obsolete, option, pcap, pcap_header,
                       pcap_record, section, session, simple, udp4, udp6)
 from standards_dns import DNS
+from standards_fragments import FRAGMENTS, MOST
 from standards_messages import LONG_PARTS, MESSAGES, WHOLE_JUMBOGRAMS
+from standards_networks import NETWORKS
+from standards_segments import SEGMENTS
+from standards_tunnels import TUNNELS
 
 ECHO4 = icmp4(8, 0, hexed("1234 0001"), b"abcd")
 ECHO6 = ip6_icmp6(128, 0, hexed("1234 0001"), b"abcd", HOST6, SERVER6)
@@ -173,11 +177,20 @@ PCAPNG = {
 
 
 def captures():
-    """All captures by name."""
+    """All captures by name whose octets are damaged."""
+    return named(LINKS, NFLOG, FRAME_RELAY, PCAP, PCAPNG, MESSAGES, DNS)
+
+
+def mixed():
+    """The captures by name of which the octets of the packets alone are damaged."""
+    return named(TUNNELS, FRAGMENTS, SEGMENTS, NETWORKS)
+
+
+def named(*tables):
     every = {}
-    for table in (LINKS, NFLOG, FRAME_RELAY, PCAP, PCAPNG, MESSAGES, DNS):
+    for table in tables:
         for name, octets in table.items():
-            assert name not in every and len(octets) <= 700, name
+            assert name not in every and len(octets) <= 1200, name
             every[name] = octets
     return every
 
@@ -185,3 +198,13 @@ def captures():
 def large():
     """The captures that are too large for each octet to be damaged, by name."""
     return {**WHOLE_JUMBOGRAMS, **LONG_PARTS}
+
+
+def many():
+    """The captures of so many packets that none of their octets is damaged, by name."""
+    return MOST
+
+
+def every():
+    """All captures by name."""
+    return {**captures(), **mixed(), **large(), **many()}
