@@ -33,11 +33,14 @@ def once(members):
 
 
 def printed(text):
-    """The objects that were printed, by their numbers."""
-    objects = [json.loads(line, object_pairs_hook=once) for line in text.splitlines()]
-    found = {str(it["number"]): it for it in objects}
-    if len(found) != len(objects):
-        raise ValueError("a packet is there twice")
+    """The objects that were printed, by their numbers: of a segment of TCP one for each message."""
+    found = {}
+    for line in text.splitlines():
+        it = json.loads(line, object_pairs_hook=once)
+        found.setdefault(str(it["number"]), []).append(it)
+    for number, objects in found.items():
+        if len(objects) > 1 and not all("transport" in it for it in objects):
+            raise ValueError(f"packet {number} is there twice")
     return found
 
 
@@ -83,6 +86,8 @@ def agrees(wanted, found):
 
 def difference(packet, found):
     """What is wrong with what was printed of a packet, or None; and its kind and reason where it is one of ours."""
+    if packet.part == "kept":
+        return "nothing is expected of a fragment" if found else None, None, None
     kind, of_tshark = datagrams.kind(packet), datagrams.kind_of_tshark(packet)
     if kind is None:
         wrong = "nothing is expected" if found else f"tshark has {of_tshark}" if of_tshark else None
@@ -90,14 +95,17 @@ def difference(packet, found):
     reason = expected.refusal(packet, kind)
     if kind != of_tshark and reason not in ("cut", "fragment"):
         return f"tshark has {of_tshark}", kind, reason
-    if found is None:
-        return f'{kind} is expected, {reason or "listed"}', kind, reason
-    found = dict(found)
-    if found.pop("time", None) != time(packet) or not isinstance(found.pop("link", None), int):
-        return f"time {time(packet)}, and a link", kind, reason
-    found.pop("link_name", None)
-    wrong = list(mistakes(expected.members(packet, kind, reason), found))
-    return "; ".join(wrong) or None, kind, reason
+    wanted = expected.objects(packet, kind, reason)
+    if len(found) != len(wanted):
+        return f'{kind} is expected, {reason or "listed"}, {len(wanted)} times', kind, reason
+    for it, members in zip(map(dict, found), wanted):
+        if it.pop("time", None) != time(packet) or not isinstance(it.pop("link", None), int):
+            return f"time {time(packet)}, and a link", kind, reason
+        it.pop("link_name", None)
+        wrong = "; ".join(mistakes(members, it))
+        if wrong:
+            return wrong, kind, reason
+    return None, kind, reason
 
 
 # ---- lines
@@ -147,7 +155,10 @@ def heading(found):
         form = "[%s]:%d" if ":" in both[0] else "%s:%d"
         both = [form % pair for pair in zip(both, (found["src_port"], found["dst_port"]))]
     words = [str(found["number"]), found["time"] or "-"] + ([both[0], ">", both[1]] if both[0] else [])
-    words += ["vlan=%d" % vlan for vlan in found["vlans"]] + (["hbh"] if "hop_by_hop" in found else [])
+    words += ["vlan=%d" % vlan for vlan in found["vlans"]]
+    words += ["in=%s,%s,%s" % tuple(tunnel.values()) for tunnel in found.get("tunnels", [])]
+    words += ["frames=" + ",".join(map(str, found["frames"]))] if "frames" in found else []
+    words += (["hbh"] if "hop_by_hop" in found else []) + ([found["transport"]] if "transport" in found else [])
     return " ".join(words + [found["kind"]])
 
 
@@ -166,10 +177,13 @@ def same(objects, text):
 
 def known_differences(packet, kind, reason):
     """The kinds of a packet that tshark reads in another way, in words."""
-    if kind is None:
+    if packet.part == "kept" and packet.frames:
+        yield "the last fragment of a datagram, of which another was refused: kept"
+    elif kind is None:
         inner = [protocol for protocol in packet.protocols if protocol in ("dns", "mdns", "dhcp", "llmnr", "nbns")]
         if inner and not {"icmp", "icmpv6"} & set(packet.protocols):
-            yield f"{inner[0]} over {'tcp' if 'tcp' in packet.protocols else 'udp'}: of another protocol"
+            what = "dns over tcp, no whole messages" if "tcp" in packet.protocols else f"{inner[0]} over udp"
+            yield f"{what}: of another protocol"
     elif reason is not None:
         yield from known_refusals(packet, kind, reason)
     elif kind in ("dns", "mdns", "llmnr"):
@@ -188,10 +202,8 @@ def known_refusals(packet, kind, reason):
     field = {"icmp4": "icmp", "icmp6": "icmpv6", "igmp": "igmp"}.get(kind, "udp") + ".type"
     if reason == "type":
         yield f"{kind} of type {packet.number(field)}: its octets"
-    elif reason == "fragment" and kind == "frame":
-        yield "frame: a fragment whose protocol or ports its first header has not: refused as fragment"
     elif reason == "fragment":
-        yield f"{kind}: a fragment: refused as fragment, where tshark can put it together"
+        yield f"{kind}: a fragment within a datagram that came in fragments: refused, where tshark keeps it"
     elif reason == "cut" and packet.has(field) and packet.number(field) not in (0, 8, 128, 129):
         yield f"{kind} that the capture cut: its first members are compared"
     elif kind == "dhcp":
@@ -213,7 +225,8 @@ WANTED = {
     "dhcp.option.dhcp": {1, 2, 3, 5, 7}, "dns.qry.type": {1, 2, 5, 6, 12, 13, 15, 16, 28, 33, 35, 255, 257},
     "dns.resp.type": {1, 2, 5, 6, 12, 13, 15, 16, 28, 33, 35, 41, 44, 47, 52, 65, 257, 65280},
     "nbns.type": {10, 32, 33}, "udp.checksum.status": {0, 1, 3}, "vlan.id": {1, 7}, "ieee8021ad.id": {4094},
-    "ipv6.routing.type": {4},
+    "ipv6.routing.type": {4}, "ip.checksum.status": {0, 1}, "tcp.checksum.status": {1},
+    "gre.proto": {0x0800, 0x86dd}, "ip.proto": {1, 2, 4, 6, 17, 41, 47}, "ipv6.nxt": {0, 4, 6, 17, 41, 43, 44, 47, 58},
 }
 
 
@@ -249,39 +262,84 @@ def read_by_jq(program, capture):
     return None if (asked.returncode, asked.stdout) == (0, ran.stdout) else asked.stderr or "it prints something else"
 
 
+def told(text):
+    """The numbers of the line that sums up: of what is listed and refused, of other protocols, and of fragments."""
+    def number(pattern):
+        found = re.search(pattern, text)
+        return int(found[1]) if found else 0
+    return {"packets": number(r": (\d+) packets, "), "listed": number(r" (\d+) listed, "),
+            "refused": number(r" (\d+) refused"), "others": number(r" (\d+) of other protocols"),
+            "fragments": number(r" (\d+) fragments"), "joined": number(r" (\d+) of them put together")}
+
+
+class Totals:
+    """What is expected of a capture: the table by kinds, and the line that sums up."""
+
+    def __init__(self):
+        self.kinds = {kind: collections.Counter() for kind in KINDS}
+        self.line = collections.Counter({"packets": 0, "listed": 0, "refused": 0, "others": 0, "fragments": 0,
+                                         "joined": 0})
+
+    def add(self, packet, kind, reason):
+        self.line["packets"] += 1
+        if packet.part == "kept":
+            self.line["fragments"] += 1
+        elif kind is None:
+            self.line["others"] += 1
+        else:
+            self.line["refused" if reason else "listed"] += 1
+            self.kinds[kind][reason or "listed"] += 1
+            self.kinds[kind]["octets"] += packet.number("frame.cap_len")
+        if packet.part != "kept" and packet.frames:
+            self.line["joined"] += len(packet.frames) - 1
+
+    def table(self):
+        columns = ("listed",) + REASONS + ("octets",)
+        return {kind: [str(counts[column]) for column in columns] for kind, counts in self.kinds.items()}
+
+
+def without_refused(packet, refused):
+    """Keeps a fragment whose datagram is not whole, since others of it were refused; `refused` are their numbers."""
+    if packet.part == "refused":
+        refused.add(packet.number("frame.number"))
+    elif packet.part == "joined" and refused.intersection(packet.frames):
+        packet.part = "kept"
+
+
 def compare(program, capture, known, seen):
     """Compares a capture; gives the numbers of what agrees and of what differs."""
     with open(capture + ".fields", encoding="utf-8") as table:
         packets = [datagrams.Packet(values) for values in fields.packets(table.read())]
     found, status, unread = objects_of(program, capture)
-    objects, left, agree, differ = list(found.values()), dict(found), 0, 0
-    counts = {kind: collections.Counter() for kind in KINDS}
-    for packet in packets:
-        number = packet.text("frame.number")
+    objects, left, agree, differ = [it for of in found.values() for it in of], dict(found), 0, 0
+    totals, refused = Totals(), set()
+    for whole in packets:
+        number = whole.text("frame.number")
         for name in WANTED:
-            seen[name].update(packet.numbers(name))
-        wrong, kind, reason = difference(packet, left.pop(number, None))
-        if kind is not None:
-            counts[kind][reason or "listed"] += 1
-            counts[kind]["octets"] += packet.number("frame.cap_len")
+            seen[name].update(whole.numbers(name))
+        packet = datagrams.innermost(whole)
+        without_refused(packet, refused)
+        wrong, kind, reason = difference(packet, left.pop(number, []))
+        totals.add(packet, kind, reason)
         known.update(known_differences(packet, kind, reason))
         agree, differ = agree + (wrong is None), differ + (wrong is not None)
         if wrong is not None:
             print(f"{capture}: packet {number}: {wrong}, but:\n    {json.dumps(found.get(number))}")
-    table = {kind: [str(counts[kind][column]) for column in ("listed",) + REASONS + ("octets",)] for kind in KINDS}
-    printed_table = counts_of(run(program, "--count", capture).stdout)
-    lines = same(objects, run(program, capture).stdout)
+    ran = run(program, capture)
+    lines, line = same(objects, ran.stdout), told(ran.stderr)
+    table, printed_table = totals.table(), counts_of(run(program, "--count", capture).stdout)
     by_jq = read_by_jq(program, capture) if shutil.which("jq") else None
     for text, holds in ((f"packets {list(left)} are printed, and not in the capture", not left),
                         (f"the status is {status}", status == 0), (f"no JSON: {unread}", unread is None),
                         (f"jq reads something else: {by_jq}", by_jq is None),
                         (f"{lines}", lines is None),
-                        (f"the counts are not {table}, but {printed_table}", printed_table == table)):
+                        (f"the counts are not {table}, but {printed_table}", printed_table == table),
+                        (f"the line that sums up has not {dict(totals.line)}, but {line}", line == totals.line)):
         agree, differ = agree + holds, differ + (not holds)
         if not holds:
             print(f"{capture}: {text}")
-    ours = sum(sum(count.values()) - count["octets"] for count in counts.values())
-    print(f"{capture}: {len(packets)} packets, {ours} of control protocols, {differ} differences")
+    print(f'{capture}: {len(packets)} packets, {totals.line["listed"] + totals.line["refused"]} of control protocols, '
+          f"{differ} differences")
     return agree, differ
 
 

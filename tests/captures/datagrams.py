@@ -8,11 +8,24 @@ KINDS = {"icmp": "icmp4", "igmp": "igmp", "icmpv6": "icmp6", "dns": "dns", "mdns
 PORTS = ((53, "dns"), (5353, "mdns"), (5355, "llmnr"), (137, "nbns"))
 
 
+# The fields that each header of IP has once.
+EACH = tuple("ip." + key for key in ("src", "dst", "proto", "dsfield", "len", "id", "flags.df", "flags.mf",
+                                     "frag_offset", "ttl", "hdr_len", "checksum.status"))
+EACH6 = tuple("ipv6." + key for key in ("src", "dst", "tclass", "flow", "plen", "nxt", "hlim"))
+EACH_FRAGMENT = tuple("ipv6.fraghdr." + key for key in ("nxt", "offset", "more", "ident"))
+
+
 class Packet:
-    """The fields of a packet: those of the datagram itself, and those of the one that an ICMP error quotes."""
+    """The fields of a packet: those of the innermost datagram itself, and those of the one that an ICMP error quotes.
+    `tunnels` are those that it is in, `frames` the numbers of the packets whose fragments are put together in it, and
+    `part` what becomes of it where it is a fragment itself: `kept`, `joined` with those before it, or `refused`, within
+    a datagram that came in fragments."""
 
     def __init__(self, fields):
         self.fields = fields
+        self.tunnels = []
+        self.frames = None
+        self.part = None
 
     def has(self, name):
         return name in self.fields
@@ -34,12 +47,59 @@ class Packet:
         return self.text("frame.protocols").split(":")
 
 
+# ---- tunnels and fragments
+
+def layers(packet):
+    """The headers of IP and of GRE that a packet begins with, and those that extend IPv6."""
+    names = packet.protocols
+    start = next((at for at, name in enumerate(names) if name in FAMILIES), len(names))
+    end = start
+    while end < len(names) and (names[end] in FAMILIES or names[end] == "gre" or names[end].startswith("ipv6.")):
+        end += 1
+    return names[start:end]
+
+
+FAMILIES = {"ip": 4, "ipv6": 6}
+
+
+def innermost(packet):
+    """The packet with the fields of the innermost datagram alone, and those behind it."""
+    names = layers(packet)
+    outer = names[:max([at for at, name in enumerate(names) if name in FAMILIES], default=0)]
+    fields = dict(packet.fields)
+    for keys, name in ((EACH, "ip"), (EACH6, "ipv6"), (EACH_FRAGMENT, "ipv6.fraghdr")):
+        fields.update((key, fields[key][outer.count(name):]) for key in keys if key in fields)
+    inner = Packet({key: values for key, values in fields.items() if values})
+    inner.tunnels = tunnels(packet, names)
+    is_joined_outside = "ipv6.fraghdr" in outer or any(
+        (int(more), int(offset)) != (0, 0) for _, more, offset in zip(
+            outer, packet.all("ip.flags.mf")[:outer.count("ip")], packet.all("ip.frag_offset")[:outer.count("ip")]))
+    if is_joined_outside:
+        inner.frames = packet.numbers("ip.fragment" if packet.has("ip.fragment") else "ipv6.fragment")
+    elif is_fragment(inner) and not is_cut(inner):
+        inner.frames = packet.numbers("ip.fragment" if version(inner) == 4 else "ipv6.fragment") or None
+    if is_fragment(inner) and not is_cut(inner):
+        inner.part = "refused" if is_joined_outside else "joined" if inner.frames else "kept"
+    return inner
+
+
+def tunnels(packet, names):
+    """The tunnels that the innermost datagram is in: of each what it is called and the addresses outside."""
+    seen, told = {"ip": 0, "ipv6": 0}, []
+    places = [at for at, name in enumerate(names) if name in FAMILIES]
+    for start, end in zip(places, places[1:]):
+        family, name = names[start], "gre" if "gre" in names[start:end] else "ipv%d" % FAMILIES[names[end]]
+        told.append({"tunnel": name, "src_addr": packet.text(family + ".src", seen[family]),
+                     "dst_addr": packet.text(family + ".dst", seen[family])})
+        seen[family] += 1
+    return told
+
+
+# ---- the innermost datagram
+
 def version(packet):
-    """The version of IP of the outermost datagram, or None."""
-    for protocol in packet.protocols:
-        if protocol in ("ip", "ipv6"):
-            return {"ip": 4, "ipv6": 6}[protocol]
-    return None
+    """The version of IP of the innermost datagram, or None."""
+    return next((FAMILIES[name] for name in reversed(layers(packet)) if name in FAMILIES), None)
 
 
 def headers(packet):
@@ -71,9 +131,23 @@ def is_fragment(packet):
 
 def ports(packet):
     """The ports of the datagram: a fragment that is not the first has none, and of IPv6 none is looked into."""
-    if headers(packet)[-1] != 17 or not packet.has("udp.srcport") or version(packet) == 6 and is_fragment(packet):
+    protocol = {17: "udp", 6: "tcp"}.get(headers(packet)[-1])
+    if not protocol or not packet.has(protocol + ".srcport"):
         return None
-    return packet.number("udp.srcport"), packet.number("udp.dstport")
+    if protocol == "tcp" and not messages_over_tcp(packet):
+        return None
+    return packet.number(protocol + ".srcport"), packet.number(protocol + ".dstport")
+
+
+def messages_over_tcp(packet):
+    """How many messages of DNS a segment of TCP is full of; none where its data are anything else."""
+    lengths = packet.numbers("dns.length")
+    if not packet.has("tcp.len") or 53 not in (packet.number("tcp.srcport"), packet.number("tcp.dstport")):
+        return 0
+    if is_cut(packet):
+        return 0
+    is_full = sum(lengths) + 2 * len(lengths) == packet.number("tcp.len") and min(lengths, default=0) >= 12
+    return len(lengths) if is_full else 0
 
 
 def kind(packet):
@@ -85,6 +159,8 @@ def kind(packet):
         return {1: "icmp4", 2: "igmp", 58: "icmp6"}[last]
     if version(packet) == 6 and last in EXTENSIONS:
         return "frame"
+    if last == 6:
+        return "dns" if messages_over_tcp(packet) else None
     if last != 17:
         return None
     both = ports(packet)
@@ -95,8 +171,10 @@ def kind(packet):
 
 
 def kind_of_tshark(packet):
-    """The kind that tshark has for a packet, by the first protocol that it knows; over TCP there is none."""
-    return next((KINDS.get(protocol) for protocol in packet.protocols if protocol in KINDS or protocol == "tcp"), None)
+    """The kind that tshark has for a packet, by the first protocol that it knows; over TCP where its messages are
+    whole."""
+    found = next((protocol for protocol in packet.protocols if protocol in KINDS or protocol == "tcp"), None)
+    return ("dns" if messages_over_tcp(packet) else None) if found == "tcp" else KINDS.get(found)
 
 
 def destination(packet):
@@ -108,11 +186,13 @@ def destination(packet):
 
 
 def is_whole(packet):
-    return not is_cut(packet) and not is_fragment(packet)
+    return not is_cut(packet) and packet.part in (None, "joined")
 
 
 def payload_length(packet):
     """The bytes behind the header of IPv4, or the header and all headers that extend it of IPv6."""
+    if packet.part == "joined":
+        return packet.number(("ip" if version(packet) == 4 else "ipv6") + ".reassembled.length")
     if version(packet) == 4:
         return packet.number("ip.len") - packet.number("ip.hdr_len")
     return packet.number("ipv6.plen") - sum(extension_length(packet, number) for number in headers(packet)[:-1])

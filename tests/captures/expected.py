@@ -8,7 +8,7 @@ import re
 
 import names
 from contents import ICMP4_TYPES, ICMP6_TYPES, dhcp, hop_by_hop, icmp4, icmp6, igmp, octets
-from datagrams import destination, is_cut, is_fragment, payload_length, ports, version
+from datagrams import destination, headers, is_cut, messages_over_tcp, payload_length, ports, version
 
 IGMP_TYPES = (0x11, 0x12, 0x16, 0x17, 0x22)
 
@@ -16,12 +16,14 @@ IGMP_TYPES = (0x11, 0x12, 0x16, 0x17, 0x22)
 FIELDS = '''
 frame.number frame.time_epoch frame.len frame.cap_len frame.protocols vlan.id ieee8021ad.id
 ip.src ip.dst ip.proto ip.dsfield ip.len ip.id ip.flags.df ip.flags.mf ip.frag_offset ip.ttl ip.hdr_len
+ip.checksum.status ip.fragment ip.reassembled_in ip.reassembled.length gre.proto
 ipv6.src ipv6.dst ipv6.tclass ipv6.flow ipv6.plen ipv6.nxt ipv6.hlim ipv6.hopopts.nxt ipv6.hopopts.len
 ipv6.dstopts.nxt ipv6.dstopts.len ipv6.routing.nxt ipv6.routing.len ipv6.routing.segleft ipv6.routing.type
 ipv6.routing.srh.addr ipv6.fraghdr.nxt ipv6.fraghdr.offset ipv6.fraghdr.more ipv6.fraghdr.ident
+ipv6.fragment ipv6.reassembled.in ipv6.reassembled.length
 ipv6.opt.type ipv6.opt.length
 ipv6.opt.router_alert ipv6.opt.padn ipv6.opt.experimental ipv6.opt.unknown
-udp.srcport udp.dstport udp.length udp.checksum.status tcp.srcport tcp.dstport
+udp.srcport udp.dstport udp.length udp.checksum.status tcp.srcport tcp.dstport tcp.len tcp.checksum.status
 icmp.type icmp.code icmp.checksum.status icmp.ident icmp.seq icmp.mtu icmp.redir_gw icmp.pointer icmp.ext.version
 data.data
 igmp.type igmp.max_resp igmp.maddr igmp.version igmp.checksum.status igmp.s igmp.qrv igmp.qqic igmp.num_src igmp.saddr
@@ -45,7 +47,7 @@ dhcp.option.request_list_item dhcp.option.domain_name_server dhcp.option.dhcp_ma
 dhcp.option.ip_address_lease_time dhcp.option.renewal_time_value dhcp.option.rebinding_time_value
 dhcp.option.broadcast_address dhcp.option.ntp_server dhcp.option.hostname dhcp.option.vendor_class_id
 dhcp.option.domain_name dhcp.option.interface_mtu
-dns.id dns.flags dns.count.queries dns.count.answers dns.count.auth_rr dns.count.add_rr dns.count.zones
+dns.length dns.id dns.flags dns.count.queries dns.count.answers dns.count.auth_rr dns.count.add_rr dns.count.zones
 dns.count.prerequisites dns.count.updates dns.qry.name dns.qry.type dns.qry.class dns.qry.qu dns.resp.name
 dns.resp.type
 dns.resp.class dns.resp.cache_flush dns.resp.ttl dns.resp.len dns.a dns.aaaa dns.ns dns.cname dns.ptr.domain_name
@@ -70,10 +72,17 @@ def front(packet, its_kind):
         "number": packet.number("frame.number"), "length": packet.number("frame.cap_len"),
         "original_length": packet.number("frame.len"),
         "vlans": packet.numbers("ieee8021ad.id") + packet.numbers("vlan.id"),
+        **({"tunnels": packet.tunnels} if packet.tunnels else {}),
         "src_addr": packet.text(family + ".src") if is_told else None,
         "dst_addr": destination(packet) if is_told else None,
-        "src_port": both and both[0], "dst_port": both and both[1], "kind": its_kind,
+        "src_port": both and both[0], "dst_port": both and both[1],
+        **({"frames": packet.frames} if packet.frames else {}),
+        **({"transport": "tcp"} if over_tcp(packet) else {}), "kind": its_kind,
     }
+
+
+def over_tcp(packet):
+    return messages_over_tcp(packet) if version(packet) and headers(packet)[-1] == 6 else 0
 
 
 # ---- refusals
@@ -82,10 +91,12 @@ def refusal(packet, its_kind):
     """The reason under which a packet is counted, or None where it is listed."""
     if is_cut(packet):
         return "cut"
-    if is_fragment(packet):
+    if packet.part == "refused":
         return "fragment"
-    if checksum(packet, its_kind) == "bad":
+    if has_wrong_header(packet) or checksum(packet, its_kind) == "bad":
         return "checksum"
+    if over_tcp(packet):
+        return None
     if its_kind in TYPES:
         protocol, known = TYPES[its_kind]
         return None if packet.number(protocol + ".type") in known else "type"
@@ -99,9 +110,14 @@ def refusal(packet, its_kind):
 TYPES = {"icmp4": ("icmp", ICMP4_TYPES), "icmp6": ("icmpv6", ICMP6_TYPES), "igmp": ("igmp", IGMP_TYPES)}
 
 
+def has_wrong_header(packet):
+    """Whether the checksum of the header of IPv4 is wrong, of a datagram that came as one."""
+    return version(packet) == 4 and packet.part != "joined" and packet.text("ip.checksum.status") == "0"
+
+
 def checksum(packet, its_kind):
     """What tshark says of a checksum."""
-    protocol = TYPES[its_kind][0] if its_kind in TYPES else "udp"
+    protocol = TYPES[its_kind][0] if its_kind in TYPES else "tcp" if over_tcp(packet) else "udp"
     status = packet.number(protocol + ".checksum.status") if packet.has(protocol + ".checksum.status") else 2
     if status == 3:
         return "none" if version(packet) == 4 else "bad"
@@ -132,23 +148,27 @@ def head(packet):
 def refused(packet, reason):
     """Why nothing of a datagram is read."""
     if reason == "fragment":
-        return {"refused": re.compile("a fragment, " + head(packet))}
+        return {"refused": re.compile(".+")}
     is_told = packet.has("ip.src") or packet.has("ipv6.src")
     return {"refused": re.compile("cut short, " + head(packet) if is_told else "fewer bytes than the .* has")}
 
 
-def members(packet, its_kind, reason):
-    """The members of the object of a packet, in their order."""
+def objects(packet, its_kind, reason):
+    """The members of each object of a packet, in their order: of a segment of TCP there are as many as messages."""
     told, missing = front(packet, its_kind), 0
+    if has_wrong_header(packet):
+        told["ip_checksum"] = "bad"
     if reason == "fragment" or reason == "cut" and its_kind == "frame":
-        return {**told, **refused(packet, reason)}
+        return [{**told, **refused(packet, reason)}]
     if version(packet) == 6 and packet.number("ipv6.nxt") == 0:
         told["hop_by_hop"] = hop_by_hop(packet)
     told["checksum"] = checksum(packet, its_kind)
+    if over_tcp(packet):
+        return [{**told, **message} for message in names.messages_over_tcp(packet)]
     if reason == "cut":
         missing = told["cut"] = packet.number("frame.len") - packet.number("frame.cap_len")
         told["checksum"] = "unverified"
     if its_kind not in TYPES and payload_length(packet) - missing < 8:
-        return {**told, "refused": "fewer than 8 bytes", "octets": octets(payload_length(packet) - missing)}
+        return [{**told, "refused": "fewer than 8 bytes", "octets": octets(payload_length(packet) - missing)}]
     reader = {"icmp4": icmp4, "igmp": igmp, "icmp6": icmp6, "dhcp": dhcp, "nbns": names.netbios}.get(its_kind)
-    return {**told, **(reader or names.message)(packet, missing)}
+    return [{**told, **(reader or names.message)(packet, missing)}]

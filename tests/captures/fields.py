@@ -2,8 +2,8 @@
 """What tshark reads of a capture: `fields.py CAPTURE` prints a table of the fields that expected.py reads, a packet on
 each line.
 
-Fields have tabs between them, and a field that a packet has several times has `|` between these. A datagram that comes
-in fragments is not put together, and checksums are looked at.
+Fields have tabs between them, and a field that a packet has several times has `|` between these. Datagrams that come in
+fragments are put together, the data of TCP are not, and checksums are looked at.
 """
 
 import os
@@ -16,13 +16,14 @@ from expected import FIELDS  # noqa: E402
 
 MOST_DATA = 64
 
-OPTIONS = ["ip.defragment:FALSE", "ipv6.defragment:FALSE", "ip.check_checksum:TRUE", "udp.check_checksum:TRUE"]
+OPTIONS = ["ip.defragment:TRUE", "ipv6.defragment:TRUE", "ip.check_checksum:TRUE", "udp.check_checksum:TRUE",
+           "tcp.check_checksum:TRUE", "tcp.desegment_tcp_streams:FALSE", "dns.desegment_dns_messages:FALSE"]
 
 
 def table(capture):
     """What tshark prints of a capture, with a first line of names; fields that no packet has are left out, and of data
     the last octets are kept."""
-    command = ["tshark", "-n", "-r", capture, "-T", "fields", "-E", "header=y", "-E", "separator=/t", "-E",
+    command = ["tshark", "-n", "-2", "-r", capture, "-T", "fields", "-E", "header=y", "-E", "separator=/t", "-E",
                "occurrence=a", "-E", "aggregator=|"]
     for option in OPTIONS:
         command += ["-o", option]

@@ -57,12 +57,23 @@ def vlans(addresses, kind, payload):
     return addresses + struct.pack(">HHHHH", 0x88a8, 4094, 0x8100, 0x1001, kind) + payload
 
 
+def headers(addresses, kind, payload):
+    """Ethernet, with a wrong checksum in the innermost header of IPv4 that is directly in others. Fragments are left as
+    they are, since tshark puts none together whose header is wrong."""
+    at = 0
+    while kind == IPV4 and payload[at + 9] == 4:
+        at += 20
+    if kind == IPV4 and not struct.unpack_from(">H", payload, 6)[0] & 0x3fff:
+        payload = payload[:at + 10] + bytes([payload[at + 10] ^ 1]) + payload[at + 11:]
+    return addresses + struct.pack(">H", kind) + payload
+
+
 # The number of each link, how a packet of it is made, and of which packets of Ethernet.
 LINKS = {
     "null": (0, null, (IPV4, IPV6)), "loop": (108, loop, (IPV4, IPV6)), "ppp": (9, ppp, (IPV4, IPV6)),
     "ppp_hdlc": (50, ppp_hdlc, (IPV4, IPV6)), "pppoe": (1, pppoe, (IPV4, IPV6)), "raw": (101, raw, (IPV4, IPV6)),
     "ipv4": (228, raw, (IPV4,)), "ipv6": (229, raw, (IPV6,)), "padded": (1, padded, None), "vlan": (1, vlan, None),
-    "vlans": (1, vlans, None),
+    "vlans": (1, vlans, None), "headers": (1, headers, None),
 }
 
 

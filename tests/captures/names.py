@@ -218,12 +218,17 @@ def broken(section):
 
 
 def message(packet, missing):
-    """The members of a message. One that ends too early has a last entry that says so; behind it tshark tells
-    nothing."""
+    """The members of a message over UDP."""
     if packet.number("udp.length") - 8 - missing < 12:
         return {"refused": "fewer than 12 bytes", "octets": OCTETS}
+    return members(packet, Records(packet))
+
+
+def members(packet, records):
+    """The members of a message. One that ends too early has a last entry that says so; behind it tshark tells
+    nothing."""
     flags = LLMNR_FLAGS if "llmnr" in packet.protocols else FLAGS
-    entries, records = list(questions(packet)), Records(packet)
+    entries = list(questions(packet))
     told = {**header(packet, "dns", flags), "entries": entries}
     if len(entries) < total(packet, ("queries", "zones")):
         entries.append(broken("question"))
@@ -236,6 +241,18 @@ def message(packet, missing):
             entries.append(broken(section))
             break
     return told
+
+
+def messages_over_tcp(packet):
+    """The members of each message of a segment of TCP. Their fields stand one behind the other in the lists."""
+    records, start = Records(packet), 0
+    for at in range(len(packet.all("dns.length"))):
+        end = start + packet.number("dns.count.queries", at)
+        its = {key: [values[at]] for key, values in packet.fields.items()
+               if key in ("dns.id", "dns.flags") or key.startswith("dns.count.")}
+        its.update((key, values[start:end]) for key, values in packet.fields.items() if key.startswith("dns.qry."))
+        yield members(type(packet)({**packet.fields, **its}), records)
+        start = end
 
 
 # ---- the NetBIOS name service (RFC 1002)

@@ -256,11 +256,89 @@ scene_tunnel() {
         in_ "$side" ip link set tunnel up
         last=2
     done
-    start host ./speak.py tunnel "$room/host" "$room/server" >"$room/tunnel"
-    start server ./speak.py tunnel "$room/server" "$room/host" >"$room/tunnel-server"
+    start host ./speak.py tunnel "$room/of-host" "$room/of-server" >"$room/tunnel"
+    start server ./speak.py tunnel "$room/of-server" "$room/of-host" >"$room/tunnel-server"
     until_says "$room/tunnel" open
     record tunnel.pcap host tunnel
     talk 10.9.9.2 2001:db8:9::2 tunnel
+    stop_recording
+}
+
+# Datagrams that are sent in fragments of both versions of IP: echoes, and answers of DNS of a neighbour that may send
+# longer ones than fit into a frame.
+scene_fragments() {
+    local to
+    {
+        printf '%s\n' keep-in-foreground bind-interfaces user=root group=root pid-file= log-facility=- no-resolv \
+            no-hosts local=/test/ edns-packet-max=4096 listen-address=192.0.2.9,2001:db8:1::9
+        printf 'txt-record=long.example.test,%0200d\n' {1..16}
+    } >"$room/long.conf"
+    start neighbour dnsmasq --conf-file="$room/long.conf" 2>"$room/long"
+    until_says "$room/long" 'started'
+    record put-together.pcap host eth -s 2000
+    for to in 192.0.2.9 2001:db8:1::9; do
+        quietly in_ host ping -c 1 -s 3000 "$to"
+        quietly in_ host dig +tries=1 +time=1 +notcp +bufsize=4096 "@$to" long.example.test TXT
+    done
+    stop_recording
+}
+
+# Queries of DNS over TCP: one on a connection, several one after another, several in one segment, and one in two.
+scene_segments() {
+    local to
+    record segments.pcap host eth -s 2000
+    for to in 192.0.2.1 2001:db8:1::1; do
+        quietly in_ host dig +tcp +tries=1 +time=1 "@$to" a.example.test A
+        quietly in_ host dig +tcp +keepopen +tries=1 +time=1 "@$to" mx.example.test MX srv.example.test SRV \
+            txt.example.test TXT
+        quietly in_ host dig +tcp +noedns +tries=1 +time=1 "@$to" long.example.test TXT
+        quietly in_ host ./speak.py segments "$to"
+    done
+    stop_recording
+}
+
+# Tunnels between the host and the router, which speak.py carries in datagrams of the kernel: NUMBER KIND NEAR FAR, of
+# the outer datagrams, and an MTU that lets these be sent in fragments or not.
+open_tunnel() {
+    local side near=$3 far=$4 last=1
+    for side in host router; do
+        in_ "$side" ip tuntap add name "tunnel$1" mode tun
+        in_ "$side" ip address add "10.9.$1.$last/24" dev "tunnel$1"
+        in_ "$side" ip address add "2001:db8:9:$1::$last/64" dev "tunnel$1" nodad
+        in_ "$side" ip link set "tunnel$1" mtu "$5" up
+        start "$side" ./speak.py carry "tunnel$1" "$2" "$near" "$far" >"$room/carry-$side-$1"
+        until_says "$room/carry-$side-$1" open
+        near=$4 far=$3 last=2
+    done
+}
+
+scene_tunnels() {
+    local number
+    open_tunnel 1 ip 192.0.2.7 192.0.2.1 1480
+    open_tunnel 2 ip 2001:db8:1::7 2001:db8:1::1 1280
+    open_tunnel 3 gre 192.0.2.7 192.0.2.1 1500
+    open_tunnel 4 gre-key-sequence 2001:db8:1::7 2001:db8:1::1 1500
+    open_tunnel 5 gre-checksum-key-sequence 10.9.1.1 10.9.1.2 1400
+    start router dnsmasq --keep-in-foreground --conf-file=/dev/null --bind-interfaces --user=root --group=root \
+        --pid-file= --log-facility=- --no-resolv --no-hosts --interface='tunnel*' --except-interface=lo \
+        --host-record=inside.test,192.0.2.77,2001:db8::77 2>"$room/inside"
+    until_says "$room/inside" started
+    sleep 0.5
+    record tunnels.pcap host eth -s 2000
+    for number in 1 2 3 4 5; do
+        quietly in_ host ping -c 1 -s 24 "10.9.$number.2"
+        quietly in_ host ping -c 1 -s 24 "2001:db8:9:$number::2"
+        quietly in_ host dig +tries=1 +time=1 "@10.9.$number.2" inside.test A
+        quietly in_ host dig +tries=1 +time=1 "@2001:db8:9:$number::2" inside.test AAAA
+        quietly in_ host ping -c 1 -t 1 -s 24 "10.9.$number.2"
+    done
+    quietly in_ host dig +tcp +tries=1 +time=1 @10.9.4.2 inside.test A
+    # Fragments in a tunnel, of a tunnel, and in a tunnel that comes in fragments.
+    quietly in_ host ping -c 1 -s 1400 2001:db8:9:2::2
+    quietly in_ host ping -c 1 -s 1470 10.9.3.2
+    quietly in_ host ping -c 1 -s 1470 10.9.4.2
+    quietly in_ host ping -c 1 -s 2000 10.9.3.2
+    quietly in_ host ping -c 1 -s 1500 10.9.5.2
     stop_recording
 }
 
@@ -272,7 +350,9 @@ turn_formats() {
     quietly editcap -F pcap -s 80 "$real/mixed.pcap" "$real/mixed-cut.pcap"
     quietly editcap -F pcapng -s 60 "$real/mixed.pcap" "$real/mixed-cut.pcapng"
     quietly mergecap -F pcapng -w "$real/merged.pcapng" "$real"/{mixed,tunnel}.pcap
-    for link in null loop ppp ppp_hdlc pppoe raw ipv4 ipv6 padded vlan vlans; do
+    for link in null loop ppp ppp_hdlc pppoe raw ipv4 ipv6 padded vlan vlans headers; do
         ./links.py "$link" "$real/mixed.pcap" "$real/mixed-$link.pcap" || exit 1
     done
+    ./links.py headers "$real/tunnels.pcap" "$real/tunnels-headers.pcap" || exit 1
+    quietly editcap -F pcap -s 98 "$real/tunnels.pcap" "$real/tunnels-cut.pcap"
 }

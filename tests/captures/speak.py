@@ -141,6 +141,81 @@ def oddities(server):
     bootp.sendto(request.ljust(300, b"\0"), (server, 67))
 
 
+def segments(server):
+    """Queries of DNS over TCP (RFC 7766): three in one segment, one of which the length comes in a segment of its own,
+    and one in two segments."""
+    def query(ident, text, number):
+        message = struct.pack("!6H", ident, 0x0100, 1, 0, 0, 0) + name(text) + struct.pack("!2H", number, 1)
+        return struct.pack("!H", len(message)) + message
+
+    several = b"".join(query(at, "%s.example.test" % text, number) for at, text, number in
+                       ((1, "a", 1), (2, "aaaa", 28), (3, "absent", 1)))
+    one = query(4, "www.example.test", 1)
+    for parts in ((several,), (one[:2], one[2:]), (one[:20], one[20:])):
+        with socket.create_connection((server, 53), 1) as tcp:
+            tcp.setsockopt(socket.IPPROTO_TCP, socket.TCP_NODELAY, 1)
+            for part in parts:
+                tcp.sendall(part)
+                time.sleep(0.1)
+            try:
+                while tcp.recv(4096):
+                    tcp.settimeout(0.3)
+            except TimeoutError:
+                pass
+
+
+GRE_FLAGS = {"checksum": 0x8000, "key": 0x2000, "sequence": 0x1000}
+GRE, MTU_DISCOVER4, MTU_DISCOVER6 = 47, 10, 23
+INSIDE = {4: (4, 0x0800), 6: (41, 0x86dd)}
+
+
+def gre(words, payload, sequence):
+    """What GRE carries behind its header (RFC 2784, RFC 2890)."""
+    flags, fields = sum(GRE_FLAGS[word] for word in words), b""
+    if "checksum" in words:
+        fields += bytes(4)
+    if "key" in words:
+        fields += struct.pack("!I", 0xc0de)
+    if "sequence" in words:
+        fields += struct.pack("!I", sequence)
+    whole = struct.pack("!2H", flags, INSIDE[payload[0] >> 4][1]) + fields + payload
+    return whole[:4] + struct.pack("!H", checksum(whole)) + whole[6:] if "checksum" in words else whole
+
+
+def without_gre(octets):
+    flags, = struct.unpack_from("!H", octets)
+    return octets[4 + 4 * sum(flags & flag > 0 for flag in GRE_FLAGS.values()):]
+
+
+def carry(interface, kind, near, far):
+    """Carries the packets of an interface to another host in datagrams that the kernel makes: as `ip` in IP (RFC 2003,
+    RFC 4213), or in GRE as `gre` and the fields that it has."""
+    kind, *words = kind.split("-")
+    family = socket.AF_INET6 if ":" in near else socket.AF_INET
+    device = os.open("/dev/net/tun", os.O_RDWR)
+    fcntl.ioctl(device, 0x400454ca, struct.pack("16sH22x", interface.encode(), 0x1001))
+    outer = {}
+    for number in (GRE,) if kind == "gre" else (4, 41):
+        outer[number] = socket.socket(family, socket.SOCK_RAW, number)
+        outer[number].bind((near, 0))
+        # What is too long for the link goes in fragments.
+        level, option = (41, MTU_DISCOVER6) if family == socket.AF_INET6 else (0, MTU_DISCOVER4)
+        outer[number].setsockopt(level, option, 0)
+    print("open", flush=True)
+    sequence = 0
+    while True:
+        for ready in select.select([device, *outer.values()], [], [])[0]:
+            if ready is device:
+                packet = os.read(device, 65536)
+                number = GRE if kind == "gre" else INSIDE[packet[0] >> 4][0]
+                outer[number].sendto(gre(words, packet, sequence) if kind == "gre" else packet, (far, 0))
+                sequence += 1
+            else:
+                octets = ready.recv(65536)
+                octets = octets[(octets[0] & 15) * 4:] if family == socket.AF_INET else octets
+                os.write(device, without_gre(octets) if kind == "gre" else octets)
+
+
 def tunnel(here, there):
     """Carries the packets of the interface `tunnel` to another process, by sockets at these two paths."""
     device = os.open("/dev/net/tun", os.O_RDWR)
@@ -160,5 +235,5 @@ def tunnel(here, there):
 
 if __name__ == "__main__":
     words = {"join": join, "errors": errors, "fragments": fragments, "names": names, "oddities": oddities,
-             "tunnel": tunnel}
+             "segments": segments, "carry": carry, "tunnel": tunnel}
     words[sys.argv[1]](*sys.argv[2:])
