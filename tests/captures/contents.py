@@ -83,6 +83,8 @@ def quoted_ports(packet, protocol, is_first):
 
 
 def icmp4(packet, missing):
+    if not packet.has("icmp.code"):
+        return {MORE: None}
     number, code = packet.number("icmp.type"), packet.number("icmp.code")
     front_of = {"type": number, "code": code}
     if payload_length(packet) - missing < 8:
@@ -244,6 +246,8 @@ def listener(packet, number):
 
 
 def icmp6(packet, missing):
+    if not packet.has("icmpv6.code"):
+        return {MORE: None}
     number = packet.number("icmpv6.type")
     told = {"type": number, "code": packet.number("icmpv6.code")}
     if payload_length(packet) - missing < 8:

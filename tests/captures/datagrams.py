@@ -17,12 +17,13 @@ EACH_FRAGMENT = tuple("ipv6.fraghdr." + key for key in ("nxt", "offset", "more",
 
 class Packet:
     """The fields of a packet: those of the innermost datagram itself, and those of the one that an ICMP error quotes.
-    `tunnels` are those that it is in, `frames` the numbers of the packets whose fragments are put together in it, and
-    `part` what becomes of it where it is a fragment itself: `kept`, `joined` with those before it, or `refused`, within
-    a datagram that came in fragments."""
+    `names` are the headers of all its datagrams, `tunnels` those that it is in, `frames` the numbers of the packets whose
+    fragments are put together in it, and `part` what becomes of it where it is a fragment itself: `cut`, `kept`,
+    `joined` with those before it, or `refused`, within a datagram that came in fragments."""
 
     def __init__(self, fields):
         self.fields = fields
+        self.names = None
         self.tunnels = []
         self.frames = None
         self.part = None
@@ -65,22 +66,38 @@ FAMILIES = {"ip": 4, "ipv6": 6}
 def innermost(packet):
     """The packet with the fields of the innermost datagram alone, and those behind it."""
     names = layers(packet)
+    if is_cut(packet) and "ip" in names:
+        names = before_fragment(packet, names)
     outer = names[:max([at for at, name in enumerate(names) if name in FAMILIES], default=0)]
     fields = dict(packet.fields)
     for keys, name in ((EACH, "ip"), (EACH6, "ipv6"), (EACH_FRAGMENT, "ipv6.fraghdr")):
         fields.update((key, fields[key][outer.count(name):]) for key in keys if key in fields)
     inner = Packet({key: values for key, values in fields.items() if values})
-    inner.tunnels = tunnels(packet, names)
+    inner.names, inner.tunnels = names, tunnels(packet, names)
     is_joined_outside = "ipv6.fraghdr" in outer or any(
         (int(more), int(offset)) != (0, 0) for _, more, offset in zip(
             outer, packet.all("ip.flags.mf")[:outer.count("ip")], packet.all("ip.frag_offset")[:outer.count("ip")]))
     if is_joined_outside:
         inner.frames = packet.numbers("ip.fragment" if packet.has("ip.fragment") else "ipv6.fragment")
-    elif is_fragment(inner) and not is_cut(inner):
+    elif not is_cut(inner) and is_fragment(inner):
         inner.frames = packet.numbers("ip.fragment" if version(inner) == 4 else "ipv6.fragment") or None
-    if is_fragment(inner) and not is_cut(inner):
+    if is_cut(inner):
+        inner.part = "cut" if has_header(inner) and is_fragment(inner) else None
+    elif is_fragment(inner):
         inner.part = "refused" if is_joined_outside else "joined" if inner.frames else "kept"
     return inner
+
+
+def before_fragment(packet, names):
+    """The headers up to a fragment that was cut, into which tshark looks all the same."""
+    seen = 0
+    for at, name in enumerate(names):
+        if name == "ip":
+            if [value for key in ("ip.flags.mf", "ip.frag_offset") for value in packet.all(key)[seen:seen + 1]] not in (
+                    [], ["0", "0"]):
+                return names[:at + 1]
+            seen += 1
+    return names
 
 
 def tunnels(packet, names):
@@ -99,7 +116,12 @@ def tunnels(packet, names):
 
 def version(packet):
     """The version of IP of the innermost datagram, or None."""
-    return next((FAMILIES[name] for name in reversed(layers(packet)) if name in FAMILIES), None)
+    return next((FAMILIES[name] for name in reversed(packet.names or layers(packet)) if name in FAMILIES), None)
+
+
+def has_header(packet):
+    """Whether the fixed header of IP is there."""
+    return packet.has("ip.dst" if version(packet) == 4 else "ipv6.dst")
 
 
 def headers(packet):
@@ -152,7 +174,7 @@ def messages_over_tcp(packet):
 
 def kind(packet):
     """The kind of a packet, or None where it is of another protocol."""
-    if version(packet) is None or not packet.has("ip.src") and not packet.has("ipv6.src"):
+    if version(packet) is None or not has_header(packet):
         return "frame" if is_cut(packet) and version(packet) is not None else None
     last = headers(packet)[-1]
     if (version(packet), last) in ((4, 1), (4, 2), (6, 58)):

@@ -8,7 +8,7 @@ import re
 
 import names
 from contents import ICMP4_TYPES, ICMP6_TYPES, dhcp, hop_by_hop, icmp4, icmp6, igmp, octets
-from datagrams import destination, headers, is_cut, messages_over_tcp, payload_length, ports, version
+from datagrams import destination, has_header, headers, is_cut, messages_over_tcp, payload_length, ports, version
 
 IGMP_TYPES = (0x11, 0x12, 0x16, 0x17, 0x22)
 
@@ -66,7 +66,7 @@ _ws.malformed
 def front(packet, its_kind):
     """The members in front of those of the message; time and link stand in the capture alone."""
     family = "ip" if version(packet) == 4 else "ipv6"
-    is_told = packet.has(family + ".src")
+    is_told = has_header(packet)
     both = ports(packet) if is_told else None
     return {
         "number": packet.number("frame.number"), "length": packet.number("frame.cap_len"),
@@ -112,7 +112,7 @@ TYPES = {"icmp4": ("icmp", ICMP4_TYPES), "icmp6": ("icmpv6", ICMP6_TYPES), "igmp
 
 def has_wrong_header(packet):
     """Whether the checksum of the header of IPv4 is wrong, of a datagram that came as one."""
-    return version(packet) == 4 and packet.part != "joined" and packet.text("ip.checksum.status") == "0"
+    return version(packet) == 4 and packet.part != "joined" and packet.all("ip.checksum.status")[:1] == ["0"]
 
 
 def checksum(packet, its_kind):
@@ -149,8 +149,7 @@ def refused(packet, reason):
     """Why nothing of a datagram is read."""
     if reason == "fragment":
         return {"refused": re.compile(".+")}
-    is_told = packet.has("ip.src") or packet.has("ipv6.src")
-    return {"refused": re.compile("cut short, " + head(packet) if is_told else "fewer bytes than the .* has")}
+    return {"refused": re.compile("cut short, " + head(packet) if has_header(packet) else "fewer bytes than the .* has")}
 
 
 def objects(packet, its_kind, reason):
@@ -158,7 +157,7 @@ def objects(packet, its_kind, reason):
     told, missing = front(packet, its_kind), 0
     if has_wrong_header(packet):
         told["ip_checksum"] = "bad"
-    if reason == "fragment" or reason == "cut" and its_kind == "frame":
+    if reason == "fragment" or packet.part == "cut" or reason == "cut" and its_kind == "frame":
         return [{**told, **refused(packet, reason)}]
     if version(packet) == 6 and packet.number("ipv6.nxt") == 0:
         told["hop_by_hop"] = hop_by_hop(packet)
