@@ -283,17 +283,16 @@ scene_fragments() {
     stop_recording
 }
 
-# Queries of DNS over TCP: one on a connection, several one after another, several in one segment, and one in two.
+# Queries of DNS over TCP: several on a connection, several in one segment, and one in two.
 scene_segments() {
     local to
     record segments.pcap host eth -s 2000
     for to in 192.0.2.1 2001:db8:1::1; do
-        quietly in_ host dig +tcp +tries=1 +time=1 "@$to" a.example.test A
-        quietly in_ host dig +tcp +keepopen +tries=1 +time=1 "@$to" mx.example.test MX srv.example.test SRV \
-            txt.example.test TXT
-        quietly in_ host dig +tcp +noedns +tries=1 +time=1 "@$to" long.example.test TXT
+        quietly in_ host dig +tcp +keepopen +tries=1 +time=1 "@$to" a.example.test A mx.example.test MX \
+            srv.example.test SRV txt.example.test TXT
         quietly in_ host ./speak.py segments "$to"
     done
+    quietly in_ host dig +tcp +noedns +tries=1 +time=1 @192.0.2.1 long.example.test TXT
     stop_recording
 }
 
@@ -330,8 +329,8 @@ scene_tunnels() {
         quietly in_ host ping -c 1 -s 24 "2001:db8:9:$number::2"
         quietly in_ host dig +tries=1 +time=1 "@10.9.$number.2" inside.test A
         quietly in_ host dig +tries=1 +time=1 "@2001:db8:9:$number::2" inside.test AAAA
-        quietly in_ host ping -c 1 -t 1 -s 24 "10.9.$number.2"
     done
+    quietly in_ host dig +tries=1 +time=1 -p 5355 @10.9.3.2 nobody.listens A
     quietly in_ host dig +tcp +tries=1 +time=1 @10.9.4.2 inside.test A
     # Fragments in a tunnel, of a tunnel, and in a tunnel that comes in fragments.
     quietly in_ host ping -c 1 -s 1400 2001:db8:9:2::2
@@ -353,6 +352,7 @@ turn_formats() {
     for link in null loop ppp ppp_hdlc pppoe raw ipv4 ipv6 padded vlan vlans headers; do
         ./links.py "$link" "$real/mixed.pcap" "$real/mixed-$link.pcap" || exit 1
     done
-    ./links.py headers "$real/tunnels.pcap" "$real/tunnels-headers.pcap" || exit 1
+    quietly editcap -F pcap -r "$real/tunnels.pcap" "$room/tunnels.pcap" 1-24
+    ./links.py headers "$room/tunnels.pcap" "$real/tunnels-headers.pcap" || exit 1
     quietly editcap -F pcap -s 98 "$real/tunnels.pcap" "$real/tunnels-cut.pcap"
 }
