@@ -17,8 +17,8 @@ EACH_FRAGMENT = tuple("ipv6.fraghdr." + key for key in ("nxt", "offset", "more",
 
 class Packet:
     """The fields of a packet: those of the innermost datagram itself, and those of the one that an ICMP error quotes.
-    `names` are the headers of all its datagrams, `tunnels` those that it is in, `frames` the numbers of the packets whose
-    fragments are put together in it, and `part` what becomes of it where it is a fragment itself: `cut`, `kept`,
+    `names` are the headers of all its datagrams, `tunnels` those that it is in, `frames` the numbers of the packets
+    whose fragments are put together in it, and `part` what becomes of it where it is a fragment itself: `cut`, `kept`,
     `joined` with those before it, or `refused`, within a datagram that came in fragments."""
 
     def __init__(self, fields):

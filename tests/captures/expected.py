@@ -149,7 +149,8 @@ def refused(packet, reason):
     """Why nothing of a datagram is read."""
     if reason == "fragment":
         return {"refused": re.compile(".+")}
-    return {"refused": re.compile("cut short, " + head(packet) if has_header(packet) else "fewer bytes than the .* has")}
+    why = "cut short, " + head(packet) if has_header(packet) else "fewer bytes than the .* has"
+    return {"refused": re.compile(why)}
 
 
 def objects(packet, its_kind, reason):

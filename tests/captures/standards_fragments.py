@@ -2,8 +2,8 @@
 import struct
 
 from building import (GRE, HOST4, HOST6, ICMP4, ICMP6, IP4, IP6, SERVER4, SERVER6, TCP, UDP, ethernet, gre, hexed, icmp,
-                      icmp6, ip4, ip6, message, name, part4, part6, pcap, pcap_header, pcap_record, question, tcp, udp,
-                      v6)
+                      icmp6, ip4, ip6, message, name, part4, part6, pcap, pcap_header, pcap_record, pointer, question,
+                      record, tcp, udp, v6)
 from standards_tunnels import broken, outer4, outer6, raw
 
 ECHO = hexed("1234 0001")
@@ -237,4 +237,15 @@ MOST = {
                                             for at in range(0, 65535, 8192))),
 }
 
-FRAGMENTS = {**WHOLE, **AGAIN, **WRONG, **CUT, **OF_IPV6, **IN_TUNNELS}
+ANSWER = udp(message(0x8180, [question(name("a."), 16)], [record(pointer(12), 16, b"\x1e" + b"long" * 7 + b"er")]),
+             53, 40000, SERVER4, HOST4)
+
+# Some as the manual shows them.
+SHOWN = {
+    "dns_in_fragments": raw(*parts(((0, 32), (32, len(ANSWER))), 4660, ANSWER, protocol=UDP, source=SERVER4,
+                                   destination=HOST4)),
+    "icmp6_in_fragments": raw(*behind(header(44, "05020000 0100"), 0, "201")),
+    "tunnel_in_fragments": raw(*parts(((0, 24), (24, 52)), 4660, gre(INNER4 + b"\0" * 4), protocol=GRE)),
+}
+
+FRAGMENTS = {**SHOWN, **WHOLE, **AGAIN, **WRONG, **CUT, **OF_IPV6, **IN_TUNNELS}

@@ -31,8 +31,8 @@ HOP = hexed("0600 05020000 0100")
 
 SEGMENTS = {
     "tcp_of_a_query": raw(segment(told(QUERY))),
-    "tcp_of_an_answer": raw(segment(told(ANSWER), 53, 40000)),
-    "tcp_of_two_messages": raw(segment(told(QUERY, ANSWER))),
+    "dns_over_tcp": raw(segment(told(ANSWER), 53, 40000)),
+    "dns_over_tcp_of_two_messages": raw(segment(told(QUERY, ANSWER))),
     "tcp_of_least_messages": raw(segment(told(*[LEAST] * 5), 53, 53)),
     "tcp_with_options": raw(segment(told(QUERY), options=OPTIONS)),
     "tcp_over_ipv6": raw(segment6(told(QUERY)), segment6(told(ANSWER, QUERY), 53, 40000)),

@@ -49,6 +49,20 @@ def hop(following, content=hexed("05020000 0100")):
     return bytes([following, 0]) + content
 
 
+# One of each kind, as the manual shows them.
+PING4 = icmp4(8, 0, ECHO, b"abcd")
+PING6 = ip6_icmp6(128, 0, ECHO, b"abcd", HOST6, SERVER6)
+KEY = hexed("0000002a")
+
+SHOWN = {
+    "icmp_in_gre": raw(outer4(gre(PING4, 0x0800, 0x2000, KEY), GRE)),
+    "icmp6_in_ipv4": raw(outer4(PING6, IP6)),
+    "dns_in_two_tunnels": raw(outer6(gre(outer4(udp4(QUERY, 40000, 53))), GRE)),
+    "tunnel_that_is_cut": kept(outer4(gre(PING4, 0x0800, 0x2000, KEY), GRE), 57),
+    "tunnel_of_a_header_that_is_none": raw(outer4(b"\x55" + PING4[1:])),
+    "icmp4_with_a_wrong_header_checksum": raw(broken(PING4, 10)),
+}
+
 IN_IP = {
     "ipv4_in_ipv4": raw(outer4(ECHO4)),
     "ipv6_in_ipv4": raw(outer4(ECHO6, IP6)),
@@ -159,4 +173,4 @@ HEADERS = {
         8, 0, ECHO, options=hexed("94040000")), 10), 20, 23, 24, 31)[24:],
 }
 
-TUNNELS = {**IN_IP, **DEPTHS, **GRES, **WRONG, **CUT, **HEADERS}
+TUNNELS = {**SHOWN, **IN_IP, **DEPTHS, **GRES, **WRONG, **CUT, **HEADERS}
