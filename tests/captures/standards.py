@@ -8,6 +8,7 @@ from building import (HOST6, NOON, SERVER6, TCP, attribute, block, c_hdlc, cooke
 from standards_dns import DNS
 from standards_fragments import FRAGMENTS, MOST
 from standards_messages import LONG_PARTS, MESSAGES, WHOLE_JUMBOGRAMS
+from standards_mixed import MIXED
 from standards_networks import NETWORKS
 from standards_segments import SEGMENTS
 from standards_tunnels import TUNNELS
@@ -202,7 +203,7 @@ def large():
 
 def many():
     """The captures of so many packets that none of their octets is damaged, by name."""
-    return MOST
+    return {**MOST, **MIXED}
 
 
 def every():

@@ -219,7 +219,13 @@ def pieces(count, more):
     return [part4(SMALL, 8 * at, 8 * at + 8, more=at + 1 < count or more) for at in range(1, count)]
 
 
+# A query with as many octets behind it as a datagram has.
+LARGE = udp(QUERY + bytes(65507 - len(QUERY)), 40000, 53)
+QUARTERS = ((0, 16384), (16384, 32768), (32768, 49152), (49152, 65515))
+
 MOST = {
+    "fragments_of_64_large_datagrams": raw(*(part4(LARGE, *place, UDP, ident=ident) for place in QUARTERS
+                                             for ident in range(64))),
     "fragments_of_64_datagrams": raw(*MANY[:64], *parts(((8, 24),), 1), *parts(((8, 24),), 64)),
     "fragments_of_65_datagrams": raw(*MANY, *parts(((8, 24),), 1), *parts(((8, 24),), 2), *parts(((8, 24),), 65)),
     "fragments_forgotten_in_turn": raw(*parts(((8, 16),), 1), *MANY[1:64], *MANY[:1], *parts(((16, 24),), 70),
