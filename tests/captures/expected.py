@@ -82,7 +82,7 @@ def front(packet, its_kind):
 
 
 def over_tcp(packet):
-    return messages_over_tcp(packet) if version(packet) and headers(packet)[-1] == 6 else 0
+    return messages_over_tcp(packet) if has_header(packet) and headers(packet)[-1] == 6 else 0
 
 
 # ---- refusals

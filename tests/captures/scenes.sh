@@ -354,5 +354,5 @@ turn_formats() {
     done
     quietly editcap -F pcap -r "$real/tunnels.pcap" "$room/tunnels.pcap" 1-24
     ./links.py headers "$room/tunnels.pcap" "$real/tunnels-headers.pcap" || exit 1
-    quietly editcap -F pcap -s 98 "$real/tunnels.pcap" "$real/tunnels-cut.pcap"
+    quietly editcap -F pcap -s 74 "$real/tunnels.pcap" "$real/tunnels-cut.pcap"
 }
