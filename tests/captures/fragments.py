@@ -1,11 +1,11 @@
 """Datagrams that come in fragments, and are put together (RFC 791 section 3.2, RFC 8200 section 4.5, RFC 5722)."""
 from frames import Refused
-from ip import Datagram, pass_extensions, whole
+from ip import Datagram, Fragment, pass_extensions, whole
 
 # So many datagrams are kept at the most, and of each so many fragments.
 MOST_DATAGRAMS = 64
 MOST_FRAGMENTS = 256
-# The greatest length that a datagram tells: of IPv4 with its header, of IPv6 without.
+# So many octets are put together at the most: those of headers, which the length of a datagram counts, are not counted.
 MOST_OCTETS = 65535
 
 
@@ -24,8 +24,11 @@ class Part:
 
     def is_same(self, other):
         """Whether both say the same of the datagram."""
-        one, two = self.fragment, other.fragment
-        return (one.offset, one.more, one.alone.payload) == (two.offset, two.more, two.alone.payload)
+        return self.said() == other.said()
+
+    def said(self):
+        of = self.fragment
+        return of.offset, of.more, of.alone.protocol, of.alone.payload
 
     def overlaps(self, other):
         return self.start < other.end and other.start < self.end
@@ -45,20 +48,16 @@ class Kept:
     def accept(self, part):
         """Keeps a fragment, once; or refuses all of the datagram."""
         if self.parts is None:
-            refuse("another of its datagram was refused")
+            refuse("a datagram that was discarded")
         if any(part.is_same(other) for other in self.parts):
             return
         why = None
         if any(part.overlaps(other) for other in self.parts):
-            why = "it overlaps another"
+            why = "bytes that another fragment has"
         elif any(part.contradicts(other) for other in self.parts):
-            why = "its datagram ends twice"
+            why = "bytes past the end of the datagram"
         elif len(self.parts) == MOST_FRAGMENTS:
-            why = "too many of its datagram"
-        elif part.start and any(too_long(first.fragment.front_len, part) for first in self.parts if not first.start):
-            why = TOO_LONG
-        elif not part.start and any(too_long(part.fragment.front_len, other) for other in self.parts):
-            why = TOO_LONG
+            why = "more fragments than are kept"
         if why:
             self.parts = None
             refuse(why)
@@ -73,14 +72,6 @@ class Kept:
         return not self.parts[-1].fragment.more
 
 
-TOO_LONG = "its datagram is longer than 65535 bytes"
-
-
-def too_long(front_len, part):
-    """Whether a fragment makes a datagram too long that has so many octets in front."""
-    return front_len + part.end > MOST_OCTETS
-
-
 class Joined:
     """A datagram that was put together, and the numbers of the packets with its fragments."""
 
@@ -92,8 +83,13 @@ class Joined:
     def datagram(self):
         of = self.first
         of = Datagram(of.source, of.destination, of.protocol, self.payload, of.hop_by_hop)
+        if len(of.source) == 4:
+            return of
         # Headers that extend IPv6 may stand in what was fragmented.
-        return of if len(of.source) == 4 else whole(pass_extensions(of, False, False))
+        of = whole(pass_extensions(of, False, False))
+        if isinstance(of, Fragment):
+            raise Refused("fragment", "a fragment, " + of.text())
+        return of
 
 
 class Fragments:
@@ -120,8 +116,8 @@ def check(part):
     """Refuses a fragment for what it says alone."""
     length = part.end - part.start
     if length == 0:
-        refuse("it is empty")
+        refuse("no payload")
     if part.fragment.more and length % 8:
-        refuse("its length is no multiple of 8")
-    if too_long(part.fragment.front_len, part):
-        refuse(TOO_LONG)
+        refuse("a length that is no multiple of 8, and more fragments")
+    if part.end > MOST_OCTETS:
+        refuse("bytes past the 65535 of a datagram")

@@ -34,22 +34,17 @@ class Refused(Exception):
 
 
 class Frame:
-    """The version of IP behind the headers of a link, or None and the name of another network; the VLANs, the outermost
-    first; the payload."""
+    """The number that the headers of a link have for the network behind them, and the version of IP where it is that;
+    the VLANs, the outermost first; the payload."""
 
-    def __init__(self, version, payload, vlans=(), network=None):
-        self.version = version
+    def __init__(self, versions, number, payload, vlans=()):
+        self.number = number
+        self.version = versions.get(number)
         self.payload = payload
         self.vlans = list(vlans)
-        self.network = network
 
 
-def numbered(versions, number, payload, vlans=()):
-    """A frame of a network that has a number, in a link whose numbers are no EtherTypes."""
-    return Frame(versions.get(number), payload, vlans, "network %d" % number)
-
-
-def network_of(ethertype):
+def network_name(ethertype):
     return ETHERTYPES.get(ethertype, "ethertype 0x%04x" % ethertype)
 
 
@@ -64,12 +59,12 @@ def null(octets):
     family = be(octets[:4])
     if family > 65535:
         family = int.from_bytes(octets[:4], "little") % 65536
-    return numbered(FAMILIES, family, octets[4:])
+    return Frame(FAMILIES, family, octets[4:])
 
 
 def raw(octets):
     need(octets, 1)
-    return numbered(VERSIONS, octets[0] >> 4, octets)
+    return Frame(VERSIONS, octets[0] >> 4, octets)
 
 
 def ethernet(octets):
@@ -101,7 +96,7 @@ def ipoib(octets):
 def ipnet(octets):
     """IPNET of Solaris: the family is in the second octet."""
     need(octets, 24)
-    return numbered(SOLARIS_FAMILIES, octets[1], octets[24:])
+    return Frame(SOLARIS_FAMILIES, octets[1], octets[24:])
 
 
 def nflog(octets):
@@ -119,7 +114,7 @@ def nflog(octets):
             raise Refused("malformed", "NFLOG attribute length %d is below 4" % length)
         need(octets, length)
         if kind == PACKET:
-            return numbered(LINUX_FAMILIES, family, octets[4:length])
+            return Frame(LINUX_FAMILIES, family, octets[4:length])
         octets = octets[length + -length % 4:]
 
 
@@ -141,9 +136,9 @@ def nlpid(octets):
     """A protocol of an octet, or that of SNAP, an organization and a protocol of it: that of 0 has EtherTypes."""
     need(octets, 1)
     if octets[0] != SNAP:
-        return numbered(NLPIDS, octets[0], octets[1:])
+        return Frame(NLPIDS, octets[0], octets[1:])
     need(octets, 6)
-    return numbered({}, SNAP, octets[1:]) if any(octets[1:4]) else typed(be(octets[4:6]), octets[6:])
+    return Frame({}, SNAP, octets[1:]) if any(octets[1:4]) else typed(be(octets[4:6]), octets[6:])
 
 
 def ppp(octets):
@@ -169,7 +164,7 @@ def protocol(octets, vlans=()):
     """A protocol of PPP, in one octet where that is odd, and else in two (RFC 1661 section 6.5)."""
     length = 1 if octets and octets[0] % 2 else 2
     need(octets, length, "the PPP protocol is cut short")
-    return numbered(PPP_PROTOCOLS, be(octets[:length]), octets[length:], vlans)
+    return Frame(PPP_PROTOCOLS, be(octets[:length]), octets[length:], vlans)
 
 
 def typed(ethertype, octets):
@@ -181,10 +176,12 @@ def typed(ethertype, octets):
         octets = octets[4:]
     if ethertype == SESSION and is_session(octets):
         return protocol(octets[6:], vlans)
-    return Frame(IP_ETHERTYPES.get(ethertype), octets, vlans, network_of(ethertype))
+    return Frame(IP_ETHERTYPES, ethertype, octets, vlans)
 
 
 LINKS = {
     0: null, 1: ethernet, 9: ppp, 12: raw, 14: raw, 50: ppp, 51: pppoe, 101: raw, 104: c_hdlc, 107: frame_relay,
     108: null, 113: cooked, 226: ipnet, 228: raw, 229: raw, 239: nflog, 242: ipoib, 276: cooked2,
 }
+# Those that have EtherTypes.
+TYPED = (1, 104, 113, 242, 276)

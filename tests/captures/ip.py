@@ -14,8 +14,8 @@ PROTOCOLS = {
 
 
 class Datagram:
-    """A datagram: its addresses, the protocol of its payload, the octets of hop-by-hop options or None; whether it is
-    cut within its header or behind, and how many octets are missing where its headers are there."""
+    """A datagram: its addresses, the protocol of its payload, the octets of hop-by-hop options or None; and of a refused
+    one, whether its payload is there as far as its octets go, and how many are missing of that."""
 
     def __init__(self, source, destination, protocol_number, payload, hop_by_hop=None):
         self.source = source
@@ -23,7 +23,7 @@ class Datagram:
         self.protocol = protocol_number
         self.payload = payload
         self.hop_by_hop = hop_by_hop
-        self.is_cut = False
+        self.is_there = False
         self.missing = 0
 
 
@@ -206,8 +206,8 @@ def known4(octets):
         return None
     fragment = be(octets[6:8]) & 0x3FFF
     of = Datagram(octets[12:16], octets[16:20], octets[9], b"" if fragment & 0x1FFF else octets[header_len:])
-    of.is_cut = total_len > 0 and not fragment
-    if of.is_cut and len(octets) >= header_len:
+    of.is_there = not fragment and len(octets) >= header_len
+    if total_len and of.is_there:
         of.missing = total_len - len(octets)
     return of
 
@@ -223,13 +223,12 @@ def known6(octets):
         # What is torn was cut, or contradicts itself.
         return None if len(octets) >= total_len else Datagram(octets[8:24], octets[24:40], octets[6], b"")
     if isinstance(of, Fragment):
-        return known_of(of)
-    of.is_cut, of.missing = True, total_len - len(octets)
+        return Datagram(of.alone.source, of.alone.destination, of.alone.protocol, b"")
+    of.missing, of.is_there = total_len - len(octets), True
     return of
 
 
 def known_of(fragment):
-    """What is told of a fragment: ports are told of the first of IPv4 alone."""
+    """What is told of a fragment: ports are told of the first alone."""
     of = fragment.alone
-    has_ports = len(of.source) == 4 and fragment.offset == 0
-    return Datagram(of.source, of.destination, of.protocol, of.payload if has_ports else b"")
+    return Datagram(of.source, of.destination, of.protocol, b"" if fragment.offset else of.payload)

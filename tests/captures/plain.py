@@ -117,7 +117,9 @@ def show(packet, number, fragments, is_strict=False):
         shown.kind, shown.messages = "frame", [refused.fields()]
         shown.reason = refused.reason if refused.reason != "ended" else "cut" if is_cut else "short"
         return shown
-    shown.vlans, shown.other = frame.vlans, frame.network
+    shown.vlans = frame.vlans
+    is_typed = packet.link_type in frames.TYPED
+    shown.other = frames.network_name(frame.number) if is_typed else "network %d" % frame.number
     if frame.version is not None:
         show_datagram(shown, tunnels.follow(frame.version, frame.payload, number, is_cut, fragments), is_strict)
     return shown
@@ -141,10 +143,11 @@ def show_datagram(shown, found, is_strict):
         shown.has_options = True
         front += hop_by_hop(of.hop_by_hop)
     shown.messages = [front + message for message in show_messages(shown, found, segments, is_strict)]
-    if found.is_bad and shown.reason != "cut":
+    if found.is_bad and shown.reason not in BEFORE_HEADER:
         shown.reason = "checksum"
 
 
+BEFORE_HEADER = ("cut",)
 BAD_HEADER = "the checksum of the IPv4 header does not hold"
 
 

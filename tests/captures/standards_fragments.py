@@ -91,6 +91,7 @@ WRONG = {
                                           part4(FAR, 0, 8, options=OPTION4, ident=2),
                                           part4(FAR, 65512, 65515, more=0, ident=2)),
     "fragment_at_the_last_place": raw(part4(FAR, 65528, 65529, more=0), part4(FAR, 65528, 65536)),
+    "fragment_past_the_end_of_all": raw(part4(FAR, 65528, 65536), *three("012")),
     "fragment_refused_of_other_protocols": raw(*parts(((0, 9), (8, 16)), payload=b"\0" * 24, more=1, protocol=TCP),
                                                *parts(((0, 9),), payload=b"\0" * 24, more=1, protocol=GRE)),
     "fragment_refused_of_udp": raw(*parts(((0, 9), (8, 9)), payload=ASKED, more=1, protocol=UDP),
@@ -117,6 +118,11 @@ CUT = {
                                     *map(outer4, three("012"))),
     "fragment_cut_of_a_tunnel": cut([27], *parts(((0, 8), (8, 24)), payload=PING4, protocol=IP4)),
     "fragment_cut_of_ipv6": cut([55, 48, 47], *three6("000")),
+    "fragment_cut_of_ipv6_with_ports": cut([52, 51, 52], part6(ASKED6, 0, 16, UDP), part6(ASKED6, 0, 16, UDP),
+                                           part6(ASKED6, 8, 16, UDP)),
+    "fragments_cut_behind_them": pcap_header(101) + b"".join(
+        pcap_record(of, original_len=len(of) + 1) for of in
+        parts(((0, 16), (16, 32), (32, 44)), payload=ip4(PING4, ICMP4, total=45), protocol=IP4)),
     "fragment_whole_in_a_cut_frame": cut([28], three("0")[0] + b"\0", *three("12")),
 }
 

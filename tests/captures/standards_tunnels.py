@@ -1,6 +1,6 @@
 """Captures of datagrams in tunnels, of raw IP."""
 from building import (GRE, GROUP4, HOST4, HOST6, ICMP4, ICMP6, IP4, IP6, SERVER6, TCP, UDP, ethernet, gre, hexed, icmp,
-                      icmp4, ip4, ip6, ip6_icmp6, message, name, pcap, pcap_header, pcap_record, question, session,
+                      icmp4, ip4, ip6, ip6_icmp6, message, name, pcap, pcap_header, pcap_record, question, session, udp,
                       udp4, udp6, v4, v6)
 
 ECHO = hexed("1234 0001")
@@ -168,6 +168,10 @@ HEADERS = {
     "ip_checksum_wrong_inside": raw(outer4(broken(ECHO4, 10)), outer6(broken(ECHO4, 10), IP4)),
     "ip_checksum_wrong_of_a_short_one": raw(broken(icmp4(8, 0, ECHO, total=29), 10), broken(ip4(b"", 1, total=0), 10),
                                             broken(ip4(b"", 1), 0)),
+    "ip_checksum_wrong_of_a_longer_udp": raw(broken(ip4(udp(QUERY, 40000, 53, length=40), UDP), 10),
+                                             broken(ip4(udp(QUERY, 40000, 53)[:3], UDP, total=40), 10),
+                                             broken(ip4(udp(QUERY, 40000, 53)[:6], UDP), 10),
+                                             broken(ip4(udp(QUERY, 40000, 53, length=7), UDP), 10)),
     "ip_checksum_of_zeros": raw(ip4(b"", ICMP4)[:10] + b"\0\0" + ip4(b"", ICMP4)[12:] + icmp(8, 0, ECHO)),
     "ip_checksum_cut": kept(broken(ECHO4, 10), 19, 20, 24, 27) + kept(broken(icmp4(
         8, 0, ECHO, options=hexed("94040000")), 10), 20, 23, 24, 31)[24:],

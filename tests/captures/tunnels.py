@@ -1,8 +1,7 @@
 """The innermost datagram of a packet: what is in tunnels is followed, and fragments are put together."""
-from fragments import refuse
-from frames import IP_ETHERTYPES, Refused, network_of
-from ip import GRE, IP4, IP6, Fragment, datagram, known, known_of
-from registries import PROTOCOLS
+from frames import IP_ETHERTYPES, Refused, network_name
+from ip import FRAGMENT, GRE, IP4, IP6, Datagram, Fragment, datagram, known, known_of
+from registries import PROTOCOL_NAMES
 from text import be, is_good
 
 # So deep tunnels are followed.
@@ -51,7 +50,7 @@ class Found:
         self.other = None
 
     def protocol_name(self):
-        return PROTOCOLS.get(self.of.protocol, "protocol %d" % self.of.protocol)
+        return PROTOCOL_NAMES.get(self.of.protocol, "protocol %d" % self.of.protocol)
 
 
 def follow(version, octets, number, is_cut, fragments):
@@ -60,13 +59,12 @@ def follow(version, octets, number, is_cut, fragments):
     found = Found()
     while version is not None:
         read(found, version, octets, number, is_cut, fragments)
-        is_cut = is_cut and found.refused is not None
         version, octets = inner(found)
     return found
 
 
 def read(found, version, octets, number, is_cut, fragments):
-    """Reads a datagram, which may be the last fragment of one."""
+    """Reads a datagram, which may be the last fragment of one. The checksums of fragments are not looked at."""
     found.version, found.refused = version, None
     try:
         of = datagram(version, octets)
@@ -75,8 +73,8 @@ def read(found, version, octets, number, is_cut, fragments):
         if why.reason == "ended":
             # Octets that the capture has not may have been there.
             why.reason = "cut" if is_cut else "short"
-    found.is_bad = version == 4 and of is not None and is_bad(octets)
     found.of = of
+    found.is_bad = version == 4 and of is not None and not be(octets[6:8]) & 0x3FFF and is_bad(octets)
     if isinstance(of, Fragment):
         join(found, of, number, fragments)
 
@@ -92,24 +90,23 @@ def join(found, fragment, number, fragments):
     found.of = known_of(fragment)
     try:
         if found.numbers is not None:
-            refuse("its datagram came in fragments itself")
+            raise Refused("fragment", "a fragment in a datagram that was put together")
         joined = fragments.add(number, fragment)
         found.kept = joined is None
         if joined is not None:
-            found.numbers, found.is_bad, found.of = joined.numbers, False, None
+            found.numbers = joined.numbers
+            # Where headers do not read that extend IPv6 within it, the addresses are told.
+            found.of = Datagram(found.of.source, joined.first.destination, FRAGMENT, b"")
             found.of = joined.datagram()
     except Refused as why:
         found.refused = why
-        return
-    if isinstance(found.of, Fragment):
-        join(found, found.of, number, fragments)
 
 
 def inner(found):
     """The version and the octets of what a datagram carries that is a tunnel's, or None twice."""
     of = found.of
     nothing = None, None
-    if of is None or found.kept or found.refused and not of.is_cut or len(found.tunnels) == MOST_TUNNELS:
+    if of is None or found.kept or found.refused and not of.is_there or len(found.tunnels) == MOST_TUNNELS:
         return nothing
     if of.protocol in VERSIONS:
         name, version, octets = "ipv%d" % VERSIONS[of.protocol], VERSIONS[of.protocol], of.payload
@@ -117,7 +114,7 @@ def inner(found):
         ethertype, octets = gre(of.payload)
         name, version = "gre", IP_ETHERTYPES.get(ethertype)
         if version is None:
-            found.other = network_of(ethertype)
+            found.other = network_name(ethertype)
             return nothing
     else:
         return nothing
