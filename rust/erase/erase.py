@@ -297,8 +297,9 @@ workspace = true
 """
 
 
-# What no crate of cargo stands for: `rattle_std` has `hex`, and of the others contracts alone speak.
-OF_THE_KIT = ("hex", "json", "serde_json")
+# What no crate of cargo stands for by itself: `rattle_std` has `hex` and `strsim`, and of the others contracts alone
+# speak.
+OF_THE_KIT = ("hex", "json", "serde_json", "strsim")
 
 
 def dependencies_of(unit, kinds, needs):
@@ -354,7 +355,7 @@ def public_path(file):
 
 
 # What the tests of the library have no use for.
-UNUSED = re.compile(r"#!\[forbid.*\n|pub mod (collections|env|fs|hex|io);\n|pub use std::fmt;\n")
+UNUSED = re.compile(r"#!\[forbid.*\n|pub mod (collections|env|fs|hex|io|strsim);\n|pub use std::fmt;\n")
 
 
 def std_of_tests():

@@ -118,13 +118,14 @@ def handed(file, i):
 
 @rule(PATHS)
 def std_module(file, i):
-    """The modules of Rattle's std that know of the runtime or the allocator, and `hex`, are those of `rattle_std`."""
+    """The modules of Rattle's std that know of the runtime or the allocator, `hex` and `strsim` are those of
+    `rattle_std`."""
     if file.text(i + 1) != "::" or file.text(i - 1) == "::":
         return None
     if file.text(i) == "std" and (file.text(i + 2) in MODULES or file.text(i + 2) == "{"):
         return file.replace(i, i + 1, file.std)
-    if file.text(i) == "hex":
-        return file.replace(i, i + 1, f"{file.std}::hex")
+    if file.text(i) in ("hex", "strsim"):
+        return file.replace(i, i + 1, f"{file.std}::{file.text(i)}")
     return None
 
 

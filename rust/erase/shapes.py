@@ -58,7 +58,7 @@ SHAPES = {
     "generator": (r"Rng", r"RngCore"),
     "handed": (r"let alloc = rt \. alloc \( \.\. \) ;|(, )?&? ?(rt|alloc)"
                r"( : &? ?(impl \w+|\( \.\. \)|HostRuntime|Global|R))?( \. alloc \( \.\. \))?( ,)?", ""),
-    "std_module": (r"std|hex", r"(crate :: )?rattle_std( :: hex)?"),
+    "std_module": (r"std|hex|strsim", r"(crate :: )?rattle_std( :: (hex|strsim))?"),
     "imports": (r"use [\w: ]*(\{ \.\. \})?( as \w+)? ;|, [\w:]+( as \w+)?|[\w:]+( as \w+)? ,", ""),
     "paths": (r"\w+", r"core|std|control_wire( :: \w+)?|crate( :: \w+)?"),
     "prelude": (r"", r"# \[ allow \( unused_imports \) \] use (crate :: )?rattle_std :: prelude :: \* ;"),

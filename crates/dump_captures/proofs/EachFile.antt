@@ -90,8 +90,8 @@ known-prints : (options : Options) (known bytes : Option (List ℕ)) (old new : 
     → IfSome known (λ all. bytes ≡ Some all) → FilePrints options bytes old text new status
     → FilePrints options known old text new status
 known-prints options known bytes old new text status gives (unopened none same is) = unopened none same is
-known-prints options known bytes old new text status gives (opened ending prints is) =
-    opened ending (known-input options known bytes old new text ending gives prints) is
+known-prints options known bytes old new text status gives (opened stop prints is) =
+    opened stop (known-input options known bytes old new text stop gives prints) is
 
 pub known-file : {E : Type 0} (options : Options) (bytes input : Option (List ℕ)) (old new : TallyValue)
     (before now : Option (List ℕ)) (r : Result ℕ E) → IfSome bytes (λ all. input ≡ Some all)

@@ -3,6 +3,7 @@ pub mod EachFile
 pub mod Faults
 pub mod Headings
 pub mod MessageTexts
+pub mod Moments
 pub mod Names
 pub mod NumberRuns
 pub mod Places

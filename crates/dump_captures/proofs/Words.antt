@@ -1,5 +1,6 @@
 -- Arguments that are read in a loop.
 use Rattle.std.proofs.Common.{◌≡◌, ℕ, ◌+◌, ◌<◌, List, [], ◌∷◌, ◌++◌, length, take, drop, get_or, refl, ap, sym, ◌∙◌}
+use Rattle.std.proofs.Common.{Err, None, Option}
 use Rattle.std.proofs.lemmas.List.{map-append, map-id, take-append-drop, take_more}
 use Rattle.std.proofs.lemmas.List.Sums.{fold-append, fold_push}
 use Rattle.std.proofs.lemmas.Iterator.{YieldsList}
@@ -12,7 +13,10 @@ use Rattle.std.specs.declared.iter.Skip.{Skip}
 use Rattle.std.specs.declared.vec.IntoIter.{IntoIter}
 use Rattle.std.specs.Prelude.{map}
 use Rattle.dump_captures.specs.Arguments.{ReadingValue, Reads, TaskValue, at_end, ends, more, nothing_read, then_word}
-use Rattle.dump_captures.specs.Arguments.{with_word}
+use Rattle.dump_captures.specs.Arguments.{kind_words, only_of, option_words, unknown, unknown_kind, unknown_option}
+use Rattle.dump_captures.specs.Arguments.{with_only, with_setting, with_word}
+use Rattle.dump_captures.specs.Nearest.{nearest}
+use Rattle.dump_captures.specs.Settings.{option_in, setting_of, value_in}
 
 -- what is left of a vector after its first item
 pub skipped : {X Z : Type 0} (it : IntoIter X Z) (s : Skip (IntoIter X Z))
@@ -64,3 +68,17 @@ pub words-all : {X : Type 0} (view : X → List ℕ) (all seen : List X) (r : Re
     → read (map view seen) ≡ more r → at_end (more r) ≡ at_end (read (map view all))
 words-all view all seen r is so_far =
     ap at_end (sym so_far ∙ ap (λ xs. read (map view xs)) (sym (map-id seen) ∙ is))
+
+-- ---- words that are not known
+
+-- an option, and the one that is nearest
+pub unknown-option : (word option : List ℕ) (near : Option (List ℕ)) (r : ReadingValue) → option ≡ option_in word
+    → setting_of option ≡ None → near ≡ nearest option option_words
+    → ends (unknown (unknown_option word near)) ≡ with_setting (setting_of (option_in word)) (value_in word) word r
+unknown-option word option near r is none found = rw (rw is at none, found, is) refl
+
+-- a kind
+pub unknown-kind : (list name copy : List ℕ) (near : Option (List ℕ)) (r : ReadingValue) → only_of list ≡ Err name
+    → copy ≡ name → near ≡ nearest name kind_words
+    → ends (unknown (unknown_kind copy near)) ≡ with_only (only_of list) r
+unknown-kind list name copy near r none same found = rw (none, same, found) refl

@@ -1,20 +1,24 @@
 -- What the arguments of the program ask for.
-use Rattle.std.specs.Prelude.{ℕ, ◌==◌, ◌||◌, ◌&&◌, not, nat_lt, Bool, true, false, if◌then◌else◌, List, [], ◌∷◌, ◌++◌}
-use Rattle.std.specs.Prelude.{length, get_or, map, codes, bytes_eq, string_bytes, Option, None, Some, Result, Ok, Err}
+use Rattle.std.specs.Prelude.{ℕ, ◌==◌, ◌||◌, ◌&&◌, not, nat_lt, Bool, true, false, if◌then◌else◌, List, [], ◌∷◌}
+use Rattle.std.specs.Prelude.{◌++◌, length, get_or, map, codes, bytes_eq, string_bytes, Option, None, Some, Result, Ok}
+use Rattle.std.specs.Prelude.{Err, unwrap_or}
 use Rattle.std.specs.List.{fold, slice_split}
-use Rattle.std.specs.Option.{ok_or, option_and_then}
+use Rattle.std.specs.Option.{ok_or, option_and_then, option_map}
 use Rattle.packet_fields.specs.declared.form.Form.TheVariants.{Json, Lines}
 use Rattle.dump_captures.specs.Kinds.{kinds, kind_place, kind_text}
+use Rattle.dump_captures.specs.Nearest.{nearest}
 use Rattle.dump_captures.specs.Numbers.{changed_at}
-use Rattle.dump_captures.specs.declared.arguments.Step.TheVariants as step
-use Rattle.dump_captures.specs.declared.arguments.Task.{Task}
-use Rattle.dump_captures.specs.declared.arguments.Task.TheVariants as task
+use Rattle.dump_captures.specs.Settings.{count_in, option_in, setting_of, time_form_in, value_in}
 use Rattle.dump_captures.specs.declared.arguments.Wrong.{Wrong}
-use Rattle.dump_captures.specs.declared.arguments.Wrong.TheVariants.{UnknownOption, UnknownKind, MissingList, NotText}
+use Rattle.dump_captures.specs.declared.arguments.Wrong.TheVariants as wrong
 use Rattle.dump_captures.specs.declared.kind.Kind.{Kind}
 use Rattle.dump_captures.specs.declared.kind.Kind.TheVariants.{Icmp4, Icmp6}
 use Rattle.dump_captures.specs.declared.options.Only.{Only}
 use Rattle.dump_captures.specs.declared.options.Options.{Options}
+use Rattle.dump_captures.specs.declared.options.TimeForm.{TimeForm}
+use Rattle.dump_captures.specs.declared.options.TimeForm.TheVariants.{Utc}
+use Rattle.dump_captures.specs.declared.settings.Setting.{Setting}
+use Rattle.dump_captures.specs.declared.settings.Setting.TheVariants as setting
 
 -- ---- kinds by their names
 
@@ -63,38 +67,36 @@ only_of list = with_names (slice_split (λ octet. octet == 44) list)
 
 -- ---- the task
 
--- What is wrong: a word that is no option, a name in a list that is not a kind's, no list after `--only`, or an
--- argument that is not UTF-8.
+-- What is wrong: a word that is no option, or a name in a list that is not a kind's, with the known word that is
+-- nearest; an option whose value is not one, or is missing; an argument that is not UTF-8.
 pub data WrongValue : Type 0 where
-  unknown_option : List ℕ → WrongValue
-  unknown_kind : List ℕ → WrongValue
-  missing_list : WrongValue
+  unknown_option : List ℕ → Option (List ℕ) → WrongValue
+  unknown_kind : List ℕ → Option (List ℕ) → WrongValue
+  bad_value : Setting → List ℕ → WrongValue
+  missing_value : Setting → WrongValue
   not_text : WrongValue
 
 abbrev pub wrong_value : Wrong → WrongValue
-wrong_value (UnknownOption word) = unknown_option (string_bytes word)
-wrong_value (UnknownKind name) = unknown_kind (string_bytes name)
-wrong_value MissingList = missing_list
-wrong_value NotText = not_text
+wrong_value (wrong.UnknownOption word near) = unknown_option (string_bytes word) (option_map (λ other. other.now) near)
+wrong_value (wrong.UnknownKind name near) = unknown_kind (string_bytes name) (option_map (λ other. other.now) near)
+wrong_value (wrong.BadValue setting text) = bad_value setting (string_bytes text)
+wrong_value (wrong.MissingValue setting) = missing_value setting
+wrong_value wrong.NotText = not_text
 
--- what the program is asked to do, with files by their names
+-- what the program is asked to do, with files by their names; of a host and of a name there are the texts
 pub data TaskValue : Type 0 where
   help : TaskValue
   version : TaskValue
-  dump : Options → List (List ℕ) → TaskValue
+  dump : Options → Option (List ℕ) → Option (List ℕ) → List (List ℕ) → TaskValue
   unknown : WrongValue → TaskValue
 
-abbrev pub task_value : Task → TaskValue
-task_value task.Help = help
-task_value task.Version = version
-task_value (task.Dump options files) = dump options (map string_bytes files.items)
-task_value (task.Unknown wrong) = unknown (wrong_value wrong)
-
--- the arguments so far: what they choose, the files, and what the next ones are
+-- the arguments so far: what they choose, the texts of a host and of a name, the files, and what the next ones are
 pub record ReadingValue : Type 0 where
   pub options : Options
+  pub host : Option (List ℕ)
+  pub name : Option (List ℕ)
   pub files : List (List ℕ)
-  pub wants_kinds : Bool
+  pub wants : Option Setting
   pub wants_files : Bool
 
 -- all packets, and no files
@@ -105,12 +107,18 @@ nothing_read = record {
       kinds = map (λ _. true) kinds;
       hop_by_hop = true;
     };
+    host = None;
+    name = None;
+    most = None;
     prints = true;
     form = Lines;
+    time_form = Utc;
     is_strict = false;
   };
+  host = None;
+  name = None;
   files = [];
-  wants_kinds = false;
+  wants = None;
   wants_files = false;
 }
 
@@ -123,38 +131,83 @@ pub data Reads : Type 0 where
 abbrev pub is_option : List ℕ → Bool
 is_option word = nat_lt 1 (length word) && (get_or word 0 0 == 45)
 
-abbrev pub with_option : List ℕ → ReadingValue → Reads
-with_option word r =
-    if bytes_eq word (codes "--only") then more (record r { wants_kinds = true })
-    else if bytes_eq word (codes "--count") then more (record r { options = record r.options { prints = false } })
-    else if bytes_eq word (codes "--json") then more (record r { options = record r.options { form = Json } })
-    else if bytes_eq word (codes "--strict") then more (record r { options = record r.options { is_strict = true } })
-    else if bytes_eq word (codes "--") then more (record r { wants_files = true })
-    else if bytes_eq word (codes "-n") || bytes_eq word (codes "-r") then more r
-    else if bytes_eq word (codes "--help") || bytes_eq word (codes "-h") then ends help
-    else if bytes_eq word (codes "--version") || bytes_eq word (codes "-V") then ends version
-    else ends (unknown (unknown_option word))
+-- ---- options without a value
 
--- the list of names after `--only`, of which the last list decides
+abbrev pub with_flag : List ℕ → ReadingValue → Option Reads
+with_flag word r =
+    if bytes_eq word (codes "--count") then Some (more (record r { options = record r.options { prints = false } }))
+    else if bytes_eq word (codes "--json") then Some (more (record r { options = record r.options { form = Json } }))
+    else if bytes_eq word (codes "--strict")
+    then Some (more (record r { options = record r.options { is_strict = true } }))
+    else if bytes_eq word (codes "--") then Some (more (record r { wants_files = true }))
+    else if bytes_eq word (codes "-n") || bytes_eq word (codes "-r") then Some (more r)
+    else if bytes_eq word (codes "--help") || bytes_eq word (codes "-h") then Some (ends help)
+    else if bytes_eq word (codes "--version") || bytes_eq word (codes "-V") then Some (ends version)
+    else None
+
+-- ---- options with a value, of which the last one counts
+
+-- the known words, for one that is not known
+abbrev pub option_words : List (List ℕ)
+option_words =
+    codes "--only" ∷ codes "--host" ∷ codes "--name" ∷ codes "--time" ∷ codes "--count" ∷ codes "--json"
+    ∷ codes "--strict" ∷ codes "--help" ∷ codes "--version" ∷ []
+
+abbrev pub kind_words : List (List ℕ)
+kind_words = map kind_text kinds ++ codes "icmp" ∷ codes "hbh" ∷ []
+
 abbrev pub with_only : Result Only (List ℕ) → ReadingValue → Reads
-with_only (Err name) r = ends (unknown (unknown_kind name))
-with_only (Ok only) r = more (record r { options = record r.options { only = only }; wants_kinds = false })
+with_only (Err name) r = ends (unknown (unknown_kind name (nearest name kind_words)))
+with_only (Ok only) r = more (record r { options = record r.options { only = only } })
 
--- `--only` is followed by a list of names, and `--` by files alone.
-abbrev pub with_word : List ℕ → ReadingValue → Reads
-with_word word r =
-    if r.wants_kinds then with_only (only_of word) r
-    else if r.wants_files || not (is_option word) then more (record r { files = r.files ++ word ∷ [] })
+abbrev pub with_most : Option ℕ → List ℕ → ReadingValue → Reads
+with_most None text r = ends (unknown (bad_value setting.Most text))
+with_most (Some count) text r = more (record r { options = record r.options { most = Some count } })
+
+abbrev pub with_time_form : Option TimeForm → List ℕ → ReadingValue → Reads
+with_time_form None text r = ends (unknown (bad_value setting.Time text))
+with_time_form (Some form) text r = more (record r { options = record r.options { time_form = form } })
+
+abbrev pub with_value : Setting → List ℕ → ReadingValue → Reads
+with_value setting.Only text r = with_only (only_of text) r
+with_value setting.Most text r = with_most (count_in text) text r
+with_value setting.Host text r = more (record r { host = Some text })
+with_value setting.Name text r = more (record r { name = Some text })
+with_value setting.Time text r = with_time_form (time_form_in text) text r
+
+-- the value is in the same word, or is the next argument
+abbrev pub with_setting : Option Setting → Option (List ℕ) → List ℕ → ReadingValue → Reads
+with_setting None value word r = ends (unknown (unknown_option word (nearest (option_in word) option_words)))
+with_setting (Some setting) None word r = more (record r { wants = Some setting })
+with_setting (Some setting) (Some value) word r = with_value setting value r
+
+abbrev pub with_option : List ℕ → ReadingValue → Reads
+with_option word r = unwrap_or (with_flag word r) (with_setting (setting_of (option_in word)) (value_in word) word r)
+
+-- ---- the arguments
+
+-- an argument where an option wants its value, or none does; behind `--` are files alone
+abbrev pub with_argument : Option Setting → List ℕ → ReadingValue → Reads
+with_argument (Some setting) word r = with_value setting word (record r { wants = None })
+with_argument None word r =
+    if r.wants_files || not (is_option word) then more (record r { files = r.files ++ word ∷ [] })
     else with_option word r
+
+abbrev pub with_word : List ℕ → ReadingValue → Reads
+with_word word r = with_argument r.wants word r
 
 -- one after another, up to one that tells the task
 abbrev pub then_word : Reads → List ℕ → Reads
 then_word (more r) word = with_word word r
 then_word (ends task) word = ends task
 
--- at the end no list of names may be missing
+-- at the end no value may be missing
+abbrev pub end_of : Option Setting → ReadingValue → TaskValue
+end_of (Some setting) r = unknown (missing_value setting)
+end_of None r = dump r.options r.host r.name r.files
+
 abbrev pub at_end : Reads → TaskValue
-at_end (more r) = if r.wants_kinds then unknown missing_list else dump r.options r.files
+at_end (more r) = end_of r.wants r
 at_end (ends task) = task
 
 unfoldable pub task_of : List (List ℕ) → TaskValue

@@ -1,6 +1,6 @@
 -- What the files of a run print, one after another, and the status at the end.
 use Rattle.std.specs.Prelude.{◌≡◌, ℕ, max, nat_lt, ◌&&◌, Bool, if◌then◌else◌, List, [], ◌∷◌, ◌++◌, length, codes}
-use Rattle.std.specs.Prelude.{bytes_eq, false, true, Option, None, Some}
+use Rattle.std.specs.Prelude.{bytes_eq, false, true, Option}
 use Rattle.capture.specs.declared.ending.Ending.{Ending}
 use Rattle.capture.specs.declared.ending.Ending.TheVariants.{Whole, Version, NotACapture}
 use Rattle.packet_fields.specs.declared.form.Form.{Form}
@@ -9,6 +9,8 @@ use Rattle.dump_captures.specs.Dump.{InputPrints}
 use Rattle.dump_captures.specs.Table.{table_text}
 use Rattle.dump_captures.specs.Tally.{TallyValue, empty}
 use Rattle.dump_captures.specs.declared.options.Options.{Options}
+use Rattle.dump_captures.specs.declared.stop.Stop.{Stop}
+use Rattle.dump_captures.specs.declared.stop.Stop.TheVariants.{Ended, Enough, Unread}
 
 -- ---- the statuses
 
@@ -19,10 +21,11 @@ ending_status Version = 2
 ending_status NotACapture = 2
 ending_status _ = 1
 
--- the same, and of an input that could not be read to its end
-abbrev pub input_status : Option Ending → ℕ
-input_status None = 3
-input_status (Some ending) = ending_status ending
+-- the same, of an input whose packets were read as far as was asked for, and of one that could not be read
+abbrev pub stop_status : Stop → ℕ
+stop_status (Ended ending) = ending_status ending
+stop_status Enough = 0
+stop_status Unread = 3
 
 -- ---- a file
 
@@ -38,7 +41,7 @@ bytes_of_name input file name = if bytes_eq name standard then input else file n
 pub data FilePrints (options : Options) (bytes : Option (List ℕ)) (old : TallyValue) (text : List ℕ)
     (new : TallyValue) (status : ℕ) : Type 0 where
   unopened : text ≡ [] → new ≡ old → status ≡ 2 → FilePrints options bytes old text new status
-  opened : (ending : Option Ending) → InputPrints options bytes old text new ending → status ≡ input_status ending
+  opened : (stop : Stop) → InputPrints options bytes old text new stop → status ≡ stop_status stop
       → FilePrints options bytes old text new status
 
 -- ---- the files

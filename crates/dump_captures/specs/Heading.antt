@@ -1,9 +1,8 @@
 -- The heading of a control packet, and what is in its place in JSON.
-use Rattle.std.specs.Prelude.{ℕ, ◌/◌, ◌%◌, List, [], ◌∷◌, ◌++◌, Option, None, Some, codes, decimal, flat_map, length}
+use Rattle.std.specs.Prelude.{ℕ, List, [], ◌∷◌, ◌++◌, Option, None, Some, codes, decimal, flat_map, length, unwrap_or}
 use Rattle.std.specs.Prelude.{Bool, false, if◌then◌else◌, map, true}
 use Rattle.std.specs.Option.{option_map}
 use Rattle.capture.specs.Packet.{PacketValue}
-use Rattle.capture.specs.Time.{TimeValue}
 use Rattle.frame_wire.specs.Link.{vlan_in}
 use Rattle.frame_wire.specs.declared.datagram.Addresses.{Addresses}
 use Rattle.frame_wire.specs.declared.datagram.Addresses.TheVariants.{V4, V6}
@@ -21,13 +20,11 @@ use Rattle.message_fields.specs.Checksums.{tcp}
 use Rattle.dump_captures.specs.Content.{ContentValue, kind_in, whole}
 use Rattle.dump_captures.specs.Kinds.{kind_text}
 use Rattle.dump_captures.specs.Sight.{HeadersValue}
-use Rattle.dump_captures.specs.TimeText.{time_text}
 use Rattle.dump_captures.specs.declared.path.Passage.{Passage}
 
 -- the time of a packet, where it has one
-abbrev pub packet_time : Option TimeValue → List ℕ
-packet_time None = codes "-"
-packet_time (Some t) = time_text (t.nanoseconds / 1000000000) (t.nanoseconds % 1000000000)
+abbrev pub time_word : Option (List ℕ) → List ℕ
+time_word time = unwrap_or time (codes "-")
 
 abbrev pub source_port : Option (ℕ × ℕ) → Option ℕ
 source_port ports = option_map (λ p. p.0) ports
@@ -93,19 +90,17 @@ is_over_tcp _ = false
 abbrev pub transport_text : Bool → List ℕ
 transport_text over_tcp = if over_tcp then codes " tcp" else []
 
--- the heading of the packet of a number
-unfoldable pub heading : ℕ → PacketValue → HeadersValue → List ℕ
-heading n p h =
-    decimal n ++ codes " " ++ packet_time p.time ++ addresses_text h.addresses h.ports ++ tags_text h.path.tags
+-- the heading of the packet of a number, at this time
+unfoldable pub heading : ℕ → Option (List ℕ) → HeadersValue → List ℕ
+heading n time h =
+    decimal n ++ codes " " ++ time_word time ++ addresses_text h.addresses h.ports ++ tags_text h.path.tags
     ++ tunnels_text h.path.tunnels ++ frames_text h.path.frames ++ hop_by_hop_text h.hop_by_hop
     ++ transport_text (is_over_tcp h.content) ++ codes " " ++ kind_text (kind_in h.content) ++ codes "\n"
 
 -- ---- in JSON
 
-abbrev pub time_items : Option TimeValue → List Item
-time_items None = field (codes "time") missing ∷ []
-time_items (Some t) =
-    field (codes "time") (text (time_text (t.nanoseconds / 1000000000) (t.nanoseconds % 1000000000))) ∷ []
+abbrev pub time_items : Option (List ℕ) → List Item
+time_items time = field (codes "time") (leaf_or_missing text time) ∷ []
 
 abbrev pub link_items : ℕ → List Item
 link_items n = named (codes "link") n (name_in link_names n) ∷ []
@@ -166,9 +161,9 @@ path_items h =
     ++ transport_items (is_over_tcp h.content)
 
 -- all members after the number
-abbrev pub head_items : PacketValue → HeadersValue → List Item
-head_items p h =
-    time_items p.time
+abbrev pub head_items : Option (List ℕ) → PacketValue → HeadersValue → List Item
+head_items time p h =
+    time_items time
     ++ link_items p.link_type
     ++ length_items (length p.octets) p.original_len
     ++ path_items h

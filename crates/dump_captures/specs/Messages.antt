@@ -35,13 +35,15 @@ ContentIs options (content.whole m) items why = WholeIs options m items why
 ContentIs options (content.cut m missing counted) items why = CutIs options.form missing m items × (why ≡ Some counted)
 ContentIs options (content.refused kind counted r) items why = (items ≡ refused_items r) × (why ≡ Some counted)
 
--- the checksum of the IPv4 header, where it is wrong, and the reason under which such a packet is counted
+-- the checksum of the IPv4 header, where it is wrong, and the reason under which such a packet is counted: a cut comes
+-- before a checksum, and a checksum before all others
 abbrev pub header_items : Bool → List Item
 header_items true = field (codes "ip_checksum") (text (codes "bad")) ∷ []
 header_items false = []
 
 abbrev pub header_reason : ContentValue → Option Reason
-header_reason (content.cut m missing counted) = Some counted
+header_reason (content.cut m missing reason.Cut) = Some reason.Cut
+header_reason (content.refused kind reason.Cut r) = Some reason.Cut
 header_reason _ = Some reason.Checksum
 
 -- the first of two reasons: that of the header, and that of the content

@@ -1,8 +1,13 @@
--- Times as RFC 3339 writes them (section 5.6), in UTC and with nine digits of a second.
-use Rattle.std.specs.Prelude.{ℕ, ◌/◌, ◌==◌, if◌then◌else◌, List, [], ◌++◌, codes, decimal}
+-- The texts of times: as RFC 3339 writes them (section 5.6), in UTC and with nine digits of a second, and in seconds.
+use Rattle.std.specs.Prelude.{ℕ, ◌-◌, ◌/◌, ◌%◌, ◌==◌, nat_lt, Bool, true, false, if◌then◌else◌, List, [], ◌++◌, codes}
+use Rattle.std.specs.Prelude.{decimal}
 use Rattle.wirebase.specs.Digits.{last_digits}
 use Rattle.capture.specs.Calendar.{date_of}
 use Rattle.capture.specs.TimeText.{date_text, clock_text}
+use Rattle.dump_captures.specs.declared.options.TimeForm.{TimeForm}
+use Rattle.dump_captures.specs.declared.options.TimeForm.TheVariants.{Utc, Relative, Delta, Epoch}
+
+-- ---- in UTC
 
 -- hour, minute and second of a number of seconds, and the digits of nanoseconds
 unfoldable pub time_of_day_text : ℕ → ℕ → List ℕ
@@ -20,3 +25,27 @@ year_front ten_thousands = if ten_thousands == 0 then [] else decimal ten_thousa
 -- a time whose digits before these of its year are those of a number
 abbrev pub long_text : ℕ → List ℕ → List ℕ
 long_text ten_thousands text = year_front ten_thousands ++ text
+
+-- ---- seconds
+
+-- a number of nanoseconds as seconds, with nine digits behind the point
+unfoldable pub seconds_text : ℕ → List ℕ
+seconds_text nanoseconds =
+    decimal (nanoseconds / 1000000000) ++ (codes "." ++ last_digits 9 (nanoseconds % 1000000000))
+
+abbrev pub sign_text : Bool → List ℕ
+sign_text is_negative = if is_negative then codes "-" else []
+
+-- the time from one moment to another, with a hyphen before it where the other is earlier
+unfoldable pub difference_text : ℕ → ℕ → List ℕ
+difference_text from to =
+    if nat_lt to from then sign_text true ++ seconds_text (from - to) else sign_text false ++ seconds_text (to - from)
+
+-- ---- the time of a packet
+
+-- in a form, of which two count from the time of an earlier packet
+abbrev pub form_text : TimeForm → ℕ → ℕ → List ℕ
+form_text Utc from nanoseconds = time_text (nanoseconds / 1000000000) (nanoseconds % 1000000000)
+form_text Relative from nanoseconds = difference_text from nanoseconds
+form_text Delta from nanoseconds = difference_text from nanoseconds
+form_text Epoch from nanoseconds = seconds_text nanoseconds

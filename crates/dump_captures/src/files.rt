@@ -10,6 +10,7 @@ use crate::Fault;
 use crate::options::Options;
 use crate::packets::dump_readable;
 use crate::reports::{report_counts, report_ending, report_unopened, report_unread};
+use crate::stop::Stop;
 use crate::table::show_table;
 use crate::tally::Tally;
 use capture::Ending;
@@ -17,7 +18,7 @@ use packet_fields::Form;
 use std::io;
 use std::io::{Read, Write};
 
-/// The status where all was read.
+/// The status where all was read that is asked for.
 pub const WHOLE: u8 = 0;
 
 /// The status where a capture ends within a record, or its continuation is not one.
@@ -224,17 +225,18 @@ fn dump_input<R: Read + Drop, W: Write>(
         is_begun: false,
         is_gzip: false,
     };
-    let ending = dump_readable(rt.alloc(), options, &mut input, output, tally)?;
+    let stop = dump_readable(rt.alloc(), options, &mut input, output, tally)?;
     if options.prints {
         report_counts(rt, Some(name), tally)?;
     }
     let packets = tally.packets.saturating_sub(before);
-    match ending {
-        Some(ending) => {
+    match stop {
+        Stop::Ended(ending) => {
             report_ending(rt, name, ending, packets, input.is_gzip);
             Ok(status_of(ending))
         }
-        None => {
+        Stop::Enough => Ok(WHOLE),
+        Stop::Unread => {
             report_unread(rt, name, input.error, packets);
             Ok(FAILED)
         }

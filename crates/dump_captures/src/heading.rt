@@ -2,23 +2,22 @@
 
 #![tactic(auto, using(packet_fields::proofs::Printing::gained, packet_fields::proofs::Printing::gains_both))]
 
-ghost use Rattle.std.specs.Prelude.{◌≡◌, ◌<◌, ◌≤◌, IfSome, OnOk, Some, decimal, length};
+ghost use Rattle.std.specs.Prelude.{◌≡◌, ◌≤◌, OnOk, Some, decimal, length};
 ghost use Rattle.frame_wire.specs.Link.{vlan_in};
 ghost use Rattle.std.specs.Option.{option_map};
 ghost use Rattle.frame_wire.specs.declared.datagram.Addresses.TheVariants.{V4, V6};
-ghost use Rattle.capture.specs.Capture.{packet_of};
-ghost use Rattle.capture.specs.Time.{value_of};
 ghost use Rattle.packet_fields.specs.Output.{Gains};
-ghost use Rattle.dump_captures.specs.Heading.{heading, packet_time, addresses_text, source_port as source_in};
+ghost use Rattle.dump_captures.specs.Heading.{heading, time_word, addresses_text, source_port as source_in};
 ghost use Rattle.dump_captures.specs.Heading.{destination_port as destination_in, frames_text, tag_text, tags_text, hop_by_hop_text};
 ghost use Rattle.dump_captures.specs.Heading.{transport_text};
 ghost use Rattle.dump_captures.specs.Sight.{headers_of};
+ghost use Rattle.dump_captures.specs.Moments.{when_text};
 
 use crate::numbers::Numbers;
 use crate::sight::Headers;
 use crate::time::Clock;
 use crate::tunnels::show_tunnels;
-use capture::{Record, Time};
+use crate::when::When;
 use frame_wire::Addresses;
 use packet_fields::Form;
 use packet_fields::output::ToWriter;
@@ -33,21 +32,20 @@ pub(crate) const TAG_LEN: usize = 4;
 
 const VLAN: Field = 0..2;
 
-/// Prints the heading of a control packet. Requires that the packet's time, where it has one, is in order.
+/// Prints the heading of the control packet of a number.
 pub fn show_heading<W: Write>(
     output: &mut W,
     clock: &mut Clock,
-    captured: &Record,
-    octets: &[u8],
+    when: Option<When>,
+    number: u64,
     headers: &Headers<'_>,
 ) -> io::Result<()>
-    requires { IfSome captured.now.time (λ time. time.nanoseconds < 1000000000) }
     ensures { OnOk result (Gains (W.contents output.old) (W.contents output.new)
-        (heading captured.now.number (packet_of captured.now octets.now) (headers_of headers.now))) }
+        (heading number (option_map when_text when) (headers_of headers.now))) }
 {
-    captured.number.put(output, Form::Lines)?;
+    number.put(output, Form::Lines)?;
     output.write_all(b" ")?;
-    show_time(output, clock, captured.time)?;
+    show_time(output, clock, when)?;
     show_addresses(output, headers.addresses, headers.ports)?;
     show_tags(output, headers.path.tags)?;
     show_tunnels(output, &headers.path.tunnels)?;
@@ -60,17 +58,12 @@ pub fn show_heading<W: Write>(
 }
 
 // Prints the time at which a packet was captured, where it is known.
-fn show_time<W: Write>(output: &mut W, clock: &mut Clock, time: Option<Time>) -> io::Result<()>
-    requires { IfSome time (λ time. time.nanoseconds < 1000000000) }
+fn show_time<W: Write>(output: &mut W, clock: &mut Clock, when: Option<When>) -> io::Result<()>
     ensures { OnOk result (Gains (W.contents output.old) (W.contents output.new)
-        (packet_time (option_map value_of time))) }
+        (time_word (option_map when_text when))) }
 {
-    match time {
-        Some(time) => put_text(
-            output,
-            Form::Lines,
-            clock.time(time.seconds, time.nanoseconds),
-        ),
+    match when {
+        Some(when) => put_text(output, Form::Lines, when.word(clock)),
         None => output.write_all(b"-"),
     }
 }

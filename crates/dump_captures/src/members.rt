@@ -2,15 +2,15 @@
 
 #![tactic(auto, using(packet_fields::proofs::Fields::prints_both, packet_fields::proofs::Fields::prints_none, packet_fields::proofs::Printing::gained, packet_fields::proofs::Printing::gains_both, packet_fields::proofs::Printing::gains_none))]
 
-ghost use Rattle.std.specs.Prelude.{◌<◌, ◌≤◌, IfSome, OnOk, length, true};
+ghost use Rattle.std.specs.Prelude.{◌≤◌, OnOk, length, true};
 ghost use Rattle.std.specs.Option.{option_map};
 ghost use Rattle.capture.specs.Capture.{packet_of};
-ghost use Rattle.capture.specs.Time.{value_of};
 ghost use Rattle.packet_fields.specs.Fields.{AllFit, comma_unless, leaf_text, numbers};
 ghost use Rattle.packet_fields.specs.Output.{Gains};
 ghost use Rattle.packet_fields.specs.Prints.{Prints};
 ghost use Rattle.dump_captures.specs.Heading.{addresses_items, ends_items, frame_items, head_items, length_items};
 ghost use Rattle.dump_captures.specs.Heading.{link_items, path_items, port_items, time_items, transport_items, vlans_of};
+ghost use Rattle.dump_captures.specs.Moments.{when_text};
 ghost use Rattle.dump_captures.specs.private.Vlans.{one_of, run_from};
 ghost use Rattle.dump_captures.specs.Sight.{headers_of};
 
@@ -19,7 +19,8 @@ use crate::numbers::Numbers;
 use crate::sight::Headers;
 use crate::time::Clock;
 use crate::tunnels::show_tunnel_members;
-use capture::{Record, Time};
+use crate::when::When;
+use capture::Record;
 use frame_wire::Addresses;
 use frame_wire::names::link_name;
 use packet_fields::Form;
@@ -28,19 +29,19 @@ use packet_fields::value::Value;
 use std::io;
 use std::io::Write;
 
-/// Prints the members. Requires that the packet's time, where it has one, is in order.
+/// Prints the members.
 pub fn show_members<W: Write>(
     output: &mut W,
     clock: &mut Clock,
+    when: Option<When>,
     captured: &Record,
     octets: &[u8],
     headers: &Headers<'_>,
 ) -> io::Result<()>
-    requires { IfSome captured.now.time (λ time. time.nanoseconds < 1000000000) }
     ensures { OnOk result (Prints Form.Json (W.contents output.old) (W.contents output.new)
-        (head_items (packet_of captured.now octets.now) (headers_of headers.now))) }
+        (head_items (option_map when_text when) (packet_of captured.now octets.now) (headers_of headers.now))) }
 {
-    show_time(output, clock, captured.time)?;
+    show_time(output, clock, when)?;
     show_link(output, captured.link_type)?;
     show_lengths(output, octets.len() as u64, captured.original_len)?;
     show_path(output, headers)?;
@@ -48,16 +49,12 @@ pub fn show_members<W: Write>(
 }
 
 // Prints the time at which the packet was captured.
-fn show_time<W: Write>(output: &mut W, clock: &mut Clock, time: Option<Time>) -> io::Result<()>
-    requires { IfSome time (λ time. time.nanoseconds < 1000000000) }
+fn show_time<W: Write>(output: &mut W, clock: &mut Clock, when: Option<When>) -> io::Result<()>
     ensures { OnOk result (Prints Form.Json (W.contents output.old) (W.contents output.new)
-        (time_items (option_map value_of time))) }
+        (time_items (option_map when_text when))) }
 {
-    match time {
-        Some(time) => {
-            let text = clock.time(time.seconds, time.nanoseconds);
-            field(output, Form::Json, "time", text)
-        }
+    match when {
+        Some(when) => field(output, Form::Json, "time", when.word(clock)),
         None => field(output, Form::Json, "time", None::<&str>),
     }
 }

@@ -66,7 +66,7 @@ fn header_reason(content: &Content<'_>) -> Reason
     ensures { Some result ≡ header_reason (content_of content.now) }
 {
     match content {
-        Content::Cut(_, _, reason) => *reason,
+        Content::Cut(_, _, Reason::Cut) | Content::Refused(_, Reason::Cut, _) => Reason::Cut,
         _ => Reason::Checksum,
     }
 }

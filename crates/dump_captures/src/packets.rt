@@ -1,6 +1,7 @@
 //! The packets of a capture, in one pass.
 
 ghost use Rattle.std.specs.Prelude.{◌≡◌, ◌<◌, ◌-◌, ◌^◌, length, List, Option, [], IfOk, IfSome, OnOk};
+ghost use Rattle.std.specs.Option.{option_map};
 ghost use Rattle.capture.specs.Capture.{packet_of};
 ghost use Rattle.std.specs.Io.Buffered.{reader_remaining};
 ghost use Rattle.packet_fields.specs.Output.{Gains, GainsSome};
@@ -10,13 +11,16 @@ ghost use Rattle.reassembly.specs.Fragment.{value_of};
 ghost use Rattle.reassembly.specs.Partial.{whole_of};
 ghost use Rattle.reassembly.specs.Reassembly.{state_of};
 ghost use Rattle.dump_captures.specs.Dump.{CapturePrints, ControlPrints, FragmentAdds, InputPrints, PacketPrints};
-ghost use Rattle.dump_captures.specs.Dump.{EachTells, SightPrints, Tells, WholePrints, first_reason, outcome_of};
+ghost use Rattle.dump_captures.specs.Dump.{EachPrints, HeadersPrint, SightPrints, WholePrints, joined_outcome, outcome_of};
+ghost use Rattle.dump_captures.specs.Content.{content_of, kind_in};
+ghost use Rattle.dump_captures.specs.Moments.{when_text};
 ghost use Rattle.dump_captures.specs.Messages.{ListingIs};
 ghost use Rattle.dump_captures.specs.Path.{path_of};
 ghost use Rattle.dump_captures.specs.private.Objects.{object_front};
-ghost use Rattle.dump_captures.specs.Sight.{control, headers_of, sight_of, stream, stream_of};
+ghost use Rattle.dump_captures.specs.Sight.{headers_of, sight_of, stream_of};
 ghost use Rattle.dump_captures.specs.Tally.{tally_of, empty};
 ghost use Rattle.dump_captures.specs.declared.kind.Reason.{Reason as AnyReason};
+ghost use Rattle.dump_captures.specs.declared.tally.Outcome.TheVariants.{Passed};
 
 use crate::Fault;
 use crate::fragments::{look_at_joined, refused_fragment};
@@ -26,10 +30,13 @@ use crate::members::show_members;
 use crate::messages::show_listing;
 use crate::options::Options;
 use crate::path::Path;
+use crate::progress::Progress;
 use crate::refusal::Refusal;
 use crate::sight::{Finding, Headers, Segment, Sight, look, protocol_category};
+use crate::stop::Stop;
 use crate::tally::{Counted, Outcome, Tally};
 use crate::time::Clock;
+use crate::when::When;
 use capture::{Capture, Ending, Next, Record};
 use packet_fields::Form;
 use packet_fields::value::{Value, put_string};
@@ -44,8 +51,8 @@ const BUFFER_LEN: usize = 65_536;
 /// The result of the dump of a capture.
 #[derive(Drop)]
 pub struct Report<W> {
-    /// What ends the capture.
-    pub ending: Ending,
+    /// What ends the capture; None where its reading stopped after as many packets as were asked for.
+    pub ending: Option<Ending>,
     /// The counts of its packets.
     pub tally: Tally,
     /// The output, with all that was printed written out.
@@ -87,38 +94,39 @@ pub fn dump<R: Read + Drop, W: Write>(
     input: R,
     output: &mut W,
     tally: &mut Tally,
-) -> Result<Ending, Fault>
+) -> Result<Option<Ending>, Fault>
     ensures { IfOk result (λ ending. IfSome (R.remaining input) (λ bytes.
         GainsSome (W.contents output.old) (W.contents output.new) (λ text.
         CapturePrints options.now bytes (tally_of tally.old) text (tally_of tally.new) ending))) }
 {
     match dump_readable(alloc, options, input, output, tally)? {
-        Some(ending) => Ok(ending),
-        None => Err(Fault::Read),
+        Stop::Ended(ending) => Ok(Some(ending)),
+        Stop::Enough => Ok(None),
+        Stop::Unread => Err(Fault::Read),
     }
 }
 
-/// Dumps as far as the input can be read. None is returned where a read failed.
+/// Dumps as far as the input can be read, or as is asked for.
 pub fn dump_readable<R: Read + Drop, W: Write>(
     alloc: Global,
     options: &Options,
     input: R,
     output: &mut W,
     tally: &mut Tally,
-) -> Result<Option<Ending>, Fault>
-    ensures { IfOk result (λ ending. GainsSome (W.contents output.old) (W.contents output.new) (λ text.
-        InputPrints options.now (R.remaining input) (tally_of tally.old) text (tally_of tally.new) ending)) }
+) -> Result<Stop, Fault>
+    ensures { IfOk result (λ stop. GainsSome (W.contents output.old) (W.contents output.new) (λ text.
+        InputPrints options.now (R.remaining input) (tally_of tally.old) text (tally_of tally.new) stop)) }
 {
     let Ok(mut input) = BufReader::with_capacity(alloc, BUFFER_LEN, input) else {
         return Err(Fault::Memory);
     };
     let answer = show_packets(alloc, options, &mut input, output, tally);
     let flushed = output.flush();
-    let ending = answer?;
-    if ending.is_some() {
+    let stop = answer?;
+    if stop != Stop::Unread {
         flushed?;
     }
-    Ok(ending)
+    Ok(stop)
 }
 
 // What is kept from packet to packet of a capture.
@@ -128,38 +136,46 @@ struct Kept {
     fragments: Reassembly,
 }
 
-// Prints the packets, and returns what ends them, or None where a read failed. What is printed is written out before
-// the input is waited for.
+// Prints the packets, and returns where the reading stops. What is printed is written out before the input is waited
+// for.
 fn show_packets<R: Read, W: Write>(
     alloc: Global,
     options: &Options,
     input: &mut BufReader<R>,
     output: &mut W,
     tally: &mut Tally,
-) -> Result<Option<Ending>, Fault>
-    ensures { IfOk result (λ ending. GainsSome (W.contents output.old) (W.contents output.new) (λ text.
+) -> Result<Stop, Fault>
+    ensures { IfOk result (λ stop. GainsSome (W.contents output.old) (W.contents output.new) (λ text.
         InputPrints options.now (reader_remaining R.remaining input.old) (tally_of tally.old) text (tally_of tally.new)
-        ending)) }
+        stop)) }
 {
     let mut capture = Capture::new(alloc);
     let mut kept = Kept {
         clock: Clock::new(),
         fragments: Reassembly::new(alloc),
     };
+    let mut progress = Progress::new(options);
     'packets: for _ in 0..u64::MAX {
+        if progress.is_enough() {
+            return Ok(Stop::Enough);
+        }
         write_out_before_wait(&capture, input, output)?;
         match capture.next(input) {
             Ok(Next::Record(record)) => {
                 let octets = capture.octets();
-                let counted = show_packet(options, output, alloc, &mut kept, &record, octets)?;
+                let when = progress.when(record.time);
+                let counted = show_packet(
+                    options, output, alloc, &mut kept, when, &record, octets,
+                )?;
+                progress.pass(record.time, counted.outcome);
                 tally.count(counted, record.link_type, octets.len() as u64);
             }
-            Ok(Next::Ended(ending)) => return Ok(Some(ending)),
-            Err(capture::Fault::Read) => return Ok(None),
+            Ok(Next::Ended(ending)) => return Ok(Stop::Ended(ending)),
+            Err(capture::Fault::Read) => return Ok(Stop::Unread),
             Err(fault) => return Err(Fault::from(fault)),
         }
     }
-    Ok(None)
+    Ok(Stop::Unread)
 }
 
 // Writes out what was printed, where the reading of the next packet has to wait for more of the input.
@@ -176,18 +192,18 @@ fn write_out_before_wait<R: Read, W: Write>(
     Ok(())
 }
 
-// Prints a packet, or the datagram that was put together with it. Requires that the record's time is in order.
+// Prints a packet, or the datagram that was put together with it.
 fn show_packet<W: Write>(
     options: &Options,
     output: &mut W,
     alloc: Global,
     kept: &mut Kept,
+    when: Option<When>,
     captured: &Record,
     octets: &[u8],
 ) -> Result<Counted, Fault>
-    requires { IfSome captured.now.time (λ time. time.nanoseconds < 1000000000) }
     ensures { IfOk result (λ counted. GainsSome (W.contents output.old) (W.contents output.new) (λ text.
-        PacketPrints options.now captured.now.number (packet_of captured.now octets.now) (state_of kept.old.fragments)
+        PacketPrints options.now captured.now.number (option_map when_text when) (packet_of captured.now octets.now) (state_of kept.old.fragments)
         text counted (state_of kept.new.fragments))) }
 {
     match look(captured, octets) {
@@ -197,6 +213,7 @@ fn show_packet<W: Write>(
                 output,
                 alloc,
                 &mut kept.clock,
+                when,
                 captured,
                 octets,
                 &sight,
@@ -205,7 +222,7 @@ fn show_packet<W: Write>(
         }
         Finding::Fragment(path, fragment) => {
             show_fragment(
-                options, output, alloc, kept, captured, octets, &path, &fragment,
+                options, output, alloc, kept, when, captured, octets, &path, &fragment,
             )
         }
     }
@@ -218,14 +235,14 @@ fn show_fragment<W: Write>(
     output: &mut W,
     alloc: Global,
     kept: &mut Kept,
+    when: Option<When>,
     captured: &Record,
     octets: &[u8],
     path: &Path<'_>,
     fragment: &Fragment<'_>,
 ) -> Result<Counted, Fault>
-    requires { IfSome captured.now.time (λ time. time.nanoseconds < 1000000000) }
     ensures { IfOk result (λ counted. GainsSome (W.contents output.old) (W.contents output.new) (λ text.
-        FragmentAdds options.now captured.now.number (packet_of captured.now octets.now) (path_of path.now)
+        FragmentAdds options.now captured.now.number (option_map when_text when) (packet_of captured.now octets.now) (path_of path.now)
         (value_of fragment.now) (state_of kept.old.fragments) text counted (state_of kept.new.fragments))) }
 {
     let Ok(answer) = kept.fragments.add(alloc, captured.number, fragment) else {
@@ -238,11 +255,15 @@ fn show_fragment<W: Write>(
         )))),
         Answer::Refused(refusal) => {
             let sight = refused_fragment(path, fragment, Refusal::Fragment(*refusal));
-            let outcome = show_sight(options, output, alloc, clock, captured, octets, &sight)?;
+            let outcome = show_sight(
+                options, output, alloc, clock, when, captured, octets, &sight,
+            )?;
             Ok(Counted::alone(outcome))
         }
         Answer::Whole(whole) => {
-            let counted = show_whole(options, output, alloc, clock, captured, octets, path, whole)?;
+            let counted = show_whole(
+                options, output, alloc, clock, when, captured, octets, path, whole,
+            )?;
             Ok(counted)
         }
     }
@@ -254,14 +275,14 @@ fn show_whole<W: Write>(
     output: &mut W,
     alloc: Global,
     clock: &mut Clock,
+    when: Option<When>,
     captured: &Record,
     octets: &[u8],
     path: &Path<'_>,
     whole: &Whole,
 ) -> Result<Counted, Fault>
-    requires { IfSome captured.now.time (λ time. time.nanoseconds < 1000000000) }
     ensures { IfOk result (λ counted. GainsSome (W.contents output.old) (W.contents output.new) (λ text.
-        WholePrints options.now captured.now.number (packet_of captured.now octets.now) (path_of path.now)
+        WholePrints options.now captured.now.number (option_map when_text when) (packet_of captured.now octets.now) (path_of path.now)
         (whole_of whole.now) text counted)) }
 {
     let path = Path {
@@ -270,7 +291,9 @@ fn show_whole<W: Write>(
         frames: whole.numbers.as_slice(),
     };
     let sight = look_at_joined(captured, octets, &path, whole);
-    let outcome = show_sight(options, output, alloc, clock, captured, octets, &sight)?;
+    let outcome = show_sight(
+        options, output, alloc, clock, when, captured, octets, &sight,
+    )?;
     Ok(Counted {
         outcome,
         joined: all_but_one(whole.numbers.as_slice()),
@@ -290,22 +313,26 @@ fn show_sight<W: Write>(
     output: &mut W,
     alloc: Global,
     clock: &mut Clock,
+    when: Option<When>,
     captured: &Record,
     octets: &[u8],
     sight: &Sight<'_>,
 ) -> Result<Outcome, Fault>
-    requires { IfSome captured.now.time (λ time. time.nanoseconds < 1000000000) }
     ensures { IfOk result (λ outcome. GainsSome (W.contents output.old) (W.contents output.new) (λ text.
-        SightPrints options.now captured.now.number (packet_of captured.now octets.now) (sight_of sight.now) text outcome)) }
+        SightPrints options.now captured.now.number (option_map when_text when) (packet_of captured.now octets.now) (sight_of sight.now) text outcome)) }
 {
     match sight {
         Sight::Unread => Ok(Outcome::Unread),
         Sight::Other(category) => Ok(Outcome::Other(*category)),
         Sight::Control(headers) => {
-            show_control(options, output, alloc, clock, captured, octets, headers)
+            show_control(
+                options, output, alloc, clock, when, captured, octets, headers,
+            )
         }
         Sight::Segment(segment) => {
-            show_segment(options, output, alloc, clock, captured, octets, segment)
+            show_segment(
+                options, output, alloc, clock, when, captured, octets, segment,
+            )
         }
     }
 }
@@ -317,54 +344,35 @@ fn show_segment<W: Write>(
     output: &mut W,
     alloc: Global,
     clock: &mut Clock,
+    when: Option<When>,
     captured: &Record,
     octets: &[u8],
     segment: &Segment<'_>,
 ) -> Result<Outcome, Fault>
-    requires { IfSome captured.now.time (λ time. time.nanoseconds < 1000000000) }
     ensures { IfOk result (λ outcome. GainsSome (W.contents output.old) (W.contents output.new) (λ text.
-        SightPrints options.now captured.now.number (packet_of captured.now octets.now) (stream (stream_of segment.now))
-        text outcome)) }
-{
-    if !options.only.chooses(&segment.headers(&[])) {
-        return Ok(Outcome::Passed);
-    }
-    let why = tell_each(options, output, alloc, clock, captured, octets, segment)?;
-    Ok(outcome(Kind::Dns, why))
-}
-
-// Prints each message in a segment, and returns the first reason for which one is refused or read in part.
-fn tell_each<W: Write>(
-    options: &Options,
-    output: &mut W,
-    alloc: Global,
-    clock: &mut Clock,
-    captured: &Record,
-    octets: &[u8],
-    segment: &Segment<'_>,
-) -> Result<Option<Reason>, Fault>
-    requires { IfSome captured.now.time (λ time. time.nanoseconds < 1000000000) }
-    ensures { IfOk result (λ why. GainsSome (W.contents output.old) (W.contents output.new)
-        (EachTells options.now captured.now.number (packet_of captured.now octets.now) (stream_of segment.now)
-        (messages_of segment.now.messages) why)) }
+        EachPrints options.now captured.now.number (option_map when_text when) (packet_of captured.now octets.now)
+        (stream_of segment.now) Passed (messages_of segment.now.messages) text outcome)) }
 {
     let mut messages = segment.messages.messages();
-    let mut why = None;
+    let mut outcome = Outcome::Passed;
     while let Some(message) = messages.next() {
         let headers = segment.headers(message);
-        let told = tell(options, output, alloc, clock, captured, octets, &headers)?;
-        why = first_reason(why, told);
+        let own = show_control(
+            options, output, alloc, clock, when, captured, octets, &headers,
+        )?;
+        outcome = joined_outcome(outcome, own);
     }
-    Ok(why)
+    Ok(outcome)
 }
 
-// The first of two reasons.
-fn first_reason(why: Option<Reason>, other: Option<Reason>) -> Option<Reason>
-    ensures { result ≡ first_reason why other }
+// What becomes of a packet with several messages, after some and one more.
+fn joined_outcome(so_far: Outcome, next: Outcome) -> Outcome
+    ensures { result ≡ joined_outcome so_far next }
 {
-    match why {
-        Some(reason) => Some(reason),
-        None => other,
+    match (so_far, next) {
+        (Outcome::Passed, next) => next,
+        (Outcome::Listed(_), Outcome::Refused(kind, reason)) => Outcome::Refused(kind, reason),
+        (so_far, _) => so_far,
     }
 }
 
@@ -376,40 +384,25 @@ fn show_control<W: Write>(
     output: &mut W,
     alloc: Global,
     clock: &mut Clock,
+    when: Option<When>,
     captured: &Record,
     octets: &[u8],
     headers: &Headers<'_>,
 ) -> Result<Outcome, Fault>
-    requires { IfSome captured.now.time (λ time. time.nanoseconds < 1000000000) }
     ensures { IfOk result (λ outcome. GainsSome (W.contents output.old) (W.contents output.new) (λ text.
-        SightPrints options.now captured.now.number (packet_of captured.now octets.now) (control (headers_of headers.now))
-        text outcome)) }
+        HeadersPrint options.now captured.now.number (option_map when_text when) (packet_of captured.now octets.now)
+        (headers_of headers.now) text outcome)) }
 {
-    if !options.only.chooses(headers) {
+    if !options.chooses(headers) {
         return Ok(Outcome::Passed);
     }
-    let why = tell(options, output, alloc, clock, captured, octets, headers)?;
-    Ok(outcome(headers.content.kind(), why))
-}
-
-// Prints a control packet that is chosen, or only reads it where packets are counted.
-fn tell<W: Write>(
-    options: &Options,
-    output: &mut W,
-    alloc: Global,
-    clock: &mut Clock,
-    captured: &Record,
-    octets: &[u8],
-    headers: &Headers<'_>,
-) -> Result<Option<Reason>, Fault>
-    requires { IfSome captured.now.time (λ time. time.nanoseconds < 1000000000) }
-    ensures { IfOk result (λ why. GainsSome (W.contents output.old) (W.contents output.new)
-        (Tells options.now captured.now.number (packet_of captured.now octets.now) (headers_of headers.now) why)) }
-{
     if !options.prints {
-        return read_alone(options, alloc, headers);
+        return count_alone(options, alloc, headers);
     }
-    show_chosen(options, output, alloc, clock, captured, octets, headers)
+    let why = show_chosen(
+        options, output, alloc, clock, when, captured, octets, headers,
+    )?;
+    Ok(outcome(headers.content.kind(), why))
 }
 
 // Prints a control packet in the form that is asked for.
@@ -418,17 +411,21 @@ fn show_chosen<W: Write>(
     output: &mut W,
     alloc: Global,
     clock: &mut Clock,
+    when: Option<When>,
     captured: &Record,
     octets: &[u8],
     headers: &Headers<'_>,
 ) -> Result<Option<Reason>, Fault>
-    requires { IfSome captured.now.time (λ time. time.nanoseconds < 1000000000) }
     ensures { IfOk result (λ why. GainsSome (W.contents output.old) (W.contents output.new)
-        (ControlPrints options.now captured.now.number (packet_of captured.now octets.now) (headers_of headers.now) why)) }
+        (ControlPrints options.now captured.now.number (option_map when_text when) (packet_of captured.now octets.now) (headers_of headers.now) why)) }
 {
     match options.form {
-        Form::Lines => show_lines(options, output, alloc, clock, captured, octets, headers),
-        Form::Json => show_object(options, output, alloc, clock, captured, octets, headers),
+        Form::Lines => show_lines(
+            options, output, alloc, clock, when, captured, octets, headers,
+        ),
+        Form::Json => show_object(
+            options, output, alloc, clock, when, captured, octets, headers,
+        ),
     }
 }
 
@@ -438,16 +435,16 @@ fn show_lines<W: Write>(
     output: &mut W,
     alloc: Global,
     clock: &mut Clock,
+    when: Option<When>,
     captured: &Record,
     octets: &[u8],
     headers: &Headers<'_>,
 ) -> Result<Option<Reason>, Fault>
-    requires time { IfSome captured.now.time (λ time. time.nanoseconds < 1000000000) }
-    requires form { options.now.form ≡ Form.Lines }
+    requires { options.now.form ≡ Form.Lines }
     ensures { IfOk result (λ why. GainsSome (W.contents output.old) (W.contents output.new)
-        (ControlPrints options.now captured.now.number (packet_of captured.now octets.now) (headers_of headers.now) why)) }
+        (ControlPrints options.now captured.now.number (option_map when_text when) (packet_of captured.now octets.now) (headers_of headers.now) why)) }
 {
-    show_heading(output, clock, captured, octets, headers)?;
+    show_heading(output, clock, when, captured.number, headers)?;
     show_listing(options, output, alloc, headers)
 }
 
@@ -457,17 +454,17 @@ fn show_object<W: Write>(
     output: &mut W,
     alloc: Global,
     clock: &mut Clock,
+    when: Option<When>,
     captured: &Record,
     octets: &[u8],
     headers: &Headers<'_>,
 ) -> Result<Option<Reason>, Fault>
-    requires time { IfSome captured.now.time (λ time. time.nanoseconds < 1000000000) }
-    requires form { options.now.form ≡ Form.Json }
+    requires { options.now.form ≡ Form.Json }
     ensures { IfOk result (λ why. GainsSome (W.contents output.old) (W.contents output.new)
-        (ControlPrints options.now captured.now.number (packet_of captured.now octets.now) (headers_of headers.now) why)) }
+        (ControlPrints options.now captured.now.number (option_map when_text when) (packet_of captured.now octets.now) (headers_of headers.now) why)) }
 {
     open_object(output, captured.number)?;
-    show_members(output, clock, captured, octets, headers)?;
+    show_members(output, clock, when, captured, octets, headers)?;
     let why = show_listing(options, output, alloc, headers)?;
     output.write_all(b"}\n")?;
     Ok(why)
@@ -485,15 +482,12 @@ fn open_object<W: Write>(output: &mut W, number: u64) -> io::Result<()>
 }
 
 // Reads a control packet that is only counted.
-fn read_alone(
-    options: &Options,
-    alloc: Global,
-    headers: &Headers<'_>,
-) -> Result<Option<Reason>, Fault>
-    ensures { IfOk result (λ why. (items : List Item) × ListingIs options.now (headers_of headers.now) items why) }
+fn count_alone(options: &Options, alloc: Global, headers: &Headers<'_>) -> Result<Outcome, Fault>
+    ensures { IfOk result (λ outcome. (items : List Item) × (why : Option AnyReason)
+        × ListingIs options.now (headers_of headers.now) items why × (outcome ≡ outcome_of (kind_in (content_of headers.now.content)) why)) }
 {
     let why = show_listing(options, &mut io::sink(), alloc, headers)?;
-    Ok(why)
+    Ok(outcome(headers.content.kind(), why))
 }
 
 // The outcome for a control packet.

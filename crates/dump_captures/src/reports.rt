@@ -56,17 +56,43 @@ pub fn report_unread(rt: &impl Eprint, file: &str, error: Option<io::Error>, pac
 /// Prints what is wrong with the arguments, and the usage.
 pub fn report_wrong(rt: &impl Eprint, wrong: &Wrong) {
     let _ = match wrong {
-        Wrong::UnknownOption(word) => {
-            eprintln!(rt; "pcapdump: there is no option '{}'", word.as_str())
+        Wrong::UnknownOption(word, Some(near)) => {
+            eprintln!(rt;
+                "pcapdump: unknown option {}; did you mean {near}?",
+                word.as_str()
+            )
         }
-        Wrong::UnknownKind(name) => {
-            let (name, kinds) = (name.as_str(), help::KINDS);
-            eprintln!(rt; "pcapdump: there is no kind '{name}'; the kinds are {kinds}")
+        Wrong::UnknownOption(word, None) => {
+            eprintln!(rt; "pcapdump: unknown option {}", word.as_str())
         }
-        Wrong::MissingList => eprintln!(rt; "pcapdump: no list of kinds stands behind --only"),
+        Wrong::UnknownKind(name, near) => {
+            report_kind(rt, name.as_str(), *near);
+            Ok(())
+        }
+        Wrong::BadValue(setting, text) => {
+            let (option, value) = (setting.name(), setting.value());
+            eprintln!(rt; "pcapdump: {option} wants {value}, not '{}'", text.as_str())
+        }
+        Wrong::MissingValue(setting) => {
+            let (option, value) = (setting.name(), setting.value());
+            eprintln!(rt; "pcapdump: {option} wants {value}")
+        }
         Wrong::NotText => eprintln!(rt; "pcapdump: an argument is not UTF-8"),
     };
     let _ = eprintln!(rt; "{}", help::USAGE);
+}
+
+// Prints that there is no such kind, and which there are.
+fn report_kind(rt: &impl Eprint, name: &str, near: Option<&'static str>) {
+    let kinds = help::KINDS;
+    let _ = match near {
+        Some(near) => {
+            eprintln!(rt;
+                "pcapdump: unknown kind '{name}'; did you mean {near}? The kinds are {kinds}"
+            )
+        }
+        None => eprintln!(rt; "pcapdump: unknown kind '{name}'; the kinds are {kinds}"),
+    };
 }
 
 /// Prints what ended the program. A closed output is not a fault.

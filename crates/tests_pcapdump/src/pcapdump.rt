@@ -5,17 +5,12 @@ mod counts;
 mod faults;
 mod forms;
 mod live;
+mod options;
 mod packets;
 mod refusal;
 mod time;
 
-use dump_captures::options::{Only, Options};
-use packet_fields::Form;
+use dump_captures::options::Options;
 
 /// All packets are printed.
-const PRINTED: Options = Options {
-    only: Only::ALL,
-    prints: true,
-    form: Form::Lines,
-    is_strict: false,
-};
+const PRINTED: Options = Options::ALL;

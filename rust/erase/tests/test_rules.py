@@ -150,8 +150,9 @@ RUNTIME_ROWS = {
                   "use rand_core::{RngCore, SeedableRng}; fn f() -> u8 { 1 }"),
     "handed": ("fn t(rt: HostRuntime) { let alloc = rt.alloc(); f(&rt, alloc, 1); g(1, rt.alloc()); h(rt); }",
                "fn t() { f(1); g(1); h(); }"),
-    "std_module": ("use std::io::Write; use std::fmt; fn f() -> u8 { hex::decode(a) }",
-                   "use rattle_std::io::Write; use std::fmt; fn f() -> u8 { rattle_std::hex::decode(a) }"),
+    "std_module": ("use std::io::Write; use std::fmt; fn f() -> u8 { hex::decode(a) } use strsim::jaro;",
+                   "use rattle_std::io::Write; use std::fmt; fn f() -> u8 { rattle_std::hex::decode(a) } "
+                   "use rattle_std::strsim::jaro;"),
     "prelude": ("fn f() -> Vec<u8> { g() }", "use_prelude fn f() -> Vec<u8> { g() }"),
 }
 USE_PRELUDE = "#[allow(unused_imports)] use rattle_std::prelude::*;"

@@ -10,6 +10,7 @@ pub mod env;
 pub mod fs;
 pub mod hex;
 pub mod io;
+pub mod strsim;
 pub mod test;
 mod text;
 mod vec;

@@ -1,5 +1,6 @@
 -- What private functions and models need; no public clause rests on it.
-use Rattle.std.specs.Prelude.{ℕ, List, ◌++◌, map, string_bytes, ◌+◌, ◌-◌}
+use Rattle.std.specs.Prelude.{ℕ, List, ◌++◌, map, string_bytes}
+use Rattle.std.specs.Option.{option_map}
 use Rattle.capture.specs.TimeText.{month_and_day_text}
 use Rattle.capture.specs.declared.calendar.Date.{Date}
 use Rattle.wirebase.specs.Digits.{last_digits}
@@ -13,8 +14,10 @@ use Rattle.dump_captures.specs.declared.counts.Category.TheVariants as category
 abbrev pub reading_of : Reading → ReadingValue
 reading_of r = record {
   options = r.options;
+  host = option_map string_bytes r.host;
+  name = option_map string_bytes r.name;
   files = map string_bytes r.files.items;
-  wants_kinds = r.wants_kinds;
+  wants = r.wants;
   wants_files = r.wants_files;
 }
 

@@ -11,7 +11,6 @@ use dump_captures::run_onto;
 use dump_captures::summary::write_summary;
 use dump_captures::table::show_table;
 use dump_captures::tally::{Counted, Outcome, Row, Tally};
-use packet_fields::Form;
 use std::alloc::Global;
 use std::process::Abort;
 
@@ -115,15 +114,14 @@ fn check_chosen(rt: &impl Abort, alloc: Global, capture: &[u8], row: &Chosen, pr
     let options = Options {
         only,
         prints,
-        form: Form::Lines,
-        is_strict: false,
+        ..PRINTED
     };
     let Ok(report) = run_onto(alloc, &options, capture, &mut output) else {
         holds_of(rt, summary, false);
         return;
     };
     check_told(rt, alloc, &only, &report.tally, rows, summary);
-    same_of(rt, summary, report.ending, Ending::Whole);
+    same_of(rt, summary, report.ending, Some(Ending::Whole));
     check_texts(
         rt,
         alloc,

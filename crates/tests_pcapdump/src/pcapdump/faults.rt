@@ -44,9 +44,14 @@ impl Read for Source<'_> {
 // What ended a capture, or its printing.
 fn end_of<W: Drop>(answer: Result<Report<W>, Fault>) -> Result<Ending, Fault> {
     match answer {
-        Ok(report) => Ok(report.ending),
+        Ok(report) => whole(report.ending),
         Err(fault) => Err(fault),
     }
+}
+
+// What ended a capture that was read to its end.
+fn whole(ending: Option<Ending>) -> Result<Ending, Fault> {
+    ending.ok_or(Fault::Read)
 }
 
 // What is printed of a source that fails, or does not, is what the packets print that end before that call.
@@ -250,7 +255,10 @@ fn check_alone(
         kind: ErrorKind::BrokenPipe,
     };
     let mut tally = Tally::new();
-    let answer = dump(alloc, &PRINTED, capture, &mut sink, &mut tally);
+    let answer = match dump(alloc, &PRINTED, capture, &mut sink, &mut tally) {
+        Ok(ending) => whole(ending),
+        Err(fault) => Err(fault),
+    };
     check_written(rt, room, answer, Fault::Closed, output.as_slice(), text);
     places
 }

@@ -2,8 +2,12 @@
 //! The arguments of the program.
 
 use crate::Fault;
+use crate::host::Host;
 use crate::kind::Kind;
+use crate::nearest::nearest;
 use crate::options::{Only, Options};
+use crate::settings::{Setting, count_in, setting_of, split, time_form_in};
+use control_wire::record::Name;
 use packet_fields::Form;
 use rattle_std::env::Args;
 #[allow(unused_imports)]
@@ -23,23 +27,45 @@ pub enum Task {
 
 /// What is wrong with the arguments.
 pub enum Wrong {
-    /// This is not an option.
-    UnknownOption(String),
-    /// This item of a list after `--only` is not a kind.
-    UnknownKind(String),
-    /// No list follows `--only`.
-    MissingList,
+    /// This is not an option; the one that is nearest.
+    UnknownOption(String, Option<&'static str>),
+    /// This item of a list of kinds is none; the name that is nearest.
+    UnknownKind(String, Option<&'static str>),
+    /// This is not a value of the option.
+    BadValue(Setting, String),
+    /// No value follows the option.
+    MissingValue(Setting),
     /// An argument is not UTF-8, and so none was read.
     NotText,
 }
+
+// The options, and the names of packets, for a word that is neither.
+const OPTIONS: [&str; 9] = [
+    "--only",
+    "--host",
+    "--name",
+    "--time",
+    "--count",
+    "--json",
+    "--strict",
+    "--help",
+    "--version",
+];
+
+const NAMES: [&str; 11] = [
+    "icmp4", "igmp", "icmp6", "dns", "mdns", "llmnr", "nbns", "dhcp", "frame", "icmp", "hbh",
+];
 
 // The arguments so far.
 struct Reading {
     // The options so far.
     options: Options,
+    // The texts of the host and of the name.
+    host: Option<String>,
+    name: Option<String>,
     files: Vec<String>,
-    // Whether the next argument is a list of kinds.
-    wants_kinds: bool,
+    // The option whose value the next argument is.
+    wants: Option<Setting>,
     // Whether all further arguments are files.
     wants_files: bool,
 }
@@ -72,30 +98,43 @@ impl Reading {
     // None.
     fn new() -> Reading {
         Reading {
-            options: Options {
-                only: Only::ALL,
-                prints: true,
-                form: Form::Lines,
-                is_strict: false,
-            },
+            options: Options::ALL,
+            host: None,
+            name: None,
             files: Vec::new(),
-            wants_kinds: false,
+            wants: None,
             wants_files: false,
         }
     }
 
     // The task where no further argument follows.
     fn task(self) -> Task {
-        if self.wants_kinds {
-            return Task::Unknown(Wrong::MissingList);
+        let Reading {
+            options,
+            host,
+            name,
+            files,
+            wants,
+            ..
+        } = self;
+        if let Some(setting) = wants {
+            return Task::Unknown(Wrong::MissingValue(setting));
         }
-        Task::Dump(self.options, self.files)
+        let options = match with_host(options, host) {
+            Ok(options) => options,
+            Err(wrong) => return Task::Unknown(wrong),
+        };
+        match with_name_of(options, name) {
+            Ok(options) => Task::Dump(options, files),
+            Err(wrong) => Task::Unknown(wrong),
+        }
     }
 
     // Reads an argument.
     fn read(&mut self, argument: String) -> Result<Step, Fault> {
-        if self.wants_kinds {
-            return self.read_kinds(argument.as_str());
+        if let Some(setting) = self.wants {
+            self.wants = None;
+            return self.read_value(setting, argument);
         }
         if self.wants_files || !is_option(argument.as_str()) {
             let Ok(()) = self.files.push(argument) else {
@@ -103,54 +142,131 @@ impl Reading {
             };
             return Ok(Step::More);
         }
-        Ok(self.read_option(argument))
+        match self.read_flag(argument.as_str()) {
+            Some(step) => Ok(step),
+            None => self.read_setting(argument),
+        }
     }
 
-    // Reads the list of names after `--only`.
+    // Reads an option that has no value.
+    fn read_flag(&mut self, word: &str) -> Option<Step> {
+        if word == "--count" {
+            self.options.prints = false;
+            return Some(Step::More);
+        }
+        if word == "--json" {
+            self.options.form = Form::Json;
+            return Some(Step::More);
+        }
+        if word == "--strict" {
+            self.options.is_strict = true;
+            return Some(Step::More);
+        }
+        if word == "--" {
+            self.wants_files = true;
+            return Some(Step::More);
+        }
+        if word == "-n" || word == "-r" {
+            return Some(Step::More);
+        }
+        if word == "--help" || word == "-h" {
+            return Some(Step::Help);
+        }
+        if word == "--version" || word == "-V" {
+            return Some(Step::Version);
+        }
+        None
+    }
+
+    // Reads an option that has a value, which the same word may hold.
+    fn read_setting(&mut self, word: String) -> Result<Step, Fault> {
+        let (option, value) = split(word.as_str(), '=');
+        let Some(setting) = setting_of(option) else {
+            let near = nearest(option, &OPTIONS)?;
+            return Ok(Step::Unknown(Wrong::UnknownOption(word, near)));
+        };
+        let Some(value) = value else {
+            self.wants = Some(setting);
+            return Ok(Step::More);
+        };
+        let value = copy_of(value)?;
+        self.read_value(setting, value)
+    }
+
+    // Reads the value of an option.
+    fn read_value(&mut self, setting: Setting, text: String) -> Result<Step, Fault> {
+        match setting {
+            Setting::Only => self.read_kinds(text.as_str()),
+            Setting::Most => Ok(self.read_most(text)),
+            Setting::Host => {
+                self.host = Some(text);
+                Ok(Step::More)
+            }
+            Setting::Name => {
+                self.name = Some(text);
+                Ok(Step::More)
+            }
+            Setting::Time => Ok(self.read_time_form(text)),
+        }
+    }
+
+    // Reads a list of names after `--only`.
     fn read_kinds(&mut self, list: &str) -> Result<Step, Fault> {
         match read_only(list) {
             Ok(only) => {
                 self.options.only = only;
-                self.wants_kinds = false;
                 Ok(Step::More)
             }
-            Err(name) => Ok(Step::Unknown(Wrong::UnknownKind(copy_of(name)?))),
+            Err(name) => {
+                let near = nearest(name, &NAMES)?;
+                Ok(Step::Unknown(Wrong::UnknownKind(copy_of(name)?, near)))
+            }
         }
     }
 
-    fn read_option(&mut self, word: String) -> Step {
-        let text = word.as_str();
-        if text == "--only" {
-            self.wants_kinds = true;
-            return Step::More;
-        }
-        if text == "--count" {
-            self.options.prints = false;
-            return Step::More;
-        }
-        if text == "--json" {
-            self.options.form = Form::Json;
-            return Step::More;
-        }
-        if text == "--strict" {
-            self.options.is_strict = true;
-            return Step::More;
-        }
-        if text == "--" {
-            self.wants_files = true;
-            return Step::More;
-        }
-        if text == "-n" || text == "-r" {
-            return Step::More;
-        }
-        if text == "--help" || text == "-h" {
-            return Step::Help;
-        }
-        if text == "--version" || text == "-V" {
-            return Step::Version;
-        }
-        Step::Unknown(Wrong::UnknownOption(word))
+    // Reads the number after `-c`.
+    fn read_most(&mut self, text: String) -> Step {
+        let Some(most) = count_in(text.as_str()) else {
+            return Step::Unknown(Wrong::BadValue(Setting::Most, text));
+        };
+        self.options.most = Some(most);
+        Step::More
     }
+
+    // Reads the form after `--time`.
+    fn read_time_form(&mut self, text: String) -> Step {
+        let Some(time_form) = time_form_in(text.as_str()) else {
+            return Step::Unknown(Wrong::BadValue(Setting::Time, text));
+        };
+        self.options.time_form = time_form;
+        Step::More
+    }
+}
+
+// The options with the host of a text, where there is one.
+fn with_host(options: Options, text: Option<String>) -> Result<Options, Wrong> {
+    let Some(text) = text else {
+        return Ok(options);
+    };
+    let Some(host) = Host::read(text.as_str()) else {
+        return Err(Wrong::BadValue(Setting::Host, text));
+    };
+    let mut options = options;
+    options.host = Some(host);
+    Ok(options)
+}
+
+// The options with the name of a text, where there is one.
+fn with_name_of(options: Options, text: Option<String>) -> Result<Options, Wrong> {
+    let Some(text) = text else {
+        return Ok(options);
+    };
+    let Ok(name) = Name::from_text(text.as_str().as_bytes()) else {
+        return Err(Wrong::BadValue(Setting::Name, text));
+    };
+    let mut options = options;
+    options.name = Some(name);
+    Ok(options)
 }
 
 fn copy_of(text: &str) -> Result<String, Fault> {

@@ -5,6 +5,7 @@ use crate::Fault;
 use crate::options::Options;
 use crate::packets::dump_readable;
 use crate::reports::{report_counts, report_ending, report_unopened, report_unread};
+use crate::stop::Stop;
 use crate::table::show_table;
 use crate::tally::Tally;
 use capture::Ending;
@@ -14,7 +15,7 @@ use rattle_std::io::{Read, Write};
 #[allow(unused_imports)]
 use rattle_std::prelude::*;
 
-/// The status where all was read.
+/// The status where all was read that is asked for.
 pub const WHOLE: u8 = 0;
 
 /// The status where a capture ends within a record, or its continuation is not one.
@@ -181,17 +182,18 @@ fn dump_input<R: Read, W: Write>(
         is_begun: false,
         is_gzip: false,
     };
-    let ending = dump_readable(options, &mut input, output, tally)?;
+    let stop = dump_readable(options, &mut input, output, tally)?;
     if options.prints {
         report_counts(Some(name), tally)?;
     }
     let packets = tally.packets.saturating_sub(before);
-    match ending {
-        Some(ending) => {
+    match stop {
+        Stop::Ended(ending) => {
             report_ending(name, ending, packets, input.is_gzip);
             Ok(status_of(ending))
         }
-        None => {
+        Stop::Enough => Ok(WHOLE),
+        Stop::Unread => {
             report_unread(name, input.error, packets);
             Ok(FAILED)
         }

@@ -5,7 +5,7 @@ use crate::numbers::Numbers;
 use crate::sight::Headers;
 use crate::time::Clock;
 use crate::tunnels::show_tunnels;
-use capture::{Record, Time};
+use crate::when::When;
 use control_wire::frames::Addresses;
 use control_wire::inside::text::{put_v4, put_v6};
 use control_wire::{Field, Ipv4Address, Ipv6Address, Octets};
@@ -20,17 +20,17 @@ pub(crate) const TAG_LEN: usize = 4;
 
 const VLAN: Field = 0..2;
 
-/// Prints the heading of a control packet. Requires that the packet's time, where it has one, is in order.
+/// Prints the heading of the control packet of a number.
 pub fn show_heading<W: Write>(
     output: &mut W,
     clock: &mut Clock,
-    captured: &Record,
-    octets: &[u8],
+    when: Option<When>,
+    number: u64,
     headers: &Headers<'_>,
 ) -> io::Result<()> {
-    captured.number.put(output, Form::Lines)?;
+    number.put(output, Form::Lines)?;
     output.write_all(b" ")?;
-    show_time(output, clock, captured.time)?;
+    show_time(output, clock, when)?;
     show_addresses(output, headers.addresses, headers.ports)?;
     show_tags(output, headers.path.tags)?;
     show_tunnels(output, &headers.path.tunnels)?;
@@ -43,13 +43,9 @@ pub fn show_heading<W: Write>(
 }
 
 // Prints the time at which a packet was captured, where it is known.
-fn show_time<W: Write>(output: &mut W, clock: &mut Clock, time: Option<Time>) -> io::Result<()> {
-    match time {
-        Some(time) => put_text(
-            output,
-            Form::Lines,
-            clock.time(time.seconds, time.nanoseconds),
-        ),
+fn show_time<W: Write>(output: &mut W, clock: &mut Clock, when: Option<When>) -> io::Result<()> {
+    match when {
+        Some(when) => put_text(output, Form::Lines, when.word(clock)),
         None => output.write_all(b"-"),
     }
 }

@@ -6,7 +6,8 @@ pub const VERSION: &str = "0.14.1";
 
 /// The usage, for a wrong argument.
 pub const USAGE: &str =
-    "usage: pcapdump [--only KIND,..] [--json] [--strict] [--count] [--help] [--version] [FILE..]";
+    "usage: pcapdump [--only KIND,..] [--host ADDRESS[/BITS]] [--name NAME] [-c N] [--time FORM]
+                [--json] [--strict] [--count] [--help] [--version] [FILE..]";
 
 /// The names after `--only`, for a list with an unknown one.
 pub const KINDS: &str =
@@ -17,7 +18,14 @@ pub const HELP: &str = "\
 Prints each control packet of capture files, pcap or pcapng: a heading with its number, its time, its addresses and
 its kind, and below it what it holds, a field a line. Without a file, and for -, it reads standard input.
 
-  --only KIND,..    prints the packets of these kinds alone; of several lists the last counts
+  --only KIND,..    prints the packets of these kinds alone
+  --host ADDRESS[/BITS]
+                    prints those alone that are from or to this IPv4 or IPv6 address, or one with the same first BITS
+  --name NAME       prints those messages of DNS, mDNS, LLMNR and the NetBIOS name service alone that have a question or
+                    a record of this name or of one that ends in it
+  -c N              stops reading a file after the Nth packet that is printed
+  --time FORM       tells times as `utc`, by RFC 3339; as `relative`, in seconds since the first packet of the file; as
+                    `delta`, in seconds since the packet that was printed before; or as `epoch`, in seconds since 1970
   --json            prints each packet as an object of JSON, on a line
   --strict          refuses messages whose checksum is wrong; without it they are printed with checksum=bad
   --count           prints no packets but a table at the end: of each kind how many were listed and how many were
@@ -27,6 +35,9 @@ its kind, and below it what it holds, a field a line. Without a file, and for -,
   -V, --version     prints the version
   -r FILE           reads the file, as FILE alone does
   -n                has no effect: no name is looked up
+
+The value of an option is the next word, or is behind an equals sign, as in --only=dns. Of an option that comes several
+times the last one counts.
 
 The kinds:
 
@@ -60,6 +71,7 @@ Examples:
 
   pcapdump trace.pcap
   pcapdump --only dns,mdns --count trace.pcap more.pcapng
+  pcapdump --name example.com --time=delta -c 10 trace.pcap
   tcpdump --immediate-mode -U -w - | pcapdump --only icmp6
   pcapdump --json trace.pcap | jq -c 'select(.kind == \"dhcp\")'
 

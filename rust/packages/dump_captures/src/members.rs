@@ -6,7 +6,8 @@ use crate::numbers::Numbers;
 use crate::sight::Headers;
 use crate::time::Clock;
 use crate::tunnels::show_tunnel_members;
-use capture::{Record, Time};
+use crate::when::When;
+use capture::Record;
 use control_wire::frames::Addresses;
 use control_wire::frames::names::link_name;
 use packet_fields::Form;
@@ -15,15 +16,16 @@ use packet_fields::value::Value;
 use rattle_std::io;
 use rattle_std::io::Write;
 
-/// Prints the members. Requires that the packet's time, where it has one, is in order.
+/// Prints the members.
 pub fn show_members<W: Write>(
     output: &mut W,
     clock: &mut Clock,
+    when: Option<When>,
     captured: &Record,
     octets: &[u8],
     headers: &Headers<'_>,
 ) -> io::Result<()> {
-    show_time(output, clock, captured.time)?;
+    show_time(output, clock, when)?;
     show_link(output, captured.link_type)?;
     show_lengths(output, octets.len() as u64, captured.original_len)?;
     show_path(output, headers)?;
@@ -31,12 +33,9 @@ pub fn show_members<W: Write>(
 }
 
 // Prints the time at which the packet was captured.
-fn show_time<W: Write>(output: &mut W, clock: &mut Clock, time: Option<Time>) -> io::Result<()> {
-    match time {
-        Some(time) => {
-            let text = clock.time(time.seconds, time.nanoseconds);
-            field(output, Form::Json, "time", text)
-        }
+fn show_time<W: Write>(output: &mut W, clock: &mut Clock, when: Option<When>) -> io::Result<()> {
+    match when {
+        Some(when) => field(output, Form::Json, "time", when.word(clock)),
         None => field(output, Form::Json, "time", None::<&str>),
     }
 }

@@ -1,8 +1,11 @@
 // Made from crates/dump_captures/src/options.rt by rust/erase.
 //! Options: what is printed of a capture.
 
+use crate::host::{Host, has_host};
 use crate::kind::KINDS;
+use crate::owners::has_name;
 use crate::sight::Headers;
+use control_wire::record::Name;
 use packet_fields::Form;
 
 /// Which control packets are chosen.
@@ -27,23 +30,69 @@ impl Only {
         hop_by_hop: false,
     };
 
-    /// Whether a control packet is chosen.
+    /// Whether a control packet is one of these.
     #[inline]
-    pub fn chooses(&self, headers: &Headers<'_>) -> bool {
+    pub fn has(&self, headers: &Headers<'_>) -> bool {
         let place = headers.content.kind().place();
         self.kinds[place] || (self.hop_by_hop && headers.hop_by_hop.is_some())
     }
 }
 
-/// What is printed of a capture.
+/// How the time of a packet is printed.
 #[derive(Debug, PartialEq, Eq, Clone, Copy)]
+pub enum TimeForm {
+    /// As RFC 3339 writes it, in UTC.
+    Utc,
+    /// The seconds since the first packet of the file.
+    Relative,
+    /// The seconds since the packet that was printed before.
+    Delta,
+    /// The seconds since 1970-01-01T00:00:00Z.
+    Epoch,
+}
+
+/// What is printed of a capture.
 pub struct Options {
     /// The packets that are chosen.
     pub only: Only,
+    /// The host that a packet is from or to, where it matters.
+    pub host: Option<Host>,
+    /// The name of which a message has a question or a record, or of one that ends in it, where it matters.
+    pub name: Option<Name>,
+    /// The number of chosen packets after which a capture is not read further, where there is one.
+    pub most: Option<u64>,
     /// Whether they are printed, and not only counted.
     pub prints: bool,
     /// The form in which they are printed.
     pub form: Form,
-    /// Whether a message whose checksum does not hold is refused.
+    /// The form of their times.
+    pub time_form: TimeForm,
+    /// Whether a message whose checksum is wrong is refused.
     pub is_strict: bool,
+}
+
+impl Options {
+    /// All packets are printed, in lines.
+    pub const ALL: Options = Options {
+        only: Only::ALL,
+        host: None,
+        name: None,
+        most: None,
+        prints: true,
+        form: Form::Lines,
+        time_form: TimeForm::Utc,
+        is_strict: false,
+    };
+
+    /// Whether a control packet is chosen.
+    #[inline]
+    pub fn chooses(&self, headers: &Headers<'_>) -> bool {
+        self.is_in_reach(headers) && has_name(&self.name, &headers.content)
+    }
+
+    // Whether it may be, by what its headers tell.
+    #[inline]
+    fn is_in_reach(&self, headers: &Headers<'_>) -> bool {
+        self.only.has(headers) && has_host(&self.host, &headers.addresses)
+    }
 }

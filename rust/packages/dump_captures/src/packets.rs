@@ -9,10 +9,13 @@ use crate::members::show_members;
 use crate::messages::show_listing;
 use crate::options::Options;
 use crate::path::Path;
+use crate::progress::Progress;
 use crate::refusal::Refusal;
 use crate::sight::{Finding, Headers, Segment, Sight, look, protocol_category};
+use crate::stop::Stop;
 use crate::tally::{Counted, Outcome, Tally};
 use crate::time::Clock;
+use crate::when::When;
 use capture::{Capture, Ending, Next, Record};
 use packet_fields::Form;
 use packet_fields::value::{Value, put_string};
@@ -25,8 +28,8 @@ const BUFFER_LEN: usize = 65_536;
 
 /// The result of the dump of a capture.
 pub struct Report<W> {
-    /// What ends the capture.
-    pub ending: Ending,
+    /// What ends the capture; None where its reading stopped after as many packets as were asked for.
+    pub ending: Option<Ending>,
     /// The counts of its packets.
     pub tally: Tally,
     /// The output, with all that was printed written out.
@@ -62,30 +65,31 @@ pub fn dump<R: Read, W: Write>(
     input: R,
     output: &mut W,
     tally: &mut Tally,
-) -> Result<Ending, Fault> {
+) -> Result<Option<Ending>, Fault> {
     match dump_readable(options, input, output, tally)? {
-        Some(ending) => Ok(ending),
-        None => Err(Fault::Read),
+        Stop::Ended(ending) => Ok(Some(ending)),
+        Stop::Enough => Ok(None),
+        Stop::Unread => Err(Fault::Read),
     }
 }
 
-/// Dumps as far as the input can be read. None is returned where a read failed.
+/// Dumps as far as the input can be read, or as is asked for.
 pub fn dump_readable<R: Read, W: Write>(
     options: &Options,
     input: R,
     output: &mut W,
     tally: &mut Tally,
-) -> Result<Option<Ending>, Fault> {
+) -> Result<Stop, Fault> {
     let Ok(mut input) = BufReader::with_capacity(BUFFER_LEN, input) else {
         return Err(Fault::Memory);
     };
     let answer = show_packets(options, &mut input, output, tally);
     let flushed = output.flush();
-    let ending = answer?;
-    if ending.is_some() {
+    let stop = answer?;
+    if stop != Stop::Unread {
         flushed?;
     }
-    Ok(ending)
+    Ok(stop)
 }
 
 // What is kept from packet to packet of a capture.
@@ -94,33 +98,39 @@ struct Kept {
     fragments: Reassembly,
 }
 
-// Prints the packets, and returns what ends them, or None where a read failed. What is printed is written out before
-// the input is waited for.
+// Prints the packets, and returns where the reading stops. What is printed is written out before the input is waited
+// for.
 fn show_packets<R: Read, W: Write>(
     options: &Options,
     input: &mut BufReader<R>,
     output: &mut W,
     tally: &mut Tally,
-) -> Result<Option<Ending>, Fault> {
+) -> Result<Stop, Fault> {
     let mut capture = Capture::new();
     let mut kept = Kept {
         clock: Clock::new(),
         fragments: Reassembly::new(),
     };
+    let mut progress = Progress::new(options);
     for _ in 0..u64::MAX {
+        if progress.is_enough() {
+            return Ok(Stop::Enough);
+        }
         write_out_before_wait(&capture, input, output)?;
         match capture.next(input) {
             Ok(Next::Record(record)) => {
                 let octets = capture.octets();
-                let counted = show_packet(options, output, &mut kept, &record, octets)?;
+                let when = progress.when(record.time);
+                let counted = show_packet(options, output, &mut kept, when, &record, octets)?;
+                progress.pass(record.time, counted.outcome);
                 tally.count(counted, record.link_type, octets.len() as u64);
             }
-            Ok(Next::Ended(ending)) => return Ok(Some(ending)),
-            Err(capture::Fault::Read) => return Ok(None),
+            Ok(Next::Ended(ending)) => return Ok(Stop::Ended(ending)),
+            Err(capture::Fault::Read) => return Ok(Stop::Unread),
             Err(fault) => return Err(Fault::from(fault)),
         }
     }
-    Ok(None)
+    Ok(Stop::Unread)
 }
 
 // Writes out what was printed, where the reading of the next packet has to wait for more of the input.
@@ -135,22 +145,31 @@ fn write_out_before_wait<R: Read, W: Write>(
     Ok(())
 }
 
-// Prints a packet, or the datagram that was put together with it. Requires that the record's time is in order.
+// Prints a packet, or the datagram that was put together with it.
 fn show_packet<W: Write>(
     options: &Options,
     output: &mut W,
     kept: &mut Kept,
+    when: Option<When>,
     captured: &Record,
     octets: &[u8],
 ) -> Result<Counted, Fault> {
     match look(captured, octets) {
         Finding::Sight(sight) => {
-            let outcome = show_sight(options, output, &mut kept.clock, captured, octets, &sight)?;
+            let outcome = show_sight(
+                options,
+                output,
+                &mut kept.clock,
+                when,
+                captured,
+                octets,
+                &sight,
+            )?;
             Ok(Counted::alone(outcome))
         }
-        Finding::Fragment(path, fragment) => {
-            show_fragment(options, output, kept, captured, octets, &path, &fragment)
-        }
+        Finding::Fragment(path, fragment) => show_fragment(
+            options, output, kept, when, captured, octets, &path, &fragment,
+        ),
     }
 }
 
@@ -160,6 +179,7 @@ fn show_fragment<W: Write>(
     options: &Options,
     output: &mut W,
     kept: &mut Kept,
+    when: Option<When>,
     captured: &Record,
     octets: &[u8],
     path: &Path<'_>,
@@ -175,11 +195,11 @@ fn show_fragment<W: Write>(
         )))),
         Answer::Refused(refusal) => {
             let sight = refused_fragment(path, fragment, Refusal::Fragment(*refusal));
-            let outcome = show_sight(options, output, clock, captured, octets, &sight)?;
+            let outcome = show_sight(options, output, clock, when, captured, octets, &sight)?;
             Ok(Counted::alone(outcome))
         }
         Answer::Whole(whole) => {
-            let counted = show_whole(options, output, clock, captured, octets, path, whole)?;
+            let counted = show_whole(options, output, clock, when, captured, octets, path, whole)?;
             Ok(counted)
         }
     }
@@ -190,6 +210,7 @@ fn show_whole<W: Write>(
     options: &Options,
     output: &mut W,
     clock: &mut Clock,
+    when: Option<When>,
     captured: &Record,
     octets: &[u8],
     path: &Path<'_>,
@@ -201,7 +222,7 @@ fn show_whole<W: Write>(
         frames: whole.numbers.as_slice(),
     };
     let sight = look_at_joined(captured, octets, &path, whole);
-    let outcome = show_sight(options, output, clock, captured, octets, &sight)?;
+    let outcome = show_sight(options, output, clock, when, captured, octets, &sight)?;
     Ok(Counted {
         outcome,
         joined: all_but_one(whole.numbers.as_slice()),
@@ -218,6 +239,7 @@ fn show_sight<W: Write>(
     options: &Options,
     output: &mut W,
     clock: &mut Clock,
+    when: Option<When>,
     captured: &Record,
     octets: &[u8],
     sight: &Sight<'_>,
@@ -225,8 +247,12 @@ fn show_sight<W: Write>(
     match sight {
         Sight::Unread => Ok(Outcome::Unread),
         Sight::Other(category) => Ok(Outcome::Other(*category)),
-        Sight::Control(headers) => show_control(options, output, clock, captured, octets, headers),
-        Sight::Segment(segment) => show_segment(options, output, clock, captured, octets, segment),
+        Sight::Control(headers) => {
+            show_control(options, output, clock, when, captured, octets, headers)
+        }
+        Sight::Segment(segment) => {
+            show_segment(options, output, clock, when, captured, octets, segment)
+        }
     }
 }
 
@@ -236,41 +262,27 @@ fn show_segment<W: Write>(
     options: &Options,
     output: &mut W,
     clock: &mut Clock,
+    when: Option<When>,
     captured: &Record,
     octets: &[u8],
     segment: &Segment<'_>,
 ) -> Result<Outcome, Fault> {
-    if !options.only.chooses(&segment.headers(&[])) {
-        return Ok(Outcome::Passed);
-    }
-    let why = tell_each(options, output, clock, captured, octets, segment)?;
-    Ok(outcome(Kind::Dns, why))
-}
-
-// Prints each message in a segment, and returns the first reason for which one is refused or read in part.
-fn tell_each<W: Write>(
-    options: &Options,
-    output: &mut W,
-    clock: &mut Clock,
-    captured: &Record,
-    octets: &[u8],
-    segment: &Segment<'_>,
-) -> Result<Option<Reason>, Fault> {
     let mut messages = segment.messages.messages();
-    let mut why = None;
+    let mut outcome = Outcome::Passed;
     while let Some(message) = messages.next() {
         let headers = segment.headers(message);
-        let told = tell(options, output, clock, captured, octets, &headers)?;
-        why = first_reason(why, told);
+        let own = show_control(options, output, clock, when, captured, octets, &headers)?;
+        outcome = joined_outcome(outcome, own);
     }
-    Ok(why)
+    Ok(outcome)
 }
 
-// The first of two reasons.
-fn first_reason(why: Option<Reason>, other: Option<Reason>) -> Option<Reason> {
-    match why {
-        Some(reason) => Some(reason),
-        None => other,
+// What becomes of a packet with several messages, after some and one more.
+fn joined_outcome(so_far: Outcome, next: Outcome) -> Outcome {
+    match (so_far, next) {
+        (Outcome::Passed, next) => next,
+        (Outcome::Listed(_), Outcome::Refused(kind, reason)) => Outcome::Refused(kind, reason),
+        (so_far, _) => so_far,
     }
 }
 
@@ -281,30 +293,19 @@ fn show_control<W: Write>(
     options: &Options,
     output: &mut W,
     clock: &mut Clock,
+    when: Option<When>,
     captured: &Record,
     octets: &[u8],
     headers: &Headers<'_>,
 ) -> Result<Outcome, Fault> {
-    if !options.only.chooses(headers) {
+    if !options.chooses(headers) {
         return Ok(Outcome::Passed);
     }
-    let why = tell(options, output, clock, captured, octets, headers)?;
-    Ok(outcome(headers.content.kind(), why))
-}
-
-// Prints a control packet that is chosen, or only reads it where packets are counted.
-fn tell<W: Write>(
-    options: &Options,
-    output: &mut W,
-    clock: &mut Clock,
-    captured: &Record,
-    octets: &[u8],
-    headers: &Headers<'_>,
-) -> Result<Option<Reason>, Fault> {
     if !options.prints {
-        return read_alone(options, headers);
+        return count_alone(options, headers);
     }
-    show_chosen(options, output, clock, captured, octets, headers)
+    let why = show_chosen(options, output, clock, when, captured, octets, headers)?;
+    Ok(outcome(headers.content.kind(), why))
 }
 
 // Prints a control packet in the form that is asked for.
@@ -312,13 +313,14 @@ fn show_chosen<W: Write>(
     options: &Options,
     output: &mut W,
     clock: &mut Clock,
+    when: Option<When>,
     captured: &Record,
     octets: &[u8],
     headers: &Headers<'_>,
 ) -> Result<Option<Reason>, Fault> {
     match options.form {
-        Form::Lines => show_lines(options, output, clock, captured, octets, headers),
-        Form::Json => show_object(options, output, clock, captured, octets, headers),
+        Form::Lines => show_lines(options, output, clock, when, captured, octets, headers),
+        Form::Json => show_object(options, output, clock, when, captured, octets, headers),
     }
 }
 
@@ -327,11 +329,12 @@ fn show_lines<W: Write>(
     options: &Options,
     output: &mut W,
     clock: &mut Clock,
+    when: Option<When>,
     captured: &Record,
     octets: &[u8],
     headers: &Headers<'_>,
 ) -> Result<Option<Reason>, Fault> {
-    show_heading(output, clock, captured, octets, headers)?;
+    show_heading(output, clock, when, captured.number, headers)?;
     show_listing(options, output, headers)
 }
 
@@ -340,12 +343,13 @@ fn show_object<W: Write>(
     options: &Options,
     output: &mut W,
     clock: &mut Clock,
+    when: Option<When>,
     captured: &Record,
     octets: &[u8],
     headers: &Headers<'_>,
 ) -> Result<Option<Reason>, Fault> {
     open_object(output, captured.number)?;
-    show_members(output, clock, captured, octets, headers)?;
+    show_members(output, clock, when, captured, octets, headers)?;
     let why = show_listing(options, output, headers)?;
     output.write_all(b"}\n")?;
     Ok(why)
@@ -360,9 +364,9 @@ fn open_object<W: Write>(output: &mut W, number: u64) -> io::Result<()> {
 }
 
 // Reads a control packet that is only counted.
-fn read_alone(options: &Options, headers: &Headers<'_>) -> Result<Option<Reason>, Fault> {
+fn count_alone(options: &Options, headers: &Headers<'_>) -> Result<Outcome, Fault> {
     let why = show_listing(options, &mut io::sink(), headers)?;
-    Ok(why)
+    Ok(outcome(headers.content.kind(), why))
 }
 
 // The outcome for a control packet.

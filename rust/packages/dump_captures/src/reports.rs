@@ -57,19 +57,43 @@ pub fn report_unread(file: &str, error: Option<io::Error>, packets: u64) {
 /// Prints what is wrong with the arguments, and the usage.
 pub fn report_wrong(wrong: &Wrong) {
     let _ = match wrong {
-        Wrong::UnknownOption(word) => {
-            rattle_std::eprintln!("pcapdump: there is no option '{}'", word.as_str())
+        Wrong::UnknownOption(word, Some(near)) => {
+            rattle_std::eprintln!(
+                "pcapdump: unknown option {}; did you mean {near}?",
+                word.as_str()
+            )
         }
-        Wrong::UnknownKind(name) => {
-            let (name, kinds) = (name.as_str(), help::KINDS);
-            rattle_std::eprintln!("pcapdump: there is no kind '{name}'; the kinds are {kinds}")
+        Wrong::UnknownOption(word, None) => {
+            rattle_std::eprintln!("pcapdump: unknown option {}", word.as_str())
         }
-        Wrong::MissingList => {
-            rattle_std::eprintln!("pcapdump: no list of kinds stands behind --only")
+        Wrong::UnknownKind(name, near) => {
+            report_kind(name.as_str(), *near);
+            Ok(())
+        }
+        Wrong::BadValue(setting, text) => {
+            let (option, value) = (setting.name(), setting.value());
+            rattle_std::eprintln!("pcapdump: {option} wants {value}, not '{}'", text.as_str())
+        }
+        Wrong::MissingValue(setting) => {
+            let (option, value) = (setting.name(), setting.value());
+            rattle_std::eprintln!("pcapdump: {option} wants {value}")
         }
         Wrong::NotText => rattle_std::eprintln!("pcapdump: an argument is not UTF-8"),
     };
     let _ = rattle_std::eprintln!("{}", help::USAGE);
+}
+
+// Prints that there is no such kind, and which there are.
+fn report_kind(name: &str, near: Option<&'static str>) {
+    let kinds = help::KINDS;
+    let _ = match near {
+        Some(near) => {
+            rattle_std::eprintln!(
+                "pcapdump: unknown kind '{name}'; did you mean {near}? The kinds are {kinds}"
+            )
+        }
+        None => rattle_std::eprintln!("pcapdump: unknown kind '{name}'; the kinds are {kinds}"),
+    };
 }
 
 /// Prints what ended the program. A closed output is not a fault.

@@ -1,8 +1,10 @@
 -- Each turn reads one argument more.
-use Rattle.std.proofs.Common.{◌∙◌, arith}
+use Rattle.std.proofs.Common.{arith, refl, subst}
 use Rattle.std.proofs.lemmas.Iterator.Consumers.{YieldsList-so_far, YieldsList-turn, YieldsList-end}
 use Rattle.std.specs.Prelude.{string_bytes}
 use Rattle.dump_captures.specs.Arguments.{help, task_of, unknown, version, wrong_value}
+use Rattle.dump_captures.specs.Tasks.{IsTask}
+use Rattle.dump_captures.specs.declared.arguments.Task.TheVariants as task
 use Rattle.dump_captures.proofs.Words.{skipped, words-all, words-stop}
 use Rattle.dump_captures.proofs.arguments.read_task.Goals as goal
 
@@ -14,8 +16,9 @@ returns-in-Help-clause-task c =
     let turn =
     YieldsList-turn road c.loop-argument.yielded _ c.loop-argument.yielded_by _ c.next.new.self
     c.in-Some.argument c.in-Some.is c.next.ensures.steps in
-    words-stop string_bytes _ c.loop-argument.yielded c.in-Some.argument _ help front turn c.loop-argument.invariant
-    (rw c.in-Help.is at c.in_ok-read.ensures.step)
+    subst (λ asked. IsTask asked task.Help)
+    (words-stop string_bytes _ c.loop-argument.yielded c.in-Some.argument _ help front turn c.loop-argument.invariant
+    (rw c.in-Help.is at c.in_ok-read.ensures.step)) refl
 
 pub returns-in-Version-clause-task : goal.returns-in-Version-clause-task
 unfolding task_of
@@ -25,8 +28,9 @@ returns-in-Version-clause-task c =
     let turn =
     YieldsList-turn road c.loop-argument.yielded _ c.loop-argument.yielded_by _ c.next.new.self
     c.in-Some.argument c.in-Some.is c.next.ensures.steps in
-    words-stop string_bytes _ c.loop-argument.yielded c.in-Some.argument _ version front turn c.loop-argument.invariant
-    (rw c.in-Version.is at c.in_ok-read.ensures.step)
+    subst (λ asked. IsTask asked task.Version)
+    (words-stop string_bytes _ c.loop-argument.yielded c.in-Some.argument _ version front turn c.loop-argument.invariant
+    (rw c.in-Version.is at c.in_ok-read.ensures.step)) refl
 
 pub returns-in-Unknown-clause-task : goal.returns-in-Unknown-clause-task
 unfolding task_of
@@ -36,9 +40,10 @@ returns-in-Unknown-clause-task c =
     let turn =
     YieldsList-turn road c.loop-argument.yielded _ c.loop-argument.yielded_by _ c.next.new.self
     c.in-Some.argument c.in-Some.is c.next.ensures.steps in
-    words-stop string_bytes _ c.loop-argument.yielded c.in-Some.argument _ (unknown (wrong_value c.in-Unknown.wrong))
+    subst (λ asked. IsTask asked (task.Unknown c.in-Unknown.wrong))
+    (words-stop string_bytes _ c.loop-argument.yielded c.in-Some.argument _ (unknown (wrong_value c.in-Unknown.wrong))
     front turn c.loop-argument.invariant
-    (rw c.in-Unknown.is at c.in_ok-read.ensures.step)
+    (rw c.in-Unknown.is at c.in_ok-read.ensures.step)) refl
 
 pub returns-clause-task : goal.returns-clause-task
 unfolding task_of
@@ -47,4 +52,6 @@ returns-clause-task c =
     let all =
     YieldsList-end road c.loop-argument.yielded _ c.loop-argument.yielded_by _ c.next.new.self c.in-None.is
     c.next.ensures.steps in
-    c.task.ensures ∙ words-all string_bytes _ c.loop-argument.yielded _ all.0 c.loop-argument.invariant
+    subst (λ asked. IsTask asked c.task.result)
+    (words-all string_bytes _ c.loop-argument.yielded _ all.0 c.loop-argument.invariant)
+    c.task.ensures

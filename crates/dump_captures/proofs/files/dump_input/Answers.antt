@@ -1,13 +1,18 @@
--- What ended the input tells the status.
-use Rattle.std.proofs.Common.{None, Some, refl}
+-- Where the reading stopped tells the status.
+use Rattle.std.proofs.Common.{refl}
 use Rattle.dump_captures.specs.Files.{opened}
+use Rattle.dump_captures.specs.declared.stop.Stop.TheVariants.{Ended, Enough, Unread}
 use Rattle.dump_captures.proofs.files.dump_input.Goals as goal
 
-pub returns-in-Some : goal.returns-in-Some
-returns-in-Some g c =
-    let printed = rw c.in-Some.is at c.in_ok-ending.ensures in
-    (printed.0, opened (Some c.in-Some.ending) printed.1 c.status_of.ensures, printed.2)
+pub returns-in-Ended : goal.returns-in-Ended
+returns-in-Ended g c =
+    let printed = rw c.in-Ended.is at c.in_ok-stop.ensures in
+    (printed.0, opened (Ended c.in-Ended.ending) printed.1 c.status_of.ensures, printed.2)
+
+pub returns-in-Enough : goal.returns-in-Enough
+returns-in-Enough g c =
+    let printed = rw c.in-Enough.is at c.in_ok-stop.ensures in (printed.0, opened Enough printed.1 refl, printed.2)
 
 pub returns : goal.returns
 returns g c =
-    let printed = rw c.in-None.is at c.in_ok-ending.ensures in (printed.0, opened None printed.1 refl, printed.2)
+    let printed = rw c.in-Unread.is at c.in_ok-stop.ensures in (printed.0, opened Unread printed.1 refl, printed.2)

@@ -3,6 +3,8 @@ use Rattle.std.proofs.Common.{◌∙◌, [], ap, refl, subst}
 use Rattle.capture.specs.Capture.{packet_of}
 use Rattle.packet_fields.proofs.Printing.{gains_none}
 use Rattle.reassembly.specs.Answer.{answer_of}
+use Rattle.std.specs.Option.{option_map}
+use Rattle.dump_captures.specs.Moments.{when_text}
 use Rattle.dump_captures.specs.Dump.{SightPrints, kept, put_together, refused}
 use Rattle.dump_captures.specs.Tally.{alone}
 use Rattle.dump_captures.specs.declared.tally.Outcome.TheVariants.{Kept}
@@ -25,7 +27,7 @@ returns-in-Refused g c =
     let shown = c.in_ok-outcome-in-Refused.ensures in
     let p = packet_of c.args.captured.now c.args.octets.now in
     let outcome = c.in_ok-outcome-in-Refused.outcome in
-    let prints = subst (λ s. SightPrints c.args.options.now c.args.captured.now.number p s shown.0 outcome)
+    let prints = subst (λ s. SightPrints c.args.options.now c.args.captured.now.number (option_map when_text c.args.when) p s shown.0 outcome)
     c.refused_fragment-sight.ensures shown.1 in (
       shown.0,
       record {

@@ -1,29 +1,15 @@
--- The messages are passed over, or told.
-use Rattle.std.proofs.Common.{◌≡◌, ◌∙◌, [], ap, refl, sym}
-use Rattle.packet_fields.proofs.Printing.{gains_none}
-use Rattle.dump_captures.specs.Dump.{each_passed, each_told, is_chosen}
-use Rattle.dump_captures.specs.Sight.{stream_headers, stream_of}
+-- Each turn prints one message more.
+use Rattle.dump_captures.proofs.MessageTexts.{printed-end, printed-init, printed-more}
 use Rattle.dump_captures.proofs.packets.show_segment.Goals as goal
 
-pub returns-then-not-chooses : goal.returns-then-not-chooses
-returns-then-not-chooses g c =
-    let only = c.args.options.now.only in
-    let t = stream_of c.args.segment.now in
-    let chosen : is_chosen only (stream_headers t []) ≡ c.chooses.result =
-    ap (is_chosen only) (sym c.headers.ensures) ∙ sym c.chooses.ensures in (
-      [],
-      each_passed t refl (chosen ∙ c.if-not-chooses.true) refl refl,
-      gains_none _,
-    )
+pub loop-message-init : goal.loop-message-init
+loop-message-init g c = rw c.messages-messages.ensures (printed-init _ _ _ _ _ _ _)
+
+pub loop-message-preserved : goal.loop-message-preserved
+loop-message-preserved g c =
+    rw c.joined_outcome-outcome.ensures
+    (printed-more _ _ _ _ _ _ _ _ _ _ _ _ _ _ c.loop-message.invariant c.in-Some.ensures.steps
+    (rw c.headers-headers.ensures at c.in_ok-own.ensures))
 
 pub returns : goal.returns
-returns g c =
-    let only = c.args.options.now.only in
-    let t = stream_of c.args.segment.now in
-    let chosen : is_chosen only (stream_headers t []) ≡ c.chooses.result =
-    ap (is_chosen only) (sym c.headers.ensures) ∙ sym c.chooses.ensures in
-    let shown = c.in_ok-why.ensures in (
-      shown.0,
-      each_told t c.in_ok-why.why refl (chosen ∙ c.if-not-chooses.false) shown.1 c.outcome.ensures,
-      shown.2,
-    )
+returns g c = printed-end _ _ _ _ _ _ _ _ _ _ c.loop-message.invariant c.in_default.ensures.steps.0

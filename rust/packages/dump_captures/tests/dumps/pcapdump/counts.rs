@@ -12,7 +12,6 @@ use dump_captures::run_onto;
 use dump_captures::summary::write_summary;
 use dump_captures::table::show_table;
 use dump_captures::tally::{Counted, Outcome, Row, Tally};
-use packet_fields::Form;
 #[allow(unused_imports)]
 use rattle_std::prelude::*;
 
@@ -108,15 +107,14 @@ fn check_chosen(capture: &[u8], row: &Chosen, prints: bool) {
     let options = Options {
         only,
         prints,
-        form: Form::Lines,
-        is_strict: false,
+        ..PRINTED
     };
     let Ok(report) = run_onto(&options, capture, &mut output) else {
         holds_of(summary, false);
         return;
     };
     check_told(&only, &report.tally, rows, summary);
-    same_of(summary, report.ending, Ending::Whole);
+    same_of(summary, report.ending, Some(Ending::Whole));
     check_texts(
         summary,
         output.as_slice(),

@@ -44,9 +44,14 @@ impl Read for Source<'_> {
 // What ended a capture, or its printing.
 fn end_of<W>(answer: Result<Report<W>, Fault>) -> Result<Ending, Fault> {
     match answer {
-        Ok(report) => Ok(report.ending),
+        Ok(report) => whole(report.ending),
         Err(fault) => Err(fault),
     }
+}
+
+// What ended a capture that was read to its end.
+fn whole(ending: Option<Ending>) -> Result<Ending, Fault> {
+    ending.ok_or(Fault::Read)
 }
 
 // What is printed of a source that fails, or does not, is what the packets print that end before that call.
@@ -233,7 +238,10 @@ fn check_alone(capture: &[u8], room: usize, text: &[u8]) -> Vec<usize> {
         kind: ErrorKind::BrokenPipe,
     };
     let mut tally = Tally::new();
-    let answer = dump(&PRINTED, capture, &mut sink, &mut tally);
+    let answer = match dump(&PRINTED, capture, &mut sink, &mut tally) {
+        Ok(ending) => whole(ending),
+        Err(fault) => Err(fault),
+    };
     check_written(room, answer, Fault::Closed, output.as_slice(), text);
     places
 }

@@ -1,0 +1,119 @@
+//! The options that a value follows, and their values.
+
+ghost use Rattle.std.specs.Prelude.{◌≡◌, ◌<◌};
+ghost use Rattle.std.specs.Option.{option_map};
+ghost use Rattle.std.specs.Str.{all_ascii_digits};
+ghost use Rattle.dump_captures.specs.Settings.{before, behind, count_in, number_in, setting_of, time_form_in};
+
+use crate::options::TimeForm;
+
+/// An option that a value follows.
+#[derive(Debug, PartialEq, Eq, Clone, Copy)]
+pub enum Setting {
+    /// `--only`: the kinds that are printed.
+    Only,
+    /// `-c`: how many packets are printed.
+    Most,
+    /// `--host`: the host whose packets are printed.
+    Host,
+    /// `--name`: the name that messages have.
+    Name,
+    /// `--time`: how times are printed.
+    Time,
+}
+
+impl Setting {
+    /// The option.
+    pub fn name(self) -> &'static str {
+        match self {
+            Setting::Only => "--only",
+            Setting::Most => "-c",
+            Setting::Host => "--host",
+            Setting::Name => "--name",
+            Setting::Time => "--time",
+        }
+    }
+
+    /// What its value is.
+    pub fn value(self) -> &'static str {
+        match self {
+            Setting::Only => "kinds with commas between them",
+            Setting::Most => "a number of packets from 1 on",
+            Setting::Host => "an IPv4 or IPv6 address, or ADDRESS/BITS",
+            Setting::Name => "a DNS name",
+            Setting::Time => "utc, relative, delta or epoch",
+        }
+    }
+}
+
+/// The option of this name that a value follows.
+pub fn setting_of(option: &str) -> Option<Setting>
+    ensures { result ≡ setting_of option.now }
+{
+    match option {
+        "--only" => Some(Setting::Only),
+        "-c" => Some(Setting::Most),
+        "--host" => Some(Setting::Host),
+        "--name" => Some(Setting::Name),
+        "--time" => Some(Setting::Time),
+        _ => None,
+    }
+}
+
+/// The text before the first such character, and that behind it where there is one. Requires one of ASCII.
+pub fn split(text: &str, separator: char) -> (&str, Option<&str>)
+    requires { separator < 128 }
+    ensures before { result.0.now ≡ before separator text.now }
+    ensures behind { option_map (λ value. value.now) result.1 ≡ behind separator text.now }
+{
+    match text.split_once(separator) {
+        Some((before, behind)) => (before, Some(behind)),
+        None => (text, None),
+    }
+}
+
+/// A number in decimal digits.
+pub fn number_in(text: &str) -> Option<u64>
+    ensures { result ≡ number_in text.now }
+{
+    if !are_digits(text.as_bytes()) {
+        return None;
+    }
+    text.parse().ok()
+}
+
+// Whether all of these are digits.
+fn are_digits(octets: &[u8]) -> bool
+    ensures { result ≡ all_ascii_digits octets.now }
+{
+    for octet in octets {
+        if !octet.is_ascii_digit() {
+            return false;
+        }
+    }
+    true
+}
+
+/// The same from 1 on.
+pub fn count_in(text: &str) -> Option<u64>
+    ensures { result ≡ count_in text.now }
+{
+    let number = number_in(text)?;
+    if number == 0 {
+        return None;
+    }
+    Some(number)
+}
+
+/// The form of times of this name.
+pub fn time_form_in(text: &str) -> Option<TimeForm>
+    ensures { result ≡ time_form_in text.now }
+{
+    match text {
+        "utc" => Some(TimeForm::Utc),
+        "relative" => Some(TimeForm::Relative),
+        "delta" => Some(TimeForm::Delta),
+        "epoch" => Some(TimeForm::Epoch),
+        _ => None,
+    }
+}
