@@ -5,7 +5,7 @@ from ip import Datagram, Fragment, pass_extensions, whole
 # So many datagrams are kept at the most, and of each so many fragments.
 MOST_DATAGRAMS = 64
 MOST_FRAGMENTS = 256
-# So many octets are put together at the most: those of headers, which the length of a datagram counts, are not counted.
+# So many octets are put together at the most, without those of the headers in front, which are not counted.
 MOST_OCTETS = 65535
 
 

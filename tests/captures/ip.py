@@ -14,8 +14,8 @@ PROTOCOLS = {
 
 
 class Datagram:
-    """A datagram: its addresses, the protocol of its payload, the octets of hop-by-hop options or None; and of a refused
-    one, whether its payload is there as far as its octets go, and how many are missing of that."""
+    """A datagram: its addresses, the protocol of its payload, the octets of hop-by-hop options or None; and where it is
+    refused, whether its payload begins in it all the same, and how many octets are missing of that."""
 
     def __init__(self, source, destination, protocol_number, payload, hop_by_hop=None):
         self.source = source
@@ -28,16 +28,14 @@ class Datagram:
 
 
 class Fragment:
-    """A fragment: what it belongs to, its place in that and whether more follow, its octets; the datagram that it would
-    be alone; and how many octets of a datagram stand in front of what is fragmented, of those that the length of a
-    datagram counts."""
+    """A fragment: the datagram that it would be alone, the number of the one that it is of, its place in that, and
+    whether more follow."""
 
-    def __init__(self, alone, ident, offset, more, front_len):
+    def __init__(self, alone, ident, offset, more):
         self.alone = alone
         self.ident = ident
         self.offset = offset
         self.more = more
-        self.front_len = front_len
 
     def key(self):
         """What all fragments of a datagram have in common (RFC 791 section 3.2, RFC 8200 section 4.5)."""
@@ -69,7 +67,7 @@ def datagram4(octets):
         raise Refused("malformed", "a total length of %d is below that of the header" % total_len)
     of = Datagram(octets[12:16], octets[16:20], octets[9], octets[header_len:total_len])
     flags = be(octets[6:8])
-    fragment = Fragment(of, be(octets[4:6]), flags % 0x2000 * 8, flags >> 13 & 1, header_len)
+    fragment = Fragment(of, be(octets[4:6]), flags % 0x2000 * 8, flags >> 13 & 1)
     need(octets, total_len, "cut short, " + fragment.text())
     return fragment if fragment.more or fragment.offset else of
 
@@ -154,7 +152,7 @@ def pass_headers(octets, payload):
 
 def pass_extensions(of, is_jumbo, is_first):
     """The same from a header on, which is the first behind IPv6's or a later one."""
-    number, payload, behind = of.protocol, of.payload, len(of.payload)
+    number, payload = of.protocol, of.payload
     hop_by_hop, destination = of.hop_by_hop, of.destination
     while number in EXTENSIONS + (FRAGMENT,):
         if number == FRAGMENT and is_jumbo:
@@ -162,12 +160,11 @@ def pass_extensions(of, is_jumbo, is_first):
         length = 8 if number == FRAGMENT else extension_len(payload)
         if len(payload) < length:
             return Torn(number)
-        front_len = behind - len(payload)
         header, payload = payload[:length], payload[length:]
         # A fragment that is a whole datagram alone is passed (RFC 6946).
         if number == FRAGMENT and be(header[2:4]) & 0xFFF9:
             alone = Datagram(of.source, destination, header[0], payload, hop_by_hop)
-            return Fragment(alone, be(header[4:8]), be(header[2:4]) & 0xFFF8, header[3] & 1, front_len)
+            return Fragment(alone, be(header[4:8]), be(header[2:4]) & 0xFFF8, header[3] & 1)
         # Hop-by-hop options stand directly behind the IPv6 header alone (RFC 8200 section 4.3).
         if number == HOP_BY_HOP and is_first:
             hop_by_hop = header[2:]

@@ -1,70 +1,72 @@
 """The names of numbers, by IANA's registries and the RFCs that are named, in lower case with underscores; those of DNS
 and of links are as their registries write them."""
 
-# ---- links: https://www.tcpdump.org/linktypes.html
+# ---- links: https://www.tcpdump.org/linktypes.html, of those that are described there
 
 LINKS = {
-    0: "NULL", 1: "ETHERNET", 2: "EXP_ETHERNET", 3: "AX25", 4: "PRONET", 5: "CHAOS", 6: "IEEE802_5", 7: "ARCNET_BSD", 8:
-    "SLIP", 9: "PPP", 10: "FDDI", 50: "PPP_HDLC", 51: "PPP_ETHER", 99: "SYMANTEC_FIREWALL", 100: "ATM_RFC1483", 101:
-    "RAW", 104: "C_HDLC", 105: "IEEE802_11", 106: "ATM_CLIP", 107: "FRELAY", 108: "LOOP", 109: "ENC", 113: "LINUX_SLL",
-    114: "LTALK", 117: "PFLOG", 119: "IEEE802_11_PRISM", 122: "IP_OVER_FC", 123: "SUNATM", 127: "IEEE802_11_RADIOTAP",
-    129: "ARCNET_LINUX", 130: "JUNIPER_MLPPP", 131: "JUNIPER_MLFR", 132: "JUNIPER_ES", 133: "JUNIPER_GGSN", 134:
-    "JUNIPER_MFR", 135: "JUNIPER_ATM2", 136: "JUNIPER_SERVICES", 137: "JUNIPER_ATM1", 138: "APPLE_IP_OVER_IEEE1394",
-    139: "MTP2_WITH_PHDR", 140: "MTP2", 141: "MTP3", 142: "SCCP", 143: "DOCSIS", 144: "LINUX_IRDA", 147: "USER0", 148:
-    "USER1", 149: "USER2", 150: "USER3", 151: "USER4", 152: "USER5", 153: "USER6", 154: "USER7", 155: "USER8", 156:
-    "USER9", 157: "USER10", 158: "USER11", 159: "USER12", 160: "USER13", 161: "USER14", 162: "USER15", 163:
-    "IEEE802_11_AVS", 164: "JUNIPER_MONITOR", 165: "BACNET_MS_TP", 166: "PPP_PPPD", 167: "JUNIPER_PPPOE", 168:
-    "JUNIPER_PPPOE_ATM", 169: "GPRS_LLC", 170: "GPF_T", 171: "GPF_F", 174: "JUNIPER_PIC_PEER", 175: "ERF_ETH", 176:
-    "ERF_POS", 177: "LINUX_LAPD", 178: "JUNIPER_ETHER", 179: "JUNIPER_PPP", 180: "JUNIPER_FRELAY", 181: "JUNIPER_CHDLC",
-    182: "MFR", 183: "JUNIPER_VP", 184: "A429", 185: "A653_ICM", 186: "USB_FREEBSD", 187: "BLUETOOTH_HCI_H4", 188:
-    "IEEE802_16_MAC_CPS", 189: "USB_LINUX", 190: "CAN20B", 191: "IEEE802_15_4_LINUX", 192: "PPI", 193:
-    "IEEE802_16_MAC_CPS_RADIO", 194: "JUNIPER_ISM", 195: "IEEE802_15_4_WITHFCS", 196: "SITA", 197: "ERF", 198: "RAIF1",
-    199: "IPMB_KONTRON", 200: "JUNIPER_ST", 201: "BLUETOOTH_HCI_H4_WITH_PHDR", 202: "AX25_KISS", 203: "LAPD", 204:
-    "PPP_WITH_DIR", 205: "C_HDLC_WITH_DIR", 206: "FRELAY_WITH_DIR", 207: "LAPB_WITH_DIR", 209: "I2C_LINUX", 210:
-    "FLEXRAY", 211: "MOST", 212: "LIN", 215: "IEEE802_15_4_NONASK_PHY", 216: "LINUX_EVDEV", 217: "GSMTAP_UM", 218:
-    "GSMTAP_ABIS", 219: "MPLS", 220: "USB_LINUX_MMAPPED", 221: "DECT", 222: "AOS", 223: "WIHART", 224: "FC_2", 225:
-    "FC_2_WITH_FRAME_DELIMS", 226: "IPNET", 227: "CAN_SOCKETCAN", 228: "IPV4", 229: "IPV6", 230: "IEEE802_15_4_NOFCS",
-    231: "DBUS", 232: "JUNIPER_VS", 233: "JUNIPER_SRX_E2E", 234: "JUNIPER_FIBRECHANNEL", 235: "DVB_CI", 236: "MUX27010",
-    237: "STANAG_5066_D_PDU", 238: "JUNIPER_ATM_CEMIC", 239: "NFLOG", 240: "NETANALYZER", 241:
-    "NETANALYZER_TRANSPARENT", 242: "IPOIB", 243: "MPEG_2_TS", 244: "NG40", 245: "NFC_LLCP", 246: "PFSYNC", 247:
-    "INFINIBAND", 248: "SCTP", 249: "USBPCAP", 250: "RTAC_SERIAL", 251: "BLUETOOTH_LE_LL", 252: "WIRESHARK_UPPER_PDU",
-    253: "NETLINK", 254: "BLUETOOTH_LINUX_MONITOR", 255: "BLUETOOTH_BREDR_BB", 256: "BLUETOOTH_LE_LL_WITH_PHDR", 257:
-    "PROFIBUS_DL", 258: "PKTAP", 259: "EPON", 260: "IPMI_HPM_2", 261: "ZWAVE_R1_R2", 262: "ZWAVE_R3", 263:
-    "WATTSTOPPER_DLM", 264: "ISO_14443", 265: "RDS", 266: "USB_DARWIN", 267: "OPENFLOW", 268: "SDLC", 269:
-    "TI_LLN_SNIFFER", 270: "LORATAP", 271: "VSOCK", 272: "NORDIC_BLE", 273: "DOCSIS31_XRA31", 274: "ETHERNET_MPACKET",
-    275: "DISPLAYPORT_AUX", 276: "LINUX_SLL2", 277: "SERCOS_MONITOR", 278: "OPENVIZSLA", 279: "EBHSCR", 280:
-    "VPP_DISPATCH", 281: "DSA_TAG_BRCM", 282: "DSA_TAG_BRCM_PREPEND", 283: "IEEE802_15_4_TAP", 284: "DSA_TAG_DSA", 285:
-    "DSA_TAG_EDSA", 286: "ELEE", 287: "Z_WAVE_SERIAL", 288: "USB_2_0", 289: "ATSC_ALP", 290: "ETW",
+    0: "NULL", 1: "ETHERNET", 2: "EXP_ETHERNET", 3: "AX25", 4: "PRONET", 5: "CHAOS", 6: "IEEE802_5", 7: "ARCNET_BSD",
+    8: "SLIP", 9: "PPP", 10: "FDDI", 50: "PPP_HDLC", 51: "PPP_ETHER", 99: "SYMANTEC_FIREWALL", 100: "ATM_RFC1483",
+    101: "RAW", 104: "C_HDLC", 105: "IEEE802_11", 106: "ATM_CLIP", 107: "FRELAY", 108: "LOOP", 109: "ENC",
+    113: "LINUX_SLL", 114: "LTALK", 117: "PFLOG", 119: "IEEE802_11_PRISM", 122: "IP_OVER_FC", 123: "SUNATM",
+    127: "IEEE802_11_RADIOTAP", 129: "ARCNET_LINUX", 130: "JUNIPER_MLPPP", 131: "JUNIPER_MLFR", 132: "JUNIPER_ES",
+    133: "JUNIPER_GGSN", 134: "JUNIPER_MFR", 135: "JUNIPER_ATM2", 136: "JUNIPER_SERVICES", 137: "JUNIPER_ATM1",
+    138: "APPLE_IP_OVER_IEEE1394", 139: "MTP2_WITH_PHDR", 140: "MTP2", 141: "MTP3", 142: "SCCP", 143: "DOCSIS",
+    144: "LINUX_IRDA", 147: "USER0", 148: "USER1", 149: "USER2", 150: "USER3", 151: "USER4", 152: "USER5", 153: "USER6",
+    154: "USER7", 155: "USER8", 156: "USER9", 157: "USER10", 158: "USER11", 159: "USER12", 160: "USER13", 161: "USER14",
+    162: "USER15", 163: "IEEE802_11_AVS", 164: "JUNIPER_MONITOR", 165: "BACNET_MS_TP", 166: "PPP_PPPD",
+    167: "JUNIPER_PPPOE", 168: "JUNIPER_PPPOE_ATM", 169: "GPRS_LLC", 170: "GPF_T", 171: "GPF_F",
+    174: "JUNIPER_PIC_PEER", 175: "ERF_ETH", 176: "ERF_POS", 177: "LINUX_LAPD", 178: "JUNIPER_ETHER",
+    179: "JUNIPER_PPP", 180: "JUNIPER_FRELAY", 181: "JUNIPER_CHDLC", 182: "MFR", 183: "JUNIPER_VP", 184: "A429",
+    185: "A653_ICM", 186: "USB_FREEBSD", 187: "BLUETOOTH_HCI_H4", 188: "IEEE802_16_MAC_CPS", 189: "USB_LINUX",
+    190: "CAN20B", 191: "IEEE802_15_4_LINUX", 192: "PPI", 193: "IEEE802_16_MAC_CPS_RADIO", 194: "JUNIPER_ISM",
+    195: "IEEE802_15_4_WITHFCS", 196: "SITA", 197: "ERF", 198: "RAIF1", 199: "IPMB_KONTRON", 200: "JUNIPER_ST",
+    201: "BLUETOOTH_HCI_H4_WITH_PHDR", 202: "AX25_KISS", 203: "LAPD", 204: "PPP_WITH_DIR", 205: "C_HDLC_WITH_DIR",
+    206: "FRELAY_WITH_DIR", 207: "LAPB_WITH_DIR", 209: "I2C_LINUX", 210: "FLEXRAY", 211: "MOST", 212: "LIN",
+    215: "IEEE802_15_4_NONASK_PHY", 216: "LINUX_EVDEV", 217: "GSMTAP_UM", 218: "GSMTAP_ABIS", 219: "MPLS",
+    220: "USB_LINUX_MMAPPED", 221: "DECT", 222: "AOS", 223: "WIHART", 224: "FC_2", 225: "FC_2_WITH_FRAME_DELIMS",
+    226: "IPNET", 227: "CAN_SOCKETCAN", 228: "IPV4", 229: "IPV6", 230: "IEEE802_15_4_NOFCS", 231: "DBUS",
+    232: "JUNIPER_VS", 233: "JUNIPER_SRX_E2E", 234: "JUNIPER_FIBRECHANNEL", 235: "DVB_CI", 236: "MUX27010",
+    237: "STANAG_5066_D_PDU", 238: "JUNIPER_ATM_CEMIC", 239: "NFLOG", 240: "NETANALYZER",
+    241: "NETANALYZER_TRANSPARENT", 242: "IPOIB", 243: "MPEG_2_TS", 244: "NG40", 245: "NFC_LLCP", 246: "PFSYNC",
+    247: "INFINIBAND", 248: "SCTP", 249: "USBPCAP", 250: "RTAC_SERIAL", 251: "BLUETOOTH_LE_LL",
+    252: "WIRESHARK_UPPER_PDU", 253: "NETLINK", 254: "BLUETOOTH_LINUX_MONITOR", 255: "BLUETOOTH_BREDR_BB",
+    256: "BLUETOOTH_LE_LL_WITH_PHDR", 257: "PROFIBUS_DL", 258: "PKTAP", 259: "EPON", 260: "IPMI_HPM_2",
+    261: "ZWAVE_R1_R2", 262: "ZWAVE_R3", 263: "WATTSTOPPER_DLM", 264: "ISO_14443", 265: "RDS", 266: "USB_DARWIN",
+    267: "OPENFLOW", 268: "SDLC", 269: "TI_LLN_SNIFFER", 270: "LORATAP", 271: "VSOCK", 272: "NORDIC_BLE",
+    273: "DOCSIS31_XRA31", 274: "ETHERNET_MPACKET", 275: "DISPLAYPORT_AUX", 276: "LINUX_SLL2", 277: "SERCOS_MONITOR",
+    278: "OPENVIZSLA", 279: "EBHSCR", 280: "VPP_DISPATCH", 281: "DSA_TAG_BRCM", 282: "DSA_TAG_BRCM_PREPEND",
+    283: "IEEE802_15_4_TAP", 284: "DSA_TAG_DSA", 285: "DSA_TAG_EDSA", 286: "ELEE", 287: "Z_WAVE_SERIAL", 288: "USB_2_0",
+    289: "ATSC_ALP", 290: "ETW",
 }
 
-# ---- networks and protocols as the line that sums up has them: some of IANA's EtherTypes and protocol numbers
+# ---- networks and protocols in the line that sums up, by names with hyphens: some of IANA's EtherTypes and protocols
 
 ETHERTYPES = {
     0x0600: "xns", 0x0805: "x25", 0x0806: "arp", 0x0842: "wake-on-lan", 0x2000: "cdp", 0x22EA: "msrp", 0x22F0: "avtp",
-    0x22F3: "trill", 0x22F4: "isis", 0x6001: "mop-dump", 0x6002: "mop-console", 0x6003: "decnet", 0x6004: "lat", 0x6558:
-    "teb", 0x8035: "rarp", 0x809B: "appletalk", 0x80F3: "aarp", 0x8100: "vlan", 0x8137: "ipx", 0x8808: "mac-control", 0x8809:
-    "slow-protocols", 0x880B: "ppp", 0x8819: "cobranet", 0x8847: "mpls", 0x8848: "mpls-multicast", 0x884C: "mpoa",
-    0x8863: "pppoe-discovery", 0x8864: "pppoe-session", 0x8870: "jumbo-llc", 0x887B: "homeplug", 0x888E: "eapol",
-    0x8892: "profinet", 0x8899: "realtek", 0x88A2: "aoe", 0x88A4: "ethercat", 0x88AB: "powerlink", 0x88B7:
-    "oui-extended", 0x88B8: "goose", 0x88B9: "gse", 0x88BA: "sampled-values", 0x88C7: "preauthentication", 0x88CA:
-    "tipc", 0x88CC: "lldp", 0x88CD: "sercos", 0x88D9: "lltd", 0x88DC: "wsmp", 0x88E1: "homeplug-av", 0x88E3: "mrp",
-    0x88E5: "macsec", 0x88E7: "pbb", 0x88EE: "e-lmi", 0x88F5: "mvrp", 0x88F6: "mmrp", 0x88F7: "ptp", 0x88F8: "nc-si",
-    0x88FB: "prp", 0x8902: "cfm", 0x8906: "fcoe", 0x8914: "fip", 0x8915: "roce", 0x891D: "ttethernet", 0x8926: "vn-tag",
-    0x892F: "hsr", 0x893A: "ieee1905", 0x893F: "e-tag", 0x8947: "geonetworking", 0x894F: "nsh", 0x9000: "loopback",
-    0xA0ED: "6lowpan", 0xAEFE: "ecpri", 0xF1C1: "frer",
+    0x22F3: "trill", 0x22F4: "isis", 0x6001: "mop-dump", 0x6002: "mop-console", 0x6003: "decnet", 0x6004: "lat",
+    0x6558: "teb", 0x8035: "rarp", 0x809B: "appletalk", 0x80F3: "aarp", 0x8100: "vlan", 0x8137: "ipx",
+    0x8808: "mac-control", 0x8809: "slow-protocols", 0x880B: "ppp", 0x8819: "cobranet", 0x8847: "mpls",
+    0x8848: "mpls-multicast", 0x884C: "mpoa", 0x8863: "pppoe-discovery", 0x8864: "pppoe-session", 0x8870: "jumbo-llc",
+    0x887B: "homeplug", 0x888E: "eapol", 0x8892: "profinet", 0x8899: "realtek", 0x88A2: "aoe", 0x88A4: "ethercat",
+    0x88A8: "service-vlan", 0x88AB: "powerlink", 0x88B7: "oui-extended", 0x88B8: "goose", 0x88B9: "gse",
+    0x88BA: "sampled-values", 0x88C7: "preauthentication", 0x88CA: "tipc", 0x88CC: "lldp", 0x88CD: "sercos", 0x88D9: "lltd", 0x88DC: "wsmp",
+    0x88E1: "homeplug-av", 0x88E3: "mrp", 0x88E5: "macsec", 0x88E7: "pbb", 0x88EE: "e-lmi", 0x88F5: "mvrp",
+    0x88F6: "mmrp", 0x88F7: "ptp", 0x88F8: "nc-si", 0x88FB: "prp", 0x8902: "cfm", 0x8906: "fcoe", 0x8914: "fip",
+    0x8915: "roce", 0x891D: "ttethernet", 0x8926: "vn-tag", 0x892F: "hsr", 0x893A: "ieee1905", 0x893F: "e-tag",
+    0x8947: "geonetworking", 0x894F: "nsh", 0x9000: "loopback", 0xA0ED: "6lowpan", 0xAEFE: "ecpri", 0xF1C1: "frer",
 }
 PROTOCOL_NAMES = {
-    0: "hopopt", 1: "icmp", 2: "igmp", 3: "ggp", 4: "ipencap", 5: "st", 6: "tcp", 7: "cbt", 8: "egp", 9: "igp", 10:
-    "bbn-rcc-mon", 11: "nvp-ii", 12: "pup", 13: "argus", 14: "emcon", 15: "xnet", 16: "chaos", 17: "udp", 18: "mux", 20:
-    "hmp", 22: "xns-idp", 27: "rdp", 28: "irtp", 29: "iso-tp4", 30: "netblt", 33: "dccp", 34: "3pc", 35: "idpr", 36:
-    "xtp", 37: "ddp", 38: "idpr-cmtp", 41: "ipv6", 42: "sdrp", 43: "ipv6-route", 44: "ipv6-frag", 45: "idrp", 46:
-    "rsvp", 47: "gre", 48: "dsr", 49: "bna", 50: "esp", 51: "ah", 53: "swipe", 54: "narp", 57: "skip", 58: "ipv6-icmp",
-    59: "ipv6-nonxt", 60: "ipv6-opts", 80: "iso-ip", 81: "vmtp", 83: "vines", 88: "eigrp", 89: "ospf", 92: "mtp", 93:
-    "ax.25", 94: "ipip", 97: "etherip", 98: "encap", 102: "pnni", 103: "pim", 104: "aris", 105: "scps", 106: "qnx", 108:
-    "ipcomp", 112: "vrrp", 113: "pgm", 115: "l2tp", 118: "stp", 119: "srp", 121: "smp", 122: "sm", 123: "ptp", 124:
-    "isis", 126: "crtp", 127: "crudp", 132: "sctp", 133: "fc", 134: "rsvp-e2e-ignore", 135: "mobility-header", 136:
-    "udplite", 137: "mpls-in-ip", 138: "manet", 139: "hip", 140: "shim6", 141: "wesp", 142: "rohc", 143: "ethernet",
-    144: "aggfrag", 145: "nsh",
+    0: "hopopt", 1: "icmp", 2: "igmp", 3: "ggp", 4: "ipencap", 5: "st", 6: "tcp", 7: "cbt", 8: "egp", 9: "igp",
+    10: "bbn-rcc-mon", 11: "nvp-ii", 12: "pup", 13: "argus", 14: "emcon", 15: "xnet", 16: "chaos", 17: "udp", 18: "mux",
+    20: "hmp", 22: "xns-idp", 27: "rdp", 28: "irtp", 29: "iso-tp4", 30: "netblt", 33: "dccp", 34: "3pc", 35: "idpr",
+    36: "xtp", 37: "ddp", 38: "idpr-cmtp", 41: "ipv6", 42: "sdrp", 43: "ipv6-route", 44: "ipv6-frag", 45: "idrp",
+    46: "rsvp", 47: "gre", 48: "dsr", 49: "bna", 50: "esp", 51: "ah", 53: "swipe", 54: "narp", 57: "skip",
+    58: "ipv6-icmp", 59: "ipv6-nonxt", 60: "ipv6-opts", 80: "iso-ip", 81: "vmtp", 83: "vines", 88: "eigrp", 89: "ospf",
+    92: "mtp", 93: "ax.25", 94: "ipip", 97: "etherip", 98: "encap", 102: "pnni", 103: "pim", 104: "aris", 105: "scps",
+    106: "qnx", 108: "ipcomp", 112: "vrrp", 113: "pgm", 115: "l2tp", 118: "stp", 119: "srp", 121: "smp", 122: "sm",
+    123: "ptp", 124: "isis", 126: "crtp", 127: "crudp", 132: "sctp", 133: "fc", 134: "rsvp-e2e-ignore",
+    135: "mobility-header", 136: "udplite", 137: "mpls-in-ip", 138: "manet", 139: "hip", 140: "shim6", 141: "wesp",
+    142: "rohc", 143: "ethernet", 144: "aggfrag", 145: "nsh",
 }
 
 # ---- protocols over IP

@@ -43,6 +43,8 @@ NETWORKS = {
     "networks_of_ipnet": pcap([ipnet(b"", 10), ipnet(b"", 0)], 226),
     "networks_of_ipoib": pcap([ipoib(b"", 0x0806)], 242),
     "networks_of_nflog": pcap([nflog(attribute(9, b"\0"), family=7)], 239),
+    "networks_of_gre": raw(*(outer4(gre(b"\0\5\x08\0", ethertype), GRE)
+                             for ethertype in (0x8100, 0x88A8, 0x8864, 0x0806))),
     "networks_of_frame_relay": pcap([hexed("1841 03" + of) for of in
                                      ("81", "80 000000 0806", "80 00000c 2000", "0008")], 107),
     "protocols_of_ipv4": raw(*(ip4(b"", protocol) for protocol in PROTOCOLS)),
