@@ -143,11 +143,10 @@ def show_datagram(shown, found, is_strict):
         shown.has_options = True
         front += hop_by_hop(of.hop_by_hop)
     shown.messages = [front + message for message in show_messages(shown, found, segments, is_strict)]
-    if found.is_bad and shown.reason not in BEFORE_HEADER:
+    if found.is_bad and shown.reason != "cut":
         shown.reason = "checksum"
 
 
-BEFORE_HEADER = ("cut",)
 BAD_HEADER = "the checksum of the IPv4 header does not hold"
 
 
