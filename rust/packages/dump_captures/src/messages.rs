@@ -48,7 +48,7 @@ fn show_header<W: Write>(output: &mut W, form: Form, is_bad: bool) -> io::Result
 // The reason under which a packet is counted whose IPv4 header has a wrong checksum.
 fn header_reason(content: &Content<'_>) -> Reason {
     match content {
-        Content::Cut(_, _, reason) => *reason,
+        Content::Cut(_, _, Reason::Cut) | Content::Refused(_, Reason::Cut, _) => Reason::Cut,
         _ => Reason::Checksum,
     }
 }

@@ -8,6 +8,9 @@ use control_wire::record::name::Labels;
 use control_wire::record::{Entries, Entry, Name};
 use message_fields::{Message, Service};
 
+// The letters of a NetBIOS name.
+const LETTERS: usize = 32;
+
 /// Whether a control packet is chosen by a name, where one is asked for: its message has a question or a record of that
 /// name, or of one that ends in it.
 pub fn has_name(end: &Option<Name>, content: &Content<'_>) -> bool {
@@ -25,7 +28,7 @@ pub fn has_name(end: &Option<Name>, content: &Content<'_>) -> bool {
 fn is_of(end: &Name, message: &Message<'_>) -> bool {
     match message {
         Message::Udp(service, _, octets) => service_has(*service, end, octets),
-        Message::Tcp(_, _, octets) => message_has(end, octets),
+        Message::Tcp(_, _, octets) => message_has(Service::Dns, end, octets),
         _ => false,
     }
 }
@@ -33,26 +36,26 @@ fn is_of(end: &Name, message: &Message<'_>) -> bool {
 fn service_has(service: Service, end: &Name, octets: &[u8]) -> bool {
     match service {
         Service::Dhcp => false,
-        _ => datagram_has(end, octets),
+        _ => datagram_has(service, end, octets),
     }
 }
 
-fn datagram_has(end: &Name, octets: &[u8]) -> bool {
+fn datagram_has(service: Service, end: &Name, octets: &[u8]) -> bool {
     match CapturedUdp::parse(octets) {
-        Ok(datagram) => message_has(end, datagram.payload),
+        Ok(datagram) => message_has(service, end, datagram.payload),
         Err(_) => false,
     }
 }
 
-fn message_has(end: &Name, octets: &[u8]) -> bool {
+fn message_has(service: Service, end: &Name, octets: &[u8]) -> bool {
     match Packet::new_checked(octets) {
-        Ok(packet) => has_owner(end, &packet),
+        Ok(packet) => has_owner(service, end, &packet),
         Err(_) => false,
     }
 }
 
 // Whether a question or a record has such a name.
-fn has_owner(end: &Name, packet: &Packet<&[u8]>) -> bool {
+fn has_owner(service: Service, end: &Name, packet: &Packet<&[u8]>) -> bool {
     let mut entries = Entries::new(packet);
     loop {
         let entry = match entries.next() {
@@ -60,7 +63,7 @@ fn has_owner(end: &Name, packet: &Packet<&[u8]>) -> bool {
             Some(Err(_)) => return false,
             None => return false,
         };
-        if name_ends(end, packet, owner_in(&entry)) {
+        if name_ends(service, end, packet, owner_in(&entry)) {
             return true;
         }
     }
@@ -75,11 +78,77 @@ fn owner_in<'a>(entry: &Entry<'a>) -> &'a [u8] {
 }
 
 // Whether these octets of a message are a name that ends so.
-fn name_ends<'a>(end: &Name, packet: &Packet<&'a [u8]>, octets: &'a [u8]) -> bool {
+fn name_ends<'a>(
+    service: Service,
+    end: &Name,
+    packet: &Packet<&'a [u8]>,
+    octets: &'a [u8],
+) -> bool {
     match Name::read(packet, octets) {
-        Ok(name) => ends_in(end, &name),
+        Ok(name) => has_end(service, end, &name),
         Err(_) => false,
     }
+}
+
+// Whether a name ends so, or is such a NetBIOS name.
+fn has_end(service: Service, end: &Name, name: &Name) -> bool {
+    match service {
+        Service::Nbns => ends_in(end, name) || is_netbios(end, name),
+        _ => ends_in(end, name),
+    }
+}
+
+// Whether a name, whose first label is 32 letters, is that of an end's first label in the scope of the others.
+fn is_netbios(end: &Name, name: &Name) -> bool {
+    let (mut rest, mut scope) = (end.labels(), name.labels());
+    let Some(first) = rest.next() else {
+        return false;
+    };
+    let Some(letters) = scope.next() else {
+        return false;
+    };
+    spells(letters, first) && are_same(scope, rest)
+}
+
+// Whether a label of 32 letters is a name and a byte behind it.
+fn spells(letters: &[u8], text: &[u8]) -> bool {
+    if letters.len() != LETTERS {
+        return false;
+    }
+    are_letters(letters) && is_padded(&letters[..LETTERS - 2], text)
+}
+
+// Whether all of these are letters that stand for four bits.
+fn are_letters(octets: &[u8]) -> bool {
+    for octet in octets {
+        if !matches!(octet, b'A'..=b'P') {
+            return false;
+        }
+    }
+    true
+}
+
+// Whether the bytes that letters spell are a text and spaces behind it.
+fn is_padded(letters: &[u8], text: &[u8]) -> bool {
+    let [high, low, letters @ ..] = letters else {
+        return text.is_empty();
+    };
+    let byte = byte_of(*high, *low);
+    match text {
+        [first, text @ ..] => lower(byte) == lower(u16::from(*first)) && is_padded(letters, text),
+        [] => byte == 32 && is_padded(letters, text),
+    }
+}
+
+fn byte_of(high: u8, low: u8) -> u16 {
+    16 * u16::from(high.saturating_sub(b'A')) + u16::from(low.saturating_sub(b'A'))
+}
+
+fn lower(byte: u16) -> u16 {
+    if matches!(byte, 65..=90) {
+        return byte + 32;
+    }
+    byte
 }
 
 // Whether the last labels of a name are those of an end.

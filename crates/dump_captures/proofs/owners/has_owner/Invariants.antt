@@ -10,8 +10,8 @@ use Rattle.dump_captures.proofs.owners.has_owner.Given as goal
 abbrev pub invariant-loop-entry : goal.invariant-loop-entry
 invariant-loop-entry l = record {
   unbroken : l.entries.refused ≡ false;
-  goes_on : (has : Bool) → HasOwner (labels_of l.end) (view_octets l.packet) l.entries has
-      → HasOwner (labels_of l.end) (view_octets l.packet) (all_of (view_octets l.packet)) has;
+  goes_on : (has : Bool) → HasOwner l.service (labels_of l.end) (view_octets l.packet) l.entries has
+      → HasOwner l.service (labels_of l.end) (view_octets l.packet) (all_of (view_octets l.packet)) has;
 }
 
 abbrev pub decreases-loop-entry : goal.decreases-loop-entry
