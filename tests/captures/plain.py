@@ -247,7 +247,7 @@ class Counts:
         parts = ["%d packets" % self.packets, "%d listed" % self.total("listed")]
         parts.append(refused + (" (%s)" % ", ".join(reasons) if reasons else ""))
         parts.append("%d of other protocols%s" % (self.others.total(), self.others.text()))
-        parts += ["%d of kinds that are not printed" % self.passed] if self.passed else []
+        parts += ["%d not chosen" % self.passed] if self.passed else []
         parts += ["%d fragments%s" % (self.fragments.total(), self.fragments.text())] if self.fragments.total() else []
         parts += ["%d of them put together" % self.joined] if self.joined else []
         parts += ["%d of link %s" % (count, link) for link, count in self.links.told()]

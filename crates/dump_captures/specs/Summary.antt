@@ -59,5 +59,5 @@ unfoldable pub summary_text : TallyValue → List ℕ
 summary_text t =
     decimal t.packets ++ codes " packets, " ++ decimal (listed_in t) ++ codes " listed, " ++ decimal (refused_in t)
     ++ codes " refused" ++ reasons_text t ++ codes ", " ++ decimal t.others.all ++ codes " of other protocols"
-    ++ counts_text t.others ++ further_text t.passed (codes " of kinds that are not printed") ++ fragments_text t
+    ++ counts_text t.others ++ further_text t.passed (codes " not chosen") ++ fragments_text t
     ++ links_text t.links.rows ++ further_text t.links.further (codes " of other links")

@@ -84,7 +84,7 @@ const CHOSEN: &[Chosen] = &[
             nbns\t0\t0\t0\t0\t0\t0\t0\t0\t0\t0\n\
             dhcp\t0\t0\t0\t0\t0\t0\t0\t0\t0\t0\n\
             frame\t0\t0\t0\t0\t0\t0\t0\t0\t0\t0\n",
-        "13 packets, 1 listed, 0 refused, 1 of other protocols (1 tcp), 10 of kinds that are not printed, \
+        "13 packets, 1 listed, 0 refused, 1 of other protocols (1 tcp), 10 not chosen, \
             1 fragments (1 udp)",
     ),
     (
@@ -96,13 +96,13 @@ const CHOSEN: &[Chosen] = &[
         "dns\t1\t0\t0\t0\t1\t0\t0\t1\t0\t170\n\
             frame\t0\t0\t0\t0\t0\t0\t0\t0\t0\t0\n",
         "13 packets, 1 listed, 2 refused (1 checksum, 1 name), 1 of other protocols (1 tcp), \
-            8 of kinds that are not printed, 1 fragments (1 udp)",
+            8 not chosen, 1 fragments (1 udp)",
     ),
     (
         Only::NONE,
         &[],
         "",
-        "13 packets, 0 listed, 0 refused, 1 of other protocols (1 tcp), 11 of kinds that are not printed, \
+        "13 packets, 0 listed, 0 refused, 1 of other protocols (1 tcp), 11 not chosen, \
             1 fragments (1 udp)",
     ),
 ];
@@ -177,7 +177,7 @@ const COUNTED: &[Outcomes] = &[
             (Outcome::Passed, 1, 1),
             (Outcome::Unread, 65_535, 3),
         ],
-        "9 packets, 0 listed, 0 refused, 0 of other protocols, 3 of kinds that are not printed, \
+        "9 packets, 0 listed, 0 refused, 0 of other protocols, 3 not chosen, \
             4 of link 65535, 2 of link NULL",
     ),
     (

@@ -23,7 +23,7 @@ pub fn write_summary<W: Write>(output: &mut W, tally: &Tally) -> io::Result<()> 
     tally.others.all.put(output, Form::Lines)?;
     output.write_all(b" of other protocols")?;
     write_counts(output, &tally.others)?;
-    write_further(output, tally.passed, " of kinds that are not printed")?;
+    write_further(output, tally.passed, " not chosen")?;
     write_fragments(output, tally)?;
     write_links(output, tally.links.rows.as_slice())?;
     write_further(output, tally.links.further, " of other links")
