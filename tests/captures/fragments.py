@@ -82,7 +82,8 @@ class Joined:
 
     def datagram(self):
         of = self.first
-        of = Datagram(of.source, of.destination, of.protocol, self.payload, of.hop_by_hop)
+        # Hop-by-hop options in front of the fragments are not told.
+        of = Datagram(of.source, of.destination, of.protocol, self.payload)
         if len(of.source) == 4:
             return of
         # Headers that extend IPv6 may stand in what was fragmented.
