@@ -106,15 +106,21 @@ fn bits_in(digits: Option<&str>, most: u8) -> Option<u8>
 fn share(bits: u8, left: &[u8], right: &[u8]) -> bool
     ensures { result ≡ share bits left.now right.now }
 {
-    let [x, xs @ ..] = left else {
-        return true;
-    };
-    let [y, ys @ ..] = right else {
-        return true;
-    };
-    if bits < 8 {
-        // Of no bits all eight go, for which an octet is too short.
-        return u16::from(*x) >> (8 - bits) == u16::from(*y) >> (8 - bits);
+    let (mut bits, mut left, mut right) = (bits, left, right);
+    while let [x, xs @ ..] = left {
+        let [y, ys @ ..] = right else {
+            return true;
+        };
+        if bits < 8 {
+            // Of no bits all eight go, for which an octet is too short.
+            return u16::from(*x) >> (8 - bits) == u16::from(*y) >> (8 - bits);
+        }
+        if *x != *y {
+            return false;
+        }
+        bits -= 8;
+        left = xs;
+        right = ys;
     }
-    *x == *y && share(bits - 8, xs, ys)
+    true
 }

@@ -164,14 +164,20 @@ fn are_letters(octets: &[u8]) -> bool
 fn is_padded(letters: &[u8], text: &[u8]) -> bool
     ensures { result ≡ is_padded (decoded letters.now) text.now }
 {
-    let [high, low, letters @ ..] = letters else {
-        return text.is_empty();
-    };
-    let byte = byte_of(*high, *low);
-    match text {
-        [first, text @ ..] => lower(byte) == lower(u16::from(*first)) && is_padded(letters, text),
-        [] => byte == 32 && is_padded(letters, text),
+    let (mut letters, mut text) = (letters, text);
+    while let [high, low, others @ ..] = letters {
+        let byte = byte_of(*high, *low);
+        if let [first, behind @ ..] = text {
+            if lower(byte) != lower(u16::from(*first)) {
+                return false;
+            }
+            text = behind;
+        } else if byte != 32 {
+            return false;
+        }
+        letters = others;
     }
+    text.is_empty()
 }
 
 fn byte_of(high: u8, low: u8) -> u16

@@ -130,14 +130,20 @@ fn are_letters(octets: &[u8]) -> bool {
 
 // Whether the bytes that letters spell are a text and spaces behind it.
 fn is_padded(letters: &[u8], text: &[u8]) -> bool {
-    let [high, low, letters @ ..] = letters else {
-        return text.is_empty();
-    };
-    let byte = byte_of(*high, *low);
-    match text {
-        [first, text @ ..] => lower(byte) == lower(u16::from(*first)) && is_padded(letters, text),
-        [] => byte == 32 && is_padded(letters, text),
+    let (mut letters, mut text) = (letters, text);
+    while let [high, low, others @ ..] = letters {
+        let byte = byte_of(*high, *low);
+        if let [first, behind @ ..] = text {
+            if lower(byte) != lower(u16::from(*first)) {
+                return false;
+            }
+            text = behind;
+        } else if byte != 32 {
+            return false;
+        }
+        letters = others;
     }
+    text.is_empty()
 }
 
 fn byte_of(high: u8, low: u8) -> u16 {

@@ -182,8 +182,8 @@ fn captures_that_are_read_in_part() {
         (1, &[0], false),
         (2, &[0, 2], false),
         (4, &[0, 2, 3, 4], false),
-        (12, &[0, 2, 3, 4, 5, 6, 7, 8, 9, 10, 11, 12], false),
-        (13, &[0, 2, 3, 4, 5, 6, 7, 8, 9, 10, 11, 12], true),
+        (11, &[0, 2, 3, 4, 5, 6, 7, 8, 9, 10, 11, 12], false),
+        (12, &[0, 2, 3, 4, 5, 6, 7, 8, 9, 10, 11, 12], true),
     ];
     for (most, places, is_whole) in ROWS {
         let options = Options {
