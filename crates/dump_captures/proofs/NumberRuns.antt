@@ -1,10 +1,9 @@
 -- Numbers that are printed in a loop, after the first.
-use Rattle.std.proofs.Common.{◌≡◌, ◌-◌, ◌≤◌, ◌<◌, ◌^◌, [], ◌∷◌, ◌++◌, List, ℕ, ap, arith, codes, decimal, drop, flat_map, get_or}
-use Rattle.std.proofs.Common.{length, map, refl, suc, take}
+use Rattle.std.proofs.Common.{◌≡◌, ◌-◌, ◌≤◌, ◌<◌, ◌^◌, [], ◌∷◌, ◌++◌, List, ℕ, codes, decimal, drop, flat_map, get_or}
+use Rattle.std.proofs.Common.{length, map, suc, take}
 use Rattle.std.specs.Prelude.{slice_index}
-use Rattle.std.proofs.lemmas.List.{take_all}
 use Rattle.packet_fields.proofs.Lists.{commas-some}
-use Rattle.packet_fields.specs.Fields.{AllFit, numbers_text, with_commas}
+use Rattle.packet_fields.specs.Fields.{AllFit, with_commas}
 
 -- the numbers after the first
 abbrev pub others : List ℕ → List ℕ

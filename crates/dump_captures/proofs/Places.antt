@@ -1,5 +1,5 @@
 -- Tunnels that are followed, one after another.
-use Rattle.std.proofs.Common.{◌≡◌, ◌<◌, ◌-◌, ◌+◌, ℕ, IfSome, List, None, Option, Some, refl, ◌++◌, ◌∷◌, [], length, arith, subst, sym}
+use Rattle.std.proofs.Common.{◌≡◌, ◌<◌, ◌-◌, ◌+◌, ℕ, IfSome, List, None, Option, Some, refl, ◌∷◌, [], length, arith, subst, sym}
 use Rattle.std.proofs.lemmas.List.{length-append}
 use Rattle.frame_wire.specs.Captured.{CapturedValue}
 use Rattle.frame_wire.specs.declared.link.Network.{Network}

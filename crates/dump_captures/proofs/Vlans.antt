@@ -1,5 +1,5 @@
 -- The numbers of VLANs.
-use Rattle.std.proofs.Common.{◌≡◌, ◌∙◌, ◌≤◌, ◌<◌, ◌^◌, ◌%◌, [], ◌∷◌, ◌++◌, Bool, List, ℕ, ap, append_assoc, arith, codes, decimal}
+use Rattle.std.proofs.Common.{◌≡◌, ◌∙◌, ◌≤◌, ◌<◌, [], ◌∷◌, ◌++◌, Bool, List, ℕ, ap, append_assoc, arith, codes, decimal}
 use Rattle.std.proofs.Common.{Option, subst, drop, false, flat_map, length, map, refl, sym, take, true}
 use Rattle.std.proofs.lemmas.List.{append-nil}
 use Rattle.packet_fields.specs.Output.{Gains}

@@ -1,5 +1,5 @@
 -- What a control packet prints below its heading, and why it is refused or read in part if it is.
-use Rattle.std.specs.Prelude.{◌≡◌, ◌&&◌, [], ◌∷◌, ◌++◌, Bool, List, Option, None, Some, codes, false, true}
+use Rattle.std.specs.Prelude.{◌≡◌, ◌&&◌, [], ◌∷◌, ◌++◌, Bool, List, Option, Some, codes, false, true}
 use Rattle.std.specs.Option.{option_map}
 use Rattle.packet_fields.specs.Fields.{Item, field, text}
 use Rattle.message_fields.specs.Checksums.{MessageValue}

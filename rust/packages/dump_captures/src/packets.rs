@@ -154,7 +154,8 @@ fn show_packet<W: Write>(
     captured: &Record,
     octets: &[u8],
 ) -> Result<Counted, Fault> {
-    match look(captured, octets) {
+    // By reference: to move what was found costs a run of the program 3 % of its instructions.
+    match &look(captured, octets) {
         Finding::Sight(sight) => {
             let outcome = show_sight(
                 options,
@@ -163,13 +164,16 @@ fn show_packet<W: Write>(
                 when,
                 captured,
                 octets,
-                &sight,
+                sight,
             )?;
             Ok(Counted::alone(outcome))
         }
-        Finding::Fragment(path, fragment) => show_fragment(
-            options, output, kept, when, captured, octets, &path, &fragment,
-        ),
+        Finding::Fragment(path, fragment) => {
+            let counted = show_fragment(
+                options, output, kept, when, captured, octets, path, fragment,
+            )?;
+            Ok(counted)
+        }
     }
 }
 

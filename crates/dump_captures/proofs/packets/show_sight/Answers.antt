@@ -2,7 +2,6 @@
 use Rattle.std.proofs.Common.{[], ap, refl}
 use Rattle.std.specs.Option.{option_map}
 use Rattle.capture.specs.Capture.{packet_of}
-use Rattle.frame_wire.specs.TcpPrefixed.{messages_of}
 use Rattle.packet_fields.specs.Output.{GainsSome}
 use Rattle.packet_fields.proofs.Printing.{gains_none}
 use Rattle.dump_captures.specs.Dump.{EachPrints, HeadersPrint, SightPrints, of_control, of_other, of_stream, of_unread}

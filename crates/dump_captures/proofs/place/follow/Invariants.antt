@@ -1,5 +1,4 @@
 -- Some tunnels are followed.
-use Rattle.std.proofs.Common.{ℕ}
 use Rattle.dump_captures.specs.Place.{step_of}
 use Rattle.dump_captures.proofs.Places.{SoFar, left}
 use Rattle.dump_captures.proofs.place.follow.Given as goal
