@@ -264,7 +264,11 @@ fn counts_at_their_limit(rt: HostRuntime) {
         joined: 2,
     };
     tally.count(joined, 1, 2);
-    tally.count(Counted::alone(Outcome::Refused(Kind::Dhcp, Reason::Quote)), 1, 2);
+    tally.count(
+        Counted::alone(Outcome::Refused(Kind::Dhcp, Reason::Quote)),
+        1,
+        2,
+    );
     let totals = (tally.packets, tally.others.all, tally.passed, tally.joined);
     same_of(&rt, "totals", totals, (MOST, MOST, MOST, MOST));
     let row = Row {
