@@ -102,7 +102,8 @@ parts-some t reasons i count d is_first a b c within is some first gains more =
 -- ---- the packets of each category
 
 -- others after the parts so far, and the bracket behind all
-opened-appended : (parts others : List (List ℕ)) → opened parts ++ appended (is_none parts) others ≡ opened (parts ++ others)
+opened-appended : (parts others : List (List ℕ)) → opened parts ++ appended (is_none parts) others
+    ≡ opened (parts ++ others)
 opened-appended [] [] = refl
 opened-appended [] (other ∷ others) = refl
 opened-appended (part ∷ parts) [] = append-nil _ ∙ ap opened (sym (append-nil (part ∷ parts)))
@@ -126,7 +127,8 @@ none_further n =
     ]
 
 pub brackets-whole : (parts : List (List ℕ)) (further : ℕ) (is_first : Bool) → is_first ≡ is_none parts
-    → (opened parts ++ appended is_first (further_parts further)) ++ (if is_first && (further == 0) then [] else codes ")")
+    → (opened parts ++ appended is_first (further_parts further)) ++ (if is_first && (further == 0) then [] else codes
+    ")")
     ≡ in_brackets (parts ++ further_parts further)
 brackets-whole parts further is_first is =
     let others = further_parts further in

@@ -96,8 +96,8 @@ content_by (V6 source destination) Ipv6Frag ports payload = Some unknown
 content_by (V6 source destination) Ipv6Opts ports payload = Some unknown
 content_by _ _ ports payload = None
 
--- Over TCP its payload is a segment from or to port 53 whose data are these messages of DNS, each behind its length (RFC
--- 1035 section 4.2.2) and with at least its header of 12 bytes.
+-- Over TCP its payload is a segment from or to port 53 whose data are these messages of DNS, each behind its length
+-- (RFC 1035 section 4.2.2) and with at least its header of 12 bytes.
 pub record IsOverTcp (d : DatagramValue) (messages : List (List ℕ)) : Type 0 where
   pub protocol : d.protocol ≡ Tcp
   pub content : SegmentValue

@@ -37,7 +37,8 @@ name_or other (Some name) = name
 abbrev pub category_text : Category → List ℕ
 category_text (category.Link n) = name_or (decimal n) (name_in link_names n)
 category_text (category.Protocol n) = name_or (codes "protocol " ++ decimal n) (name_in protocol_names n)
-category_text (category.EtherType n) = name_or (codes "ethertype 0x" ++ octets_text (be16 n)) (name_in ether_type_names n)
+category_text (category.EtherType n) = name_or (codes "ethertype 0x" ++ octets_text (be16 n)) (name_in
+    ether_type_names n)
 category_text (category.Network n) = codes "network " ++ decimal n
 
 -- ---- the packets of each

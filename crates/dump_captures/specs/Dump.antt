@@ -66,8 +66,8 @@ packet_text Lines n time p h items = heading n time h ++ items_text Lines items
 packet_text Json n time p h items =
     object_text (codes "number") (number n) (head_items time p h ++ items) ++ codes "\n"
 
--- What a control packet prints, and why it is refused or read in part. In JSON its numbers have at most 64 bits, so that
--- by `ReadsAsJson` the line is a text of JSON that reads as the object.
+-- What a control packet prints, and why it is refused or read in part. In JSON its numbers have at most 64 bits, so
+-- that by `ReadsAsJson` the line is a text of JSON that reads as the object.
 abbrev pub ControlPrints : Options → ℕ → Option (List ℕ) → PacketValue → HeadersValue → Option Reason → List ℕ
     → Type 0
 ControlPrints options n time p h why text =
@@ -75,8 +75,8 @@ ControlPrints options n time p h why text =
     × (options.form ≡ Json → (n < 2 ^ 64) × ItemsFit (head_items time p h ++ items))
     × (text ≡ packet_text options.form n time p h items)
 
--- What a control packet prints, with the text of its time, and what becomes of it: one that is chosen its heading and its
--- listing, unless packets are only counted; the others nothing.
+-- What a control packet prints, with the text of its time, and what becomes of it: one that is chosen its heading and
+-- its listing, unless packets are only counted; the others nothing.
 pub data HeadersPrint (options : Options) (n : ℕ) (time : Option (List ℕ)) (p : PacketValue) (h : HeadersValue)
     (text : List ℕ) (outcome : Outcome) : Type 0 where
   printed : (why : Option Reason) → Chooses options h true → options.prints ≡ true
@@ -115,7 +115,8 @@ pub data SightPrints (options : Options) (n : ℕ) (time : Option (List ℕ)) (p
       → SightPrints options n time p s text outcome
 
 -- What a datagram prints that was put together, and how many packets before this one its fragments came in.
-pub record WholePrints (options : Options) (n : ℕ) (time : Option (List ℕ)) (p : PacketValue) (path : PathValue) (w : WholeValue)
+pub record WholePrints (options : Options) (n : ℕ) (time : Option (List ℕ)) (p : PacketValue) (path : PathValue) (w :
+    WholeValue)
     (text : List ℕ) (counted : Counted) : Type 0 where
   pub sight : SightValue
   pub outcome : Outcome
@@ -123,12 +124,14 @@ pub record WholePrints (options : Options) (n : ℕ) (time : Option (List ℕ)) 
   pub prints : SightPrints options n time p sight text outcome
   pub counts : counted ≡ record { outcome = outcome; joined = length w.numbers - 1 }
 
--- What a fragment prints, by what became of it: nothing where its datagram lacks others, and the whole datagram where it
--- is the last to come.
-pub data FragmentPrints (options : Options) (n : ℕ) (time : Option (List ℕ)) (p : PacketValue) (path : PathValue) (f : FragmentValue)
+-- What a fragment prints, by what became of it: nothing where its datagram lacks others, and the whole datagram where
+-- it is the last to come.
+pub data FragmentPrints (options : Options) (n : ℕ) (time : Option (List ℕ)) (p : PacketValue) (path : PathValue) (f :
+    FragmentValue)
     (answer : AnswerValue) (text : List ℕ) (counted : Counted) : Type 0 where
   kept : (dropped : Option PartialValue) → answer ≡ incomplete dropped → text ≡ []
-      → counted ≡ alone (Kept (protocol_category f.protocol)) → FragmentPrints options n time p path f answer text counted
+      → counted ≡ alone (Kept (protocol_category f.protocol))
+      → FragmentPrints options n time p path f answer text counted
   refused : (r : FragmentRefusal) (outcome : Outcome) → answer ≡ answers.refused r
       → SightPrints options n time p (refused_fragment path f (refusal.Fragment r)) text outcome
       → counted ≡ alone outcome → FragmentPrints options n time p path f answer text counted
@@ -136,14 +139,16 @@ pub data FragmentPrints (options : Options) (n : ℕ) (time : Option (List ℕ))
       → FragmentPrints options n time p path f answer text counted
 
 -- What a fragment prints that is put to those that are kept; they are then those in `new`.
-pub record FragmentAdds (options : Options) (n : ℕ) (time : Option (List ℕ)) (p : PacketValue) (path : PathValue) (f : FragmentValue)
+pub record FragmentAdds (options : Options) (n : ℕ) (time : Option (List ℕ)) (p : PacketValue) (path : PathValue) (f :
+    FragmentValue)
     (old : List PartialValue) (text : List ℕ) (counted : Counted) (new : List PartialValue) : Type 0 where
   pub answer : AnswerValue
   pub adds : Adds old n f answer new
   pub prints : FragmentPrints options n time p path f answer text counted
 
 -- What a packet prints after others, of which these fragments are kept.
-pub data PacketPrints (options : Options) (n : ℕ) (time : Option (List ℕ)) (p : PacketValue) (old : List PartialValue) (text : List ℕ)
+pub data PacketPrints (options : Options) (n : ℕ) (time : Option (List ℕ)) (p : PacketValue) (old : List PartialValue)
+    (text : List ℕ)
     (counted : Counted) (new : List PartialValue) : Type 0 where
   at_once : (s : SightValue) (outcome : Outcome) → IsSight p (seen s) → SightPrints options n time p s text outcome
       → counted ≡ alone outcome → new ≡ old → PacketPrints options n time p old text counted new
@@ -156,8 +161,8 @@ pub data PacketPrints (options : Options) (n : ℕ) (time : Option (List ℕ)) (
 abbrev pub next_number : ℕ → ℕ
 next_number n = min (n + 1) (2 ^ 64 - 1)
 
--- What the packets after n others print, one after another, of which these fragments are kept, as long as packets are left
--- to be printed; each is counted.
+-- What the packets after n others print, one after another, of which these fragments are kept, as long as packets are
+-- left to be printed; each is counted.
 abbrev pub PacketsPrint : Options → ℕ → ProgressValue → List PartialValue → TallyValue → List PacketValue → List ℕ
     → TallyValue → ProgressValue → Type 0
 PacketsPrint options n b held old [] text new last = (text ≡ []) × (new ≡ old) × (last ≡ b)

@@ -59,8 +59,8 @@ abbrev pub HasBits : Option (List ℕ) → Host → Type 0
 HasBits None host = bits_of host ≡ all_bits host
 HasBits (Some digits) host = (number_in digits ≡ Some (bits_of host)) × (bits_of host ≤ all_bits host)
 
--- An address alone, or before a slash and the number of bits of a prefix (RFC 4291 sections 2.2 and 2.3, RFC 4632
--- section 3.1).
+-- An address alone, or before a slash and the number of bits of a prefix (RFC 4291 sections 2.2 and 2.3; of IPv4
+-- RFC 4632 section 3.1).
 pub record IsHostText (text : List ℕ) (host : Host) : Type 0 where
   pub address : IpAddr
   pub is_text : IsIpText (before 47 text) address

@@ -51,8 +51,8 @@ abbrev pub first_of : Bool → ContentValue → Option Reason → Option Reason
 first_of true c why = header_reason c
 first_of false c why = why
 
--- All of it: the checksum of the IPv4 header, where it is wrong, the hop-by-hop options, where there are any, and then the
--- message; a packet whose header has a wrong checksum may be refused for that.
+-- All of it: the checksum of the IPv4 header, where it is wrong, the hop-by-hop options, where there are any, and then
+-- the message; a packet whose header has a wrong checksum may be refused for that.
 pub data ListingIs (options : Options) (h : HeadersValue) (items : List Item) (why : Option Reason) : Type 0 where
   refused : (options.is_strict && h.is_header_bad) ≡ true → items ≡ refused_items refusal.Header
       → why ≡ header_reason h.content → ListingIs options h items why

@@ -1,4 +1,5 @@
--- The way to a datagram: the VLAN tags of its frame, the tunnels that it is in, and the packets that its fragments came in.
+-- The way to a datagram: the VLAN tags of its frame, the tunnels that it is in, and the packets that its fragments
+-- came in.
 use Rattle.std.specs.Prelude.{ℕ, List, [], ◌∷◌, ◌++◌}
 use Rattle.frame_wire.specs.declared.datagram.Addresses.{Addresses}
 use Rattle.frame_wire.specs.declared.tunnel.Tunnel.{Tunnel}
@@ -15,8 +16,8 @@ tunnels_of (Two a b) = a ∷ b ∷ []
 tunnels_of (Three a b c) = a ∷ b ∷ c ∷ []
 tunnels_of (Four a b c d) = a ∷ b ∷ c ∷ d ∷ []
 
--- VLAN tags of four bytes each, tunnels with the outermost first, and the numbers of the packets that the fragments came
--- in, in the order of their offsets: none where the datagram came whole
+-- VLAN tags of four bytes each, tunnels with the outermost first, and the numbers of the packets that the fragments
+-- came in, in the order of their offsets: none where the datagram came whole
 pub record PathValue : Type 0 where
   pub tags : List ℕ
   pub tunnels : List Passage

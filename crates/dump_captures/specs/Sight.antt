@@ -47,8 +47,8 @@ use Rattle.dump_captures.specs.declared.sight.Sight.TheVariants as sight
 
 -- ---- by content
 
--- what the headers of a control packet tell: the way to its datagram, the addresses, the ports and the hop-by-hop options
--- where there are any, and whether the checksum of the IPv4 header is wrong
+-- what the headers of a control packet tell: the way to its datagram, the addresses, the ports and the hop-by-hop
+-- options where there are any, and whether the checksum of the IPv4 header is wrong
 pub record HeadersValue : Type 0 where
   pub path : PathValue
   pub addresses : Option Addresses
@@ -179,7 +179,8 @@ refused_headers path addresses ports kind counted r = record {
 abbrev pub untold : PathValue → Reason → Refusal → SightValue
 untold path counted r = control (refused_headers path None None kind.Frame counted r)
 
--- its addresses and its protocol are known, and the ports where they are there: they tell the kind, whatever the payload
+-- its addresses and its protocol are known, and the ports where they are there: they tell the kind, whatever the
+-- payload
 abbrev pub told : PathValue → Addresses → IpProtocol → Option (ℕ × ℕ) → Reason → Refusal → SightValue
 told path addresses protocol ports counted r =
     sight_by protocol (content_by addresses protocol ports [])
@@ -230,7 +231,8 @@ pub data IsRefused6 (path : PathValue) (bytes : List ℕ) (counted : Reason) (r 
 abbrev pub counted_as : PacketValue → Refusal → Reason
 counted_as p r = reason_of (is_cut p) r
 
--- The datagram that begins at a place, of IPv4 and of IPv6: a whole one, a whole fragment of one, or one that is refused.
+-- The datagram that begins at a place, of IPv4 and of IPv6: a whole one, a whole fragment of one, or one that is
+-- refused.
 pub data IsSight4 (p : PacketValue) (at : PlaceValue) (s : FindingValue) : Type 0 where
   whole4 : (d : DatagramValue) (bad : Bool) (told : SightValue) → IsDatagram4 at.bytes d
       → (IsTrue bad ↔ HasBadHeader at.bytes) → IsWhole at.path bad d told → s ≡ seen told → IsSight4 p at s

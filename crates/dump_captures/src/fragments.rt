@@ -52,7 +52,8 @@ pub fn look_at_joined<'a>(
     path: &Path<'a>,
     joined: &'a Whole,
 ) -> Sight<'a>
-    ensures { IsJoinedSight (packet_of captured.now octets.now) (path_of path.now) (whole_of joined.now) (sight_of result) }
+    ensures { IsJoinedSight (packet_of captured.now octets.now) (path_of path.now) (whole_of joined.now) (sight_of
+        result) }
 {
     let payload = joined.payload.as_slice();
     match Datagram::joined(joined.addresses, joined.protocol, payload) {
@@ -79,7 +80,8 @@ fn look_within<'a>(
     path: &Path<'a>,
     datagram: &Datagram<'a>,
 ) -> Sight<'a>
-    ensures { IsWithin (packet_of captured.now octets.now) (path_of path.now) (datagram_of datagram.now) (sight_of result) }
+    ensures { IsWithin (packet_of captured.now octets.now) (path_of path.now) (datagram_of datagram.now) (sight_of
+        result) }
 {
     match inside(path, datagram) {
         Some(step) => unless_fragment(look_at_end(captured, octets, &follow(step))),

@@ -92,7 +92,8 @@ fn show_path<W: Write>(output: &mut W, headers: &Headers<'_>) -> io::Result<()>
 
 // Prints that a message came over TCP.
 fn show_transport<W: Write>(output: &mut W, is_over_tcp: bool) -> io::Result<()>
-    ensures { OnOk result (Prints Form.Json (W.contents output.old) (W.contents output.new) (transport_items is_over_tcp)) }
+    ensures { OnOk result (Prints Form.Json (W.contents output.old) (W.contents output.new) (transport_items
+        is_over_tcp)) }
 {
     if !is_over_tcp {
         return Ok(());

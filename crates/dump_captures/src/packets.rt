@@ -203,7 +203,8 @@ fn show_packet<W: Write>(
     octets: &[u8],
 ) -> Result<Counted, Fault>
     ensures { IfOk result (λ counted. GainsSome (W.contents output.old) (W.contents output.new) (λ text.
-        PacketPrints options.now captured.now.number (option_map when_text when) (packet_of captured.now octets.now) (state_of kept.old.fragments)
+        PacketPrints options.now captured.now.number (option_map when_text when) (packet_of captured.now octets.now)
+        (state_of kept.old.fragments)
         text counted (state_of kept.new.fragments))) }
 {
     // By reference: to move what was found costs a run of the program 3 % of its instructions.
@@ -244,7 +245,8 @@ fn show_fragment<W: Write>(
     fragment: &Fragment<'_>,
 ) -> Result<Counted, Fault>
     ensures { IfOk result (λ counted. GainsSome (W.contents output.old) (W.contents output.new) (λ text.
-        FragmentAdds options.now captured.now.number (option_map when_text when) (packet_of captured.now octets.now) (path_of path.now)
+        FragmentAdds options.now captured.now.number (option_map when_text when) (packet_of captured.now octets.now)
+        (path_of path.now)
         (value_of fragment.now) (state_of kept.old.fragments) text counted (state_of kept.new.fragments))) }
 {
     let Ok(answer) = kept.fragments.add(alloc, captured.number, fragment) else {
@@ -284,7 +286,8 @@ fn show_whole<W: Write>(
     whole: &Whole,
 ) -> Result<Counted, Fault>
     ensures { IfOk result (λ counted. GainsSome (W.contents output.old) (W.contents output.new) (λ text.
-        WholePrints options.now captured.now.number (option_map when_text when) (packet_of captured.now octets.now) (path_of path.now)
+        WholePrints options.now captured.now.number (option_map when_text when) (packet_of captured.now octets.now)
+        (path_of path.now)
         (whole_of whole.now) text counted)) }
 {
     let path = Path {
@@ -321,7 +324,8 @@ fn show_sight<W: Write>(
     sight: &Sight<'_>,
 ) -> Result<Outcome, Fault>
     ensures { IfOk result (λ outcome. GainsSome (W.contents output.old) (W.contents output.new) (λ text.
-        SightPrints options.now captured.now.number (option_map when_text when) (packet_of captured.now octets.now) (sight_of sight.now) text outcome)) }
+        SightPrints options.now captured.now.number (option_map when_text when) (packet_of captured.now octets.now)
+        (sight_of sight.now) text outcome)) }
 {
     match sight {
         Sight::Unread => Ok(Outcome::Unread),
@@ -419,7 +423,8 @@ fn show_chosen<W: Write>(
     headers: &Headers<'_>,
 ) -> Result<Option<Reason>, Fault>
     ensures { IfOk result (λ why. GainsSome (W.contents output.old) (W.contents output.new)
-        (ControlPrints options.now captured.now.number (option_map when_text when) (packet_of captured.now octets.now) (headers_of headers.now) why)) }
+        (ControlPrints options.now captured.now.number (option_map when_text when) (packet_of captured.now octets.now)
+        (headers_of headers.now) why)) }
 {
     match options.form {
         Form::Lines => show_lines(
@@ -444,7 +449,8 @@ fn show_lines<W: Write>(
 ) -> Result<Option<Reason>, Fault>
     requires { options.now.form ≡ Form.Lines }
     ensures { IfOk result (λ why. GainsSome (W.contents output.old) (W.contents output.new)
-        (ControlPrints options.now captured.now.number (option_map when_text when) (packet_of captured.now octets.now) (headers_of headers.now) why)) }
+        (ControlPrints options.now captured.now.number (option_map when_text when) (packet_of captured.now octets.now)
+        (headers_of headers.now) why)) }
 {
     show_heading(output, clock, when, captured.number, headers)?;
     show_listing(options, output, alloc, headers)
@@ -463,7 +469,8 @@ fn show_object<W: Write>(
 ) -> Result<Option<Reason>, Fault>
     requires { options.now.form ≡ Form.Json }
     ensures { IfOk result (λ why. GainsSome (W.contents output.old) (W.contents output.new)
-        (ControlPrints options.now captured.now.number (option_map when_text when) (packet_of captured.now octets.now) (headers_of headers.now) why)) }
+        (ControlPrints options.now captured.now.number (option_map when_text when) (packet_of captured.now octets.now)
+        (headers_of headers.now) why)) }
 {
     open_object(output, captured.number)?;
     show_members(output, clock, when, captured, octets, headers)?;
@@ -486,7 +493,8 @@ fn open_object<W: Write>(output: &mut W, number: u64) -> io::Result<()>
 // Reads a control packet that is only counted.
 fn count_alone(options: &Options, alloc: Global, headers: &Headers<'_>) -> Result<Outcome, Fault>
     ensures { IfOk result (λ outcome. (items : List Item) × (why : Option AnyReason)
-        × ListingIs options.now (headers_of headers.now) items why × (outcome ≡ outcome_of (kind_in (content_of headers.now.content)) why)) }
+        × ListingIs options.now (headers_of headers.now) items why × (outcome
+        ≡ outcome_of (kind_in (content_of headers.now.content)) why)) }
 {
     let why = show_listing(options, &mut io::sink(), alloc, headers)?;
     Ok(outcome(headers.content.kind(), why))

@@ -152,7 +152,8 @@ fn write_rows<W: Write>(output: &mut W, rows: &[Count]) -> io::Result<bool>
 }
 
 fn write_row<W: Write>(output: &mut W, is_first: bool, row: &Count) -> io::Result<()>
-    ensures { OnOk result (Gains (W.contents output.old) (W.contents output.new) (before is_first ++ row_part row.now)) }
+    ensures { OnOk result (Gains (W.contents output.old) (W.contents output.new) (before is_first ++ row_part
+        row.now)) }
 {
     write_before(output, is_first)?;
     row.packets.put(output, Form::Lines)?;
@@ -162,7 +163,8 @@ fn write_row<W: Write>(output: &mut W, is_first: bool, row: &Count) -> io::Resul
 
 // The packets of further categories, where there are any.
 fn write_others<W: Write>(output: &mut W, is_first: bool, further: u64) -> io::Result<()>
-    ensures { OnOk result (Gains (W.contents output.old) (W.contents output.new) (appended is_first (further_parts further))) }
+    ensures { OnOk result (Gains (W.contents output.old) (W.contents output.new) (appended is_first (further_parts
+        further))) }
 {
     if further == 0 {
         return Ok(());
@@ -185,7 +187,8 @@ fn write_end<W: Write>(output: &mut W, is_first: bool, further: u64) -> io::Resu
 
 // The fragments that were kept, where there are any.
 fn write_fragments<W: Write>(output: &mut W, tally: &Tally) -> io::Result<()>
-    ensures { OnOk result (Gains (W.contents output.old) (W.contents output.new) (fragments_text (tally_of tally.now))) }
+    ensures { OnOk result (Gains (W.contents output.old) (W.contents output.new) (fragments_text (tally_of
+        tally.now))) }
 {
     if tally.fragments.all == 0 {
         return Ok(());

@@ -33,7 +33,8 @@ fn name_of(tunnel: Tunnel) -> &'static str
 
 /// Prints a word for each tunnel, as ` in=gre,192.0.2.1,198.51.100.2`.
 pub fn show_tunnels<W: Write>(output: &mut W, tunnels: &Tunnels) -> io::Result<()>
-    ensures { OnOk result (Gains (W.contents output.old) (W.contents output.new) (tunnels_text (tunnels_of tunnels.now))) }
+    ensures { OnOk result (Gains (W.contents output.old) (W.contents output.new) (tunnels_text (tunnels_of
+        tunnels.now))) }
 {
     match tunnels {
         Tunnels::Zero => Ok(()),

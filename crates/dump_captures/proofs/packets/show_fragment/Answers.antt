@@ -27,7 +27,8 @@ returns-in-Refused g c =
     let shown = c.in_ok-outcome-in-Refused.ensures in
     let p = packet_of c.args.captured.now c.args.octets.now in
     let outcome = c.in_ok-outcome-in-Refused.outcome in
-    let prints = subst (λ s. SightPrints c.args.options.now c.args.captured.now.number (option_map when_text c.args.when) p s shown.0 outcome)
+    let prints = subst (λ s. SightPrints c.args.options.now c.args.captured.now.number (option_map when_text
+    c.args.when) p s shown.0 outcome)
     c.refused_fragment-sight.ensures shown.1 in (
       shown.0,
       record {

@@ -11,5 +11,6 @@ abbrev pub invariant-packets : goal.invariant-packets
 invariant-packets g l =
     SoFar l.options (reader_remaining g.R.Read.remaining l.initial.input)
     (reader_remaining g.R.Read.remaining l.input) (state_of l.capture) (count_of l.capture)
-    (progress_of l.progress) (kept_of l.kept.fragments) (tally_of l.initial.tally) (tally_of l.tally) (g.W.Write.contents l.initial.output)
+    (progress_of l.progress) (kept_of l.kept.fragments) (tally_of l.initial.tally) (tally_of l.tally)
+    (g.W.Write.contents l.initial.output)
     (g.W.Write.contents l.output)

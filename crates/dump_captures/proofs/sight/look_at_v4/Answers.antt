@@ -4,7 +4,8 @@ use Rattle.dump_captures.specs.Sight.{fragment4, refused4, whole4}
 use Rattle.dump_captures.proofs.sight.look_at_v4.Goals as goal
 
 pub returns-in-Ok : goal.returns-in-Ok
-returns-in-Ok c = whole4 _ c.is_header_bad-is_bad.result _ c.in-Ok.ensures.sound c.is_header_bad-is_bad.ensures c.whole.ensures refl
+returns-in-Ok c = whole4 _ c.is_header_bad-is_bad.result _ c.in-Ok.ensures.sound c.is_header_bad-is_bad.ensures
+    c.whole.ensures refl
 
 pub returns-in-Some : goal.returns-in-Some
 returns-in-Some c = fragment4 _ c.in-Some.ensures.sound refl

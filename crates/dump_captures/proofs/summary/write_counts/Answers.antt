@@ -9,5 +9,6 @@ pub returns : goal.returns
 unfolding counts_text
 returns g c =
     let (first, rows) = rw c.as_slice.ensures.value at c.in_ok-is_first.ensures in
-    rw (← brackets-whole (row_parts c.args.counts.now.rows.items) c.args.counts.now.further c.in_ok-is_first.is_first first)
+    rw (← brackets-whole (row_parts c.args.counts.now.rows.items) c.args.counts.now.further c.in_ok-is_first.is_first
+    first)
     (gains_last _ _ _ (rows then c.in_ok-write_others.ensures) c.write_end.ensures)
