@@ -1,17 +1,17 @@
 -- Parts in turn: options, and records.
 use Rattle.std.proofs.Common.{◌≡◌, ◌∙◌, ◌+◌, ◌-◌, ◌≤◌, ◌<◌, [], ◌∷◌, ◌++◌, Bool, List, Some, ap, append_assoc}
 use Rattle.std.proofs.Common.{arith, drop, false, length, refl}
-use Rattle.std.proofs.Common.{sym, take, true, ℕ}
+use Rattle.std.proofs.Common.{suc, sym, take, true, zero, ℕ}
 use Rattle.std.proofs.lemmas.Bool.{eqb-true}
 use Rattle.std.proofs.lemmas.List.{length-drop}
 use Rattle.std.proofs.lemmas.List.Sums.{sum_by-cons}
 use Rattle.std.specs.List.{list_all}
 use Rattle.std.specs.Prelude.{◌==◌, ◌&&◌, cond, count_by, find}
 use Rattle.packet_fields.specs.Parts.{parts}
-use Rattle.packet_fields.proofs.PartsInTurn.{enough, first_part, missing_first}
+use Rattle.packet_fields.proofs.PartsInTurn.{enough, first_part}
 use Rattle.neighbor_fields.specs.Ndisc.{option_len}
 use Rattle.neighbor_fields.specs.Records.{record_len}
-use Rattle.message_brief.specs.Groups.{are_whole, is_whole_record}
+use Rattle.message_brief.specs.Groups.{are_whole, is_whole_record, missing}
 use Rattle.message_brief.specs.Neighbors.{options_in}
 
 -- the first part, and as many others as there are
@@ -68,6 +68,14 @@ one_more done one rest left all is parts =
 and-false : (b : Bool) → (b && false) ≡ false
 and-false true = refl
 and-false false = refl
+
+-- behind the first part as many are missing
+missing_first : (len : List ℕ → ℕ) (count : ℕ) (bytes others : List ℕ) → 0 < count → 0 < length bytes
+    → others ≡ drop (len bytes) bytes → missing len count bytes ≡ missing len (count - 1) others
+missing_first len zero bytes others some any others_is = absurd (omega (arith, some))
+missing_first len (suc count) [] others some any others_is = absurd (omega (arith, any))
+missing_first len (suc count) (b ∷ bs) others some any others_is =
+    let e : suc count - 1 ≡ count = omega arith in rw (others_is, e) refl
 
 -- records, of which the first is whole, or cut
 module _ (width count : ℕ) (bytes first others : List ℕ) (some : 0 < count) (any : 0 < length bytes)

@@ -1,5 +1,5 @@
 -- Brief lines of DHCP (RFC 2131 section 2).
-use Rattle.std.specs.Prelude.{◌≡◌, ◌==◌, ◌&&◌, ◌≤◌, ◌<◌, ◌++◌, [], Bool, List, None, Option, Some, ℕ, codes, decimal}
+use Rattle.std.specs.Prelude.{◌≡◌, ◌==◌, ◌&&◌, ◌||◌, ◌≤◌, ◌<◌, ◌++◌, [], Bool, List, None, Option, Some, ℕ, codes, decimal}
 use Rattle.std.specs.Prelude.{false, if◌then◌else◌, is_none, length, nat_le, slice_index, true}
 use Rattle.byteorder.specs.Endian.{big_number}
 use Rattle.wirebase.specs.Bytes.{byte_of, bytes_of, number_of}
@@ -33,6 +33,17 @@ told_by parts = record {
   server_identifier = four_in (joined 54 parts);
   lease_time = four_in (joined 51 parts);
 }
+
+-- an option of n octets has this length, or has none or is not there
+abbrev pub is_len : ℕ → ℕ → Bool
+is_len len n = (n == 0) || (n == len)
+
+-- whether none of the options that are told has another length than its value
+abbrev pub have_lengths : List Answer → Bool
+have_lengths parts =
+    is_len 1 (length (joined 53 parts))
+    && (is_len 4 (length (joined 50 parts))
+    && (is_len 4 (length (joined 54 parts)) && is_len 4 (length (joined 51 parts))))
 
 abbrev pub nothing : Told
 nothing = record { message_type = None; requested_address = None; server_identifier = None; lease_time = None }
@@ -91,9 +102,13 @@ packet_text told bytes =
 abbrev pub has_options : List ℕ → Bool
 has_options bytes = nat_le 240 (length bytes) && (number_of magic_field bytes == magic_cookie)
 
+-- no option is cut, and none of those that are told has another length
+abbrev pub are_whole : List Answer → Bool
+are_whole parts = have_lengths parts && is_none (first_cut parts)
+
 -- The text of a packet, and whether all of it reads: of one without options what stands before these.
 pub data DhcpIs (bytes : List ℕ) : List ℕ → Bool → Type 0 where
   short : length bytes < 44 → DhcpIs bytes [] false
   bare : 44 ≤ length bytes → has_options bytes ≡ false → DhcpIs bytes (packet_text nothing bytes) false
   whole : (parts : List Answer) → has_options bytes ≡ true → ArePartsOf bytes parts
-      → DhcpIs bytes (packet_text (told_by parts) bytes) (is_none (first_cut parts))
+      → DhcpIs bytes (packet_text (told_by parts) bytes) (are_whole parts)

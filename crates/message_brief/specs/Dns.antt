@@ -1,7 +1,7 @@
 -- Brief lines of DNS (RFC 1035 section 4.1), multicast DNS (RFC 6762), LLMNR (RFC 4795) and the NetBIOS name service (RFC
 -- 1002 section 4.2): the transaction, what is asked, and the first answer.
 use Rattle.std.specs.Prelude.{◌≡◌, ◌≢◌, ◌==◌, ◌&&◌, ◌<◌, ◌-◌, ◌++◌, [], Bool, List, None, Option, Some, ℕ, codes, decimal}
-use Rattle.std.specs.Prelude.{false, if◌then◌else◌, length, nat_lt, take, true}
+use Rattle.std.specs.Prelude.{false, if◌then◌else◌, length, nat_lt, slice_index, take, true}
 use Rattle.std.specs.Int.RustNames.{bit_and}
 use Rattle.wirebase.specs.Bytes.{Reaches, number_of}
 use Rattle.dns_wire.specs.DnsPacket.{answer_count_field, header, id_field, opcode_in, question_count_field, rcode_in}
@@ -125,15 +125,24 @@ pub data RecordTells (kind : Kind) (message : List ℕ) (r : RecordValue) : Answ
   reads_not : ((value : RecordTextValue) → IsRecordText message (record_class (is_multicast kind) r.kind r.class) r value → ⊥)
       → RecordTells kind message r unreadable
 
--- a record of the NetBIOS name service: its first address or its first name, or data that are neither
+-- a record of the NetBIOS name service that has no address, or counts no name
+abbrev pub has_no_part : Layout → List ℕ → Bool
+has_no_part Layout.Addresses bytes = length bytes == 0
+has_no_part Layout.Names bytes = nat_lt 0 (length bytes) && (slice_index bytes 0 == 0)
+has_no_part Layout.Octets bytes = false
+
+-- the first address or the first name of one, or data that are neither
 abbrev pub first_part : Part → List ℕ → Option (List ℕ)
 first_part part bytes =
     if nat_lt (length bytes) (width part) then None else Some (part_text part (take (width part) bytes))
 
+abbrev pub some_data : Layout → List ℕ → Option (List ℕ)
+some_data Layout.Addresses bytes = first_part Part.Address bytes
+some_data Layout.Names bytes = first_part Part.Name (names_in bytes)
+some_data Layout.Octets bytes = Some (brief_data (other bytes))
+
 abbrev pub node_data : Layout → List ℕ → Option (List ℕ)
-node_data Layout.Addresses bytes = first_part Part.Address bytes
-node_data Layout.Names bytes = first_part Part.Name (names_in bytes)
-node_data Layout.Octets bytes = Some (brief_data (other bytes))
+node_data layout bytes = if has_no_part layout bytes then Some (codes "-") else some_data layout bytes
 
 abbrev pub tells_if : List (List ℕ) → RecordType → Option (List ℕ) → Answered
 tells_if labels t None = unreadable

@@ -1,17 +1,17 @@
 -- Brief lines of IGMP (RFC 2236, RFC 3376) and of multicast listener discovery (RFC 2710, RFC 3810), from the octets of
 -- the message.
-use Rattle.std.specs.Prelude.{◌==◌, ◌&&◌, ◌||◌, ◌+◌, ◌*◌, ◌-◌, ◌++◌, [], Bool, List, ℕ, codes, decimal, drop, flat_map}
+use Rattle.std.specs.Prelude.{zero, suc, ◌∷◌, ◌==◌, ◌&&◌, ◌||◌, ◌+◌, ◌*◌, ◌-◌, ◌++◌, [], Bool, List, ℕ, codes, decimal, drop, flat_map}
 use Rattle.std.specs.Prelude.{if◌then◌else◌, length, min, nat_le, nat_lt, true}
 use Rattle.std.specs.List.{list_all}
 use Rattle.wirebase.specs.Bytes.{bytes_of, field as at, number_of}
 use Rattle.packet_fields.specs.Labels.{label_text}
 use Rattle.packet_fields.specs.Names.{name_in}
-use Rattle.packet_fields.specs.Parts.{missing, parts}
+use Rattle.packet_fields.specs.Parts.{parts}
 use Rattle.packet_fields.specs.Texts.{address_text}
 use Rattle.neighbor_fields.specs.Igmp.{type_names}
 use Rattle.neighbor_fields.specs.Messages.{code_in, type_in}
 use Rattle.neighbor_fields.specs.Records.{counted_len, label_of, record_len}
-use Rattle.message_brief.specs.Icmp.{head6_text}
+use Rattle.message_brief.specs.Icmp.{type6_text}
 use Rattle.message_brief.specs.Words.{keyed, more_text, word}
 
 -- ---- records, whose addresses have `width` octets
@@ -41,9 +41,14 @@ record_text width bytes =
     then group_text (type_in bytes) (number_of (at 2 4) bytes) (bytes_of (at 4 (4 + width)) bytes)
     else []
 
--- `count` records, or as many as there are; and whether all are there, none of them cut
+-- `count` records, or as many as there are; how many are missing, and whether all are there, none of them cut
 abbrev pub records_text : ℕ → ℕ → List ℕ → List ℕ
 records_text width count bytes = flat_map (record_text width) (parts (record_len width) count bytes)
+
+abbrev pub missing : (List ℕ → ℕ) → ℕ → List ℕ → ℕ
+missing len zero bytes = 0
+missing len (suc count) [] = suc count
+missing len (suc count) (b ∷ bs) = missing len count (drop (len (b ∷ bs)) (b ∷ bs))
 
 abbrev pub are_whole : ℕ → ℕ → List ℕ → Bool
 are_whole width count bytes =
@@ -131,9 +136,10 @@ body6_text bytes =
     else if type_in bytes == 143 then report6_text bytes
     else old6_text bytes
 
+-- The code is not told, since receivers ignore it (RFC 3810 section 5.1.1).
 abbrev pub mld_text : List ℕ → List ℕ
 mld_text bytes =
-    if nat_lt (length bytes) 4 then [] else head6_text (type_in bytes) (code_in bytes) ++ body6_text bytes
+    if nat_lt (length bytes) 4 then [] else type6_text (type_in bytes) ++ body6_text bytes
 
 abbrev pub is_whole_query6 : List ℕ → Bool
 is_whole_query6 bytes =

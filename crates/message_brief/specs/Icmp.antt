@@ -13,13 +13,17 @@ use Rattle.message_brief.specs.Words.{keyed, word}
 
 -- ---- what both versions have
 
--- the type, and the code where it has a name or is not 0
+abbrev pub type_text : Option (List ℕ) → ℕ → List ℕ
+type_text name t = word (label_text name (codes "type") t)
+
+-- the code, where it has a name or is not 0
 abbrev pub code_text : Option (List ℕ) → ℕ → List ℕ
 code_text None code = if code == 0 then [] else keyed (codes "code") (decimal code)
 code_text (Some name) code = word name
 
+-- the type and the code
 abbrev pub head_text : Option (List ℕ) → ℕ → Option (List ℕ) → ℕ → List ℕ
-head_text type_name t code_name code = word (label_text type_name (codes "type") t) ++ code_text code_name code
+head_text type_name t code_name code = type_text type_name t ++ code_text code_name code
 
 -- an echo: its identifier, its sequence number, and how many octets of data it has
 abbrev pub echo_text : List ℕ → List ℕ
@@ -70,6 +74,9 @@ abbrev pub is_whole4 : List ℕ → Bool
 is_whole4 bytes = nat_le 8 (length bytes) && (not (is_error4 (type_in bytes)) || quotes4 (data_in bytes))
 
 -- ---- ICMPv6
+
+unfoldable pub type6_text : ℕ → List ℕ
+type6_text t = type_text (name_in icmp6_types t) t
 
 unfoldable pub head6_text : ℕ → ℕ → List ℕ
 head6_text t code = head_text (name_in icmp6_types t) t (icmp6_code_name t code) code

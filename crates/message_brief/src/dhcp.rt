@@ -2,7 +2,7 @@
 
 #![tactic(auto, using(wirebase::proofs::Sinks::puts, wirebase::proofs::Sinks::put_none), unfolding(crate::specs::Dhcp::signed))]
 
-ghost use Rattle.std.specs.Prelude.{◌≡◌, ◌++◌, IfOk, codes, decimal, is_none, length};
+ghost use Rattle.std.specs.Prelude.{◌≡◌, ◌++◌, IfOk, codes, decimal, length};
 ghost use Rattle.std.specs.Option.{option_map};
 ghost use Rattle.wirebase.specs.Bytes.{Reaches};
 ghost use Rattle.wirebase.specs.Sink.{PutsText};
@@ -10,10 +10,9 @@ ghost use Rattle.dhcp_options.specs.Joined.{joined};
 ghost use Rattle.packet_fields.specs.Labels.{label_text};
 ghost use Rattle.packet_fields.specs.Output.{GainsSome};
 ghost use Rattle.dhcp_fields.specs.Header.{chaddr_field};
-ghost use Rattle.dhcp_fields.specs.Refusal.{first_cut};
-ghost use Rattle.message_brief.specs.Dhcp.{DhcpIs, address_text, four_in, front_text, hardware_text, has_options};
-ghost use Rattle.message_brief.specs.Dhcp.{kind_text, lease_text, nothing, octet_in, own_text, packet_text, signed};
-ghost use Rattle.message_brief.specs.Dhcp.{signed_if, told_by};
+ghost use Rattle.message_brief.specs.Dhcp.{DhcpIs, address_text, are_whole, four_in, front_text, hardware_text};
+ghost use Rattle.message_brief.specs.Dhcp.{has_options, have_lengths, is_len, kind_text, lease_text, nothing, octet_in};
+ghost use Rattle.message_brief.specs.Dhcp.{own_text, packet_text, signed, signed_if, told_by};
 
 use crate::words::{Number, put_word};
 use byteorder::{BigEndian, ByteOrder};
@@ -86,11 +85,28 @@ pub(crate) fn put_dhcp<W: Write>(output: &mut W, octets: &[u8]) -> io::Result<bo
     Ok(are_whole(parts))
 }
 
-// Whether no option is cut.
+// Whether no option is cut, and none of those that are told has another length.
 fn are_whole(parts: Parts<'_>) -> bool
-    ensures { result ≡ is_none (first_cut parts.entry) }
+    ensures { result ≡ are_whole parts.entry }
 {
-    first_cut(parts).is_none()
+    have_lengths(&parts) && first_cut(parts).is_none()
+}
+
+// Whether none of the options that are told has another length than such values have.
+fn have_lengths(parts: &Parts<'_>) -> bool
+    ensures { result ≡ have_lengths parts.now }
+{
+    is_len(1, parts.joined_len(MESSAGE_TYPE))
+        && is_len(4, parts.joined_len(REQUESTED_ADDRESS))
+        && is_len(4, parts.joined_len(SERVER_IDENTIFIER))
+        && is_len(4, parts.joined_len(LEASE_TIME))
+}
+
+// Whether an option of so many octets has this length, or has none or is not there.
+fn is_len(len: usize, octets: usize) -> bool
+    ensures { result ≡ is_len len octets }
+{
+    octets == 0 || octets == len
 }
 
 // Whether there is room for options, and the magic cookie before them.

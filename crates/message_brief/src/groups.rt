@@ -13,7 +13,7 @@ ghost use Rattle.message_brief.specs.Groups.{is_whole_query4, is_whole_query6, i
 ghost use Rattle.message_brief.specs.Groups.{named_text, old6_text, plain_text, query4_text, query6_text, record_text};
 ghost use Rattle.message_brief.specs.Groups.{report6_text, report_text, type_word, version_text};
 
-use crate::icmp::put_head6;
+use crate::icmp::put_type6;
 use crate::words::{put_more, put_word};
 use neighbor_fields::igmp::type_name;
 use neighbor_fields::records::{counted_len, label_of, record_len};
@@ -172,7 +172,7 @@ pub(crate) fn put_mld<O, S: Sink<O>>(output: &mut O, octets: &[u8]) -> Result<()
     if octets.len() < place::HEAD_LEN {
         return Ok(());
     }
-    put_head6::<O, S>(output, octets[place::TYPE], octets[place::CODE])?;
+    put_type6::<O, S>(output, octets[place::TYPE])?;
     put_body6::<O, S>(output, octets)
 }
 

@@ -10,6 +10,7 @@ ghost use Rattle.message_brief.specs.Words.{keyed};
 ghost use Rattle.message_brief.specs.Icmp.{behind4_text, behind6_text, body4_text, body6_text, code_text, echo_text};
 ghost use Rattle.message_brief.specs.Icmp.{head4_text, head6_text, head_text, icmp4_text, icmp6_text, is_echo4, is_echo6};
 ghost use Rattle.message_brief.specs.Icmp.{is_error4, is_error6, is_whole4, is_whole6, mtu_text, told4, told6};
+ghost use Rattle.message_brief.specs.Icmp.{type6_text, type_text};
 
 use crate::quote::{put_quote4, put_quote6, quotes4, quotes6};
 use crate::words::{Number, put_keyed, put_word};
@@ -162,6 +163,14 @@ pub(crate) fn is_whole6(octets: &[u8]) -> bool
     !is_error6(octets[place::TYPE]) || quotes6(quoted)
 }
 
+/// Puts the name of a type of ICMPv6.
+#[tactic(auto, using(wirebase::proofs::Sinks::puts), unfolding(crate::specs::Icmp::type6_text))]
+pub(crate) fn put_type6<O, S: Sink<O>>(output: &mut O, type_: u8) -> Result<(), S::Error>
+    ensures { PutsText S.took output.old (type6_text type_) result output.new }
+{
+    put_type::<O, S>(output, icmp6_type_name(type_), type_)
+}
+
 /// Puts the names of a type and a code of ICMPv6.
 #[tactic(auto, using(wirebase::proofs::Sinks::puts), unfolding(crate::specs::Icmp::head6_text))]
 pub(crate) fn put_head6<O, S: Sink<O>>(output: &mut O, type_: u8, code: u8) -> Result<(), S::Error>
@@ -233,13 +242,20 @@ fn put_head<O, S: Sink<O>>(
         (head_text (option_map (λ name. name.now) type_name.entry) type_
         (option_map (λ name. name.now) code_name.entry) code) result output.new }
 {
+    put_type::<O, S>(output, type_name, type_)?;
+    put_code::<O, S>(output, code_name, code)
+}
+
+fn put_type<O, S: Sink<O>>(output: &mut O, name: Option<&str>, type_: u8) -> Result<(), S::Error>
+    ensures { PutsText S.took output.old
+        (type_text (option_map (λ name. name.now) name.entry) type_) result output.new }
+{
     let label = Label {
-        name: type_name,
+        name,
         kind: "type",
         number: type_,
     };
-    put_word::<O, S, Label<'_>>(output, label)?;
-    put_code::<O, S>(output, code_name, code)
+    put_word::<O, S, Label<'_>>(output, label)
 }
 
 fn put_code<O, S: Sink<O>>(output: &mut O, name: Option<&str>, code: u8) -> Result<(), S::Error>

@@ -1,4 +1,5 @@
 -- What is found in DNS messages, as the program has it.
+use Rattle.std.specs.Prelude.{codes}
 use Rattle.dns_fields.specs.Node.{part_text}
 use Rattle.record_wire.specs.Name.{labels_of}
 use Rattle.record_wire.specs.RecordText.{RecordTextValue, record_text_of}
@@ -19,4 +20,5 @@ abbrev pub answered_of : Answer → Answered
 answered_of Answer.Nothing = none
 answered_of Answer.Unread = unreadable
 answered_of (Answer.Zone text) = tells_of (record_text_of text)
+answered_of (Answer.Empty name t) = tells (labels_of name) t (codes "-")
 answered_of (Answer.Node name t part) = tells (labels_of name) t (part_text part.part part.octets.now)

@@ -9,7 +9,8 @@ ghost use Rattle.record_wire.specs.Name.{labels_of};
 ghost use Rattle.record_wire.specs.Record.{question_of, record_of};
 ghost use Rattle.dns_fields.specs.Kind.{is_netbios};
 ghost use Rattle.message_brief.specs.Dns.{AnyTells, FirstRecord, IsAnswered, IsAsked, IsNamed, NodeTells, RecordTells};
-ghost use Rattle.message_brief.specs.Dns.{answers_in_full, asks_in_full, first_part, node_data, tells_if};
+ghost use Rattle.message_brief.specs.Dns.{answers_in_full, asks_in_full, first_part, has_no_part, node_data};
+ghost use Rattle.message_brief.specs.Dns.{tells_if};
 ghost use Rattle.message_brief.specs.private.DnsValues.{answered_of, asked_of};
 
 use dns_fields::header::word_of;
@@ -55,7 +56,9 @@ pub(crate) enum Answer<'a> {
     Unread,
     /// A record as a zone file has it.
     Zone(RecordText<'a>),
-    /// A record of the NetBIOS name service, with the first entry of its data.
+    /// A record of the NetBIOS name service that has no entries.
+    Empty(Name, Type),
+    /// One with the first entry of its data.
     Node(Name, Type, OnePart<'a>),
 }
 
@@ -66,7 +69,7 @@ impl Answer<'_> {
     {
         match self {
             Answer::Unread => false,
-            Answer::Nothing | Answer::Zone(_) | Answer::Node(_, _, _) => true,
+            Answer::Nothing | Answer::Zone(_) | Answer::Empty(_, _) | Answer::Node(_, _, _) => true,
         }
     }
 }
@@ -164,6 +167,9 @@ fn node_by<'a>(layout: Layout, name: Name, record: &Record<'a>) -> Answer<'a>
     ensures { answered_of result
         ≡ tells_if (labels_of name) «record».now.type_ (node_data layout «record».now.«data».now) }
 {
+    if has_no_part(layout, record.data) {
+        return Answer::Empty(name, record.type_);
+    }
     match layout {
         Layout::Addresses => first_part(Part::Address, name, record.type_, record.data),
         Layout::Names => {
@@ -177,6 +183,17 @@ fn node_by<'a>(layout: Layout, name: Name, record: &Record<'a>) -> Answer<'a>
             type_: record.type_,
             data: DataText::Other(record.data),
         }),
+    }
+}
+
+// Whether data have no addresses, or count no names.
+fn has_no_part(layout: Layout, octets: &[u8]) -> bool
+    ensures { result ≡ has_no_part layout octets.now }
+{
+    match layout {
+        Layout::Addresses => octets.is_empty(),
+        Layout::Names => !octets.is_empty() && octets[0] == 0,
+        Layout::Octets => false,
     }
 }
 
