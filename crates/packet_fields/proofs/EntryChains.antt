@@ -7,8 +7,8 @@ use Rattle.packet_fields.specs.Fields.{leaf_or_missing, text}
 use Rattle.std.proofs.lemmas.Grind.{flat_map-append}
 use Rattle.std.proofs.lemmas.List.{append-nil}
 use Rattle.packet_fields.specs.Output.{Gains}
-use Rattle.packet_fields.specs.Fields.{Cell, CellsFit, EntriesFit, Entry, Fits, entries, entries_text, entry_after, entry_before, entry_text}
-use Rattle.packet_fields.specs.Fields.{first_text, cells_text, list_before, list_after}
+use Rattle.packet_fields.specs.Fields.{Cell, EntriesFit, Entry, Fits, entries, entries_text, entry_after, entry_before, entry_text}
+use Rattle.packet_fields.specs.Fields.{first_text, list_before, list_after}
 unfoldable use Rattle.packet_fields.specs.Fields.{item_text}
 use Rattle.packet_fields.specs.Prints.{Prints, PrintsCells}
 use Rattle.packet_fields.specs.declared.form.Form.{Form}

@@ -1,9 +1,9 @@
 -- Parts in turn.
-use Rattle.std.proofs.Common.{◌≡◌, ◌+◌, ◌-◌, ◌≤◌, ◌<◌, [], ◌∷◌, List, ℕ, arith, drop, length, refl, suc, take, zero}
+use Rattle.std.proofs.Common.{◌≡◌, ◌-◌, ◌≤◌, ◌<◌, [], ◌∷◌, List, ℕ, arith, drop, length, refl, suc, take, zero}
 use Rattle.std.proofs.Common.{◌∙◌, ap, sym}
 use Rattle.std.proofs.lemmas.List.{length-drop}
 use Rattle.std.specs.Prelude.{map}
-use Rattle.packet_fields.specs.Parts.{parts, behind, missing}
+use Rattle.packet_fields.specs.Parts.{parts, behind}
 use Rattle.packet_fields.specs.Texts.{address_len, address_text, addresses}
 
 module _ (len : List ℕ → ℕ) where
@@ -32,13 +32,6 @@ module _ (len : List ℕ → ℕ) where
   behind_first zero bytes others some any others_is = absurd (omega (arith, some))
   behind_first (suc count) [] others some any others_is = absurd (omega (arith, any))
   behind_first (suc count) (b ∷ bs) others some any others_is =
-      let e : suc count - 1 ≡ count = omega arith in rw (others_is, e) refl
-
-  pub missing_first : (count : ℕ) (bytes others : List ℕ) → 0 < count → 0 < length bytes
-      → others ≡ drop (len bytes) bytes → missing len count bytes ≡ missing len (count - 1) others
-  missing_first zero bytes others some any others_is = absurd (omega (arith, some))
-  missing_first (suc count) [] others some any others_is = absurd (omega (arith, any))
-  missing_first (suc count) (b ∷ bs) others some any others_is =
       let e : suc count - 1 ≡ count = omega arith in rw (others_is, e) refl
 
 -- how many octets do not matter where there are enough for all parts of one octet or more

@@ -13,9 +13,3 @@ abbrev pub behind : (List ℕ → ℕ) → ℕ → List ℕ → List ℕ
 behind len zero bytes = bytes
 behind len (suc count) [] = []
 behind len (suc count) (b ∷ bs) = behind len count (drop (len (b ∷ bs)) (b ∷ bs))
-
--- how many of `count` are missing
-abbrev pub missing : (List ℕ → ℕ) → ℕ → List ℕ → ℕ
-missing len zero bytes = 0
-missing len (suc count) [] = suc count
-missing len (suc count) (b ∷ bs) = missing len count (drop (len (b ∷ bs)) (b ∷ bs))

@@ -5,7 +5,7 @@ ghost use Rattle.packet_fields.specs.Fields.{Entry, entries as entries_item};
 ghost use Rattle.packet_fields.specs.Prints.{Prints};
 ghost use Rattle.packet_fields.specs.Entries.{PrintsEntry};
 ghost use Rattle.packet_fields.specs.private.Entries.{PrintsEntries};
-ghost use Rattle.packet_fields.specs.Parts.{parts, behind, missing};
+ghost use Rattle.packet_fields.specs.Parts.{parts, behind};
 
 use crate::entry::{close_list, open_list};
 use crate::form::Form;
@@ -73,19 +73,9 @@ fn show_each<P: Part, W: Write>(
     Ok(())
 }
 
-/// What stands behind parts, and how many of them are missing.
-#[derive(Debug, PartialEq, Eq, Clone, Copy)]
-pub struct Behind<'a> {
-    /// The octets behind the parts.
-    pub octets: &'a [u8],
-    /// The number of parts that are missing.
-    pub missing: usize,
-}
-
-/// What stands behind `count` parts of some octets, and how many are missing.
-pub fn behind_parts<P: Part>(count: usize, octets: &[u8]) -> Behind<'_>
-    ensures octets { result.octets.now ≡ behind P.part_len count octets.now }
-    ensures missing { result.missing ≡ missing P.part_len count octets.now }
+/// What stands behind `count` parts of some octets.
+pub fn behind_parts<P: Part>(count: usize, octets: &[u8]) -> &[u8]
+    ensures { result.now ≡ behind P.part_len count octets.now }
 {
     let mut rest = octets;
     let mut left = count;
@@ -94,8 +84,5 @@ pub fn behind_parts<P: Part>(count: usize, octets: &[u8]) -> Behind<'_>
         rest = others;
         left -= 1;
     }
-    Behind {
-        octets: rest,
-        missing: left,
-    }
+    rest
 }

@@ -4,5 +4,5 @@ use Rattle.neighbor_fields.proofs.records.show_records.Goals as goal
 
 pub returns : goal.returns
 returns g c =
-    let additional = rw c.behind_parts-behind.ensures.octets at c.show_additional.ensures in
+    let additional = rw c.behind_parts.ensures at c.show_additional.ensures in
     prints_last _ _ _ (c.in_ok-show_parts.ensures and c.in_ok-show_lack.ensures) additional

@@ -1,5 +1,5 @@
 -- The entries so far, and those of the parts that are left.
-use Rattle.std.proofs.Common.{◌≡◌, ◌++◌, List, length}
+use Rattle.std.proofs.Common.{◌≡◌, ◌++◌, List}
 use Rattle.std.specs.Prelude.{map}
 use Rattle.packet_fields.specs.Fields.{Entry}
 use Rattle.packet_fields.specs.private.Entries.{PrintsEntries}

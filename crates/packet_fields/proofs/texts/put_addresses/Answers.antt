@@ -3,7 +3,6 @@ use Rattle.std.proofs.Common.{◌++◌, ◌∷◌, ◌∙◌, [], ap, append_ass
 use Rattle.packet_fields.specs.Texts.{address_text}
 use Rattle.packet_fields.proofs.PartsInTurn.{addresses_first}
 use Rattle.packet_fields.proofs.TextRuns.{run_more, run_none, run_one, still_both}
-use Rattle.packet_fields.specs.private.TextRuns.{still_first}
 use Rattle.packet_fields.proofs.texts.put_addresses.Goals as goal
 
 pub loop-rest-init : goal.loop-rest-init
