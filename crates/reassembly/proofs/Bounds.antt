@@ -1,17 +1,18 @@
 -- What is kept stays within bounds.
 use Rattle.std.proofs.Common.{◌≡◌, ◌≤◌, ◌<◌, ◌+◌, ◌*◌, ◌++◌, [], ◌∷◌, Err, IfOk, List, Ok, OnErr, Result, ℕ, ap, arith}
 use Rattle.std.proofs.Common.{inl, inr, length, length-append, refl, subst, sym}
-use Rattle.std.proofs.lemmas.Bool.{cases_lt}
-use Rattle.reassembly.specs.Bounds.{AllBounded, AreSpaced, IsBounded, IsWithinBounds, octets_in, octets_kept}
+use Rattle.std.proofs.lemmas.Bool.{cases_eq, cases_lt}
+use Rattle.reassembly.specs.Bounds.{AllBounded, AllKeepFew, AreSpaced, IsBounded, IsWithinBounds, KeepsFew, octets_in}
+use Rattle.reassembly.specs.Bounds.{octets_kept, options_in, options_kept}
 use Rattle.reassembly.specs.Answer.{AnswerValue, answer_of}
-use Rattle.reassembly.specs.Fragment.{FragmentValue, IsSound}
+use Rattle.reassembly.specs.Fragment.{FragmentValue, IsSound, most_options, options_len}
 use Rattle.reassembly.specs.Partial.{PartialValue, TakenValue, Takes, completes, discarded_of, keeps, most_pieces}
 use Rattle.reassembly.specs.Partial.{overfills, overlaps, passes_end, remembered, repeated, with_fragment}
 use Rattle.reassembly.specs.Partial as partial
 use Rattle.reassembly.specs.Piece.{PieceValue, Stands, StandsToAll, end_of, fragment_end, piece_in, placed}
 use Rattle.reassembly.specs.Reassembly.{Adds, begins, begun, drops, joins, left_of, malformed, most_datagrams}
 use Rattle.reassembly.specs.Types.{Answer, Fault, Standing}
-use Rattle.reassembly.proofs.Places.{placed_before, placed_behind}
+use Rattle.reassembly.proofs.Places.{kept_first, kept_none, placed_before, placed_behind}
 
 -- ---- the fragments of a datagram
 
@@ -75,22 +76,63 @@ length-placed p (q ∷ qs) = elim (cases_lt q.offset p.offset) [
   | inr before ↦ omega (arith, ap length (placed_before p q qs before))
 ]
 
+-- ---- the hop-by-hop options of its fragments
+
+keeps_few : (number : ℕ) (f : FragmentValue) → IsSound f → KeepsFew (piece_in number f)
+keeps_few number f sound = elim (cases_eq f.frag_offset 0) [
+  | inl is ↦ record {
+    most =
+        subst (λ o. options_len o ≤ most_options) (sym (kept_first f is))
+        (let k = sound.options in omega (arith, k));
+    first = λ other. absurd (other is);
+  }
+  | inr other ↦ record {
+    most = subst (λ o. options_len o ≤ most_options) (sym (kept_none f other)) (omega arith);
+    first = λ _. kept_none f other;
+  }
+]
+
+few-placed : (p : PieceValue) (ps : List PieceValue) → KeepsFew p → AllKeepFew ps → AllKeepFew (placed p ps)
+few-placed p [] few all = (few, tt)
+few-placed p (q ∷ qs) few all = elim (cases_lt q.offset p.offset) [
+  | inl behind ↦ subst AllKeepFew (sym (placed_behind p q qs behind)) (all.0, few-placed p qs few all.1)
+  | inr before ↦ subst AllKeepFew (sym (placed_before p q qs before)) (few, all)
+]
+
+-- those behind the first byte have none
+later_none : (ps : List PieceValue) (start : ℕ) → 0 < start → AreSpaced start ps → AllKeepFew ps → options_in ps ≡ 0
+later_none [] start some spaced few = refl
+later_none (p ∷ ps) start some spaced few =
+    omega (
+      arith,
+      ap options_len (few.0.first (λ e. omega (arith, e, some, spaced.0))),
+      later_none ps (end_of p) (omega (arith, spaced.1)) spaced.2 few.1,
+    )
+
+few_options : (ps : List PieceValue) → AreSpaced 0 ps → AllKeepFew ps → options_in ps ≤ most_options
+few_options [] spaced few = omega arith
+few_options (p ∷ ps) spaced few =
+    let k = few.0.most in
+    omega (arith, k, later_none ps (end_of p) (omega (arith, spaced.1)) spaced.2 few.1)
+
 -- ---- a datagram
 
 bounded-begun : (number : ℕ) (f : FragmentValue) → IsSound f → IsBounded (begun number f)
 bounded-begun number f sound = record {
   spaced = (omega arith, some_bytes f sound, sound.within);
   few = omega arith;
+  options = (keeps_few number f sound, tt);
 }
 
 bounded-discarded : (d : PartialValue) → IsBounded (discarded_of d)
-bounded-discarded d = record { spaced = omega arith; few = omega arith }
+bounded-discarded d = record { spaced = omega arith; few = omega arith; options = tt }
 
 bounded-more : (d : PartialValue) (number : ℕ) (f : FragmentValue) → IsSound f → IsBounded d
     → StandsToAll d.pieces f Standing.Apart → length d.pieces < most_pieces → IsBounded (with_fragment d number f)
 bounded-more d number f sound b apart room = record {
   spaced = spaced-placed number f d.pieces 0 sound (omega arith) b.spaced apart;
   few = omega (arith, length-placed (piece_in number f) d.pieces, room);
+  options = few-placed (piece_in number f) d.pieces (keeps_few number f sound) b.options;
 }
 
 bounded-takes : (d new : PartialValue) (number : ℕ) (f : FragmentValue) (taken : TakenValue) → IsSound f
@@ -124,11 +166,20 @@ all_octets : (ds : List PartialValue) → AllBounded ds → octets_kept ds ≤ 6
 all_octets [] b = omega arith
 all_octets (d ∷ ds) b = omega (arith, spaced_octets d.pieces 0 b.0.spaced, all_octets ds b.1)
 
+all_options : (ds : List PartialValue) → AllBounded ds → options_kept ds ≤ most_options * length ds
+all_options [] b = omega arith
+all_options (d ∷ ds) b = omega (arith, few_options d.pieces b.0.spaced b.0.options, all_options ds b.1)
+
 within : (ds : List PartialValue) → length ds ≤ most_datagrams → AllBounded ds → IsWithinBounds ds
-within ds few each = record { few = few; each = each; octets = omega (arith, few, all_octets ds each) }
+within ds few each = record {
+  few = few;
+  each = each;
+  octets = omega (arith, few, all_octets ds each);
+  options = omega (arith, few, all_options ds each);
+}
 
 pub none_within : IsWithinBounds []
-none_within = record { few = omega arith; each = tt; octets = omega arith }
+none_within = record { few = omega arith; each = tt; octets = omega arith; options = omega arith }
 
 left-bounded : (taken : TakenValue) (d : PartialValue) → IsBounded d → AllBounded (left_of taken d)
 left-bounded partial.kept d b = (b, tt)

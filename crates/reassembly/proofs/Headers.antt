@@ -69,6 +69,13 @@ pub leads_here : (p : IpProtocol) (rest : List ℕ) → ((end : ℕ) → EndsAt 
     → 8 ≤ length rest → LeadsToFragment p rest rest
 leads_here p rest none f long = here f long (λ has. none 8 (headers.atomic f has refl)) refl
 
+-- one of hop-by-hop options that is passed is whole
+pub leads_whole : (p : IpProtocol) (bytes header : List ℕ) → LeadsToFragment p bytes header
+    → p ≡ IpProtocol.HopByHop → HasExtension bytes
+leads_whole p bytes header (here f long never h) is = absurd (no_extension p f (inl is))
+leads_whole p bytes header (past end (headers.extension passed has e) more) is = has
+leads_whole p bytes header (past end (headers.atomic f has e) more) is = absurd (no_extension p f (inl is))
+
 -- ---- the headers of a datagram
 
 -- that of a fragment that they pass to

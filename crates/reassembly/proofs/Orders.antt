@@ -25,6 +25,7 @@ malformed_unsound f Refusal.Empty s m = s.order.bytes m
 malformed_unsound f Refusal.Unfragmented s m = s.order.part m.2 m.1
 malformed_unsound f Refusal.Length s m = m.2 (s.order.eights m.1)
 malformed_unsound f Refusal.TooLong s m = let k = s.within in omega (arith, k, m.1)
+malformed_unsound f Refusal.Options s m = let k = s.options in omega (arith, k, m.2)
 malformed_unsound f Refusal.Discarded s m = m
 malformed_unsound f Refusal.Overlap s m = m
 malformed_unsound f Refusal.End s m = m

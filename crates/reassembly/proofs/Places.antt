@@ -1,15 +1,16 @@
 -- Loops over the fragments that are kept of a datagram, and over datagrams.
 use Rattle.std.proofs.Common.{◌≡◌, ◌≢◌, ◌≤◌, ◌<◌, ◌+◌, ◌++◌, ◌∙◌, [], ◌∷◌, List, Bool, true, false, ℕ, ap, sym, subst}
-use Rattle.std.proofs.Common.{IsTrue, append_assoc, arith, drop, get_or, if◌then◌else◌, inl, inr, length, map, refl, set, suc, take}
-use Rattle.std.proofs.lemmas.Bool.{le-ltb, lt-ltb}
-use Rattle.std.proofs.lemmas.List.{append-nil, drop_all, drop_more, drop-map, drop-set-lt, map-append, map_more, map_push}
-use Rattle.std.proofs.lemmas.List.{set-get_or, set_split, take-map, take-set}
+use Rattle.std.proofs.Common.{IsTrue, None, append_assoc, arith, drop, get_or, if◌then◌else◌, inl, inr, length, map}
+use Rattle.std.proofs.Common.{refl, set, suc, take}
+use Rattle.std.proofs.lemmas.Bool.{eq-eqb, le-ltb, lt-ltb, ne_eqb}
+use Rattle.std.proofs.lemmas.List.{append-nil, drop_all, drop_more, drop-map, drop-set-lt, map-append, map_more}
+use Rattle.std.proofs.lemmas.List.{map_push, set-get_or, set_split, take-map, take-set}
 use Rattle.std.proofs.lemmas.List.Concat.{flat_map-append}
 use Rattle.std.specs.List.{insert, remove}
 use Rattle.reassembly.specs.Fragment.{FragmentValue}
 use Rattle.reassembly.specs.Partial.{PartialValue, partial_of}
-use Rattle.reassembly.specs.Piece.{PieceValue, Stands, StandsToAll, TilesFrom, Tiles, end_of, numbers_of, payload_of}
-use Rattle.reassembly.specs.Piece.{piece_of, placed}
+use Rattle.reassembly.specs.Piece.{PieceValue, Stands, StandsToAll, TilesFrom, Tiles, end_of, kept_options, numbers_of}
+use Rattle.reassembly.specs.Piece.{payload_of, piece_of, placed}
 use Rattle.reassembly.specs.Reassembly.{IsUnknown}
 use Rattle.reassembly.specs.Types.{Key, Partial, Piece, Standing}
 
@@ -26,6 +27,14 @@ pub take_at_map : {X Y : Type 0} (f : X → Y) (xs : List X) (i : ℕ) (x : X) �
 take_at_map f xs i x within at =
     take-map f (i + 1) xs ∙ map_more f xs i x within ∙ ap (λ y. map f (take i xs) ++ (f y ∷ [])) (sym at)
     ∙ ap (λ l. l ++ (f x ∷ [])) (sym (take-map f i xs))
+
+-- ---- the hop-by-hop options of a fragment
+
+pub kept_first : (f : FragmentValue) → f.frag_offset ≡ 0 → kept_options f ≡ f.hop_by_hop
+kept_first f is = ap (λ (b : Bool). if b then f.hop_by_hop else None) (eq-eqb f.frag_offset 0 is)
+
+pub kept_none : (f : FragmentValue) → f.frag_offset ≢ 0 → kept_options f ≡ None
+kept_none f other = ap (λ (b : Bool). if b then f.hop_by_hop else None) (ne_eqb f.frag_offset 0 other)
 
 -- ---- a fragment in its place
 

@@ -57,7 +57,8 @@ Come old (a ∷ b ∷ rest) answer new =
     × Come between (b ∷ rest) answer new
 
 -- Where there is room for a datagram, and none of its fragments came before, they are answered by the whole datagram in
--- the end, with its payload and the numbers of the packets in the order of the offsets; and what was kept before is kept.
+-- the end, with its payload and the numbers of the packets in the order of the offsets, and with the hop-by-hop options
+-- of the one at offset 0; and what was kept before is kept.
 abbrev pub AnyOrder : Type 0
 AnyOrder =
     (key : Key) (all came : List Arrival) (old new : List PartialValue) (answer : AnswerValue)

@@ -1,8 +1,9 @@
 -- Datagrams of which some fragments came.
-use Rattle.std.specs.Prelude.{◌≡◌, ◌<◌, ◌≤◌, Bool, List, [], false, length, map, true, ℕ}
+use Rattle.std.specs.Prelude.{◌≡◌, ◌<◌, ◌≤◌, Bool, List, [], Option, false, length, map, true, ℕ}
+use Rattle.std.specs.Option.{option_map}
 use Rattle.reassembly.specs.Fragment.{FragmentValue}
 use Rattle.reassembly.specs.Piece.{PieceValue, piece_in, piece_of, StandsToAll, Tiles, placed, payload_of, numbers_of}
-use Rattle.reassembly.specs.Piece.{protocol_of_first}
+use Rattle.reassembly.specs.Piece.{options_of_first, protocol_of_first}
 use Rattle.reassembly.specs.Types.{Addresses, IpProtocol, Key, Partial, Refusal, Standing, Whole}
 
 -- a datagram by its content: its fragments in the order of their offsets, none where it is discarded
@@ -18,6 +19,7 @@ partial_of d = record { key = d.key; discarded = d.discarded; pieces = map piece
 pub record WholeValue : Type 0 where
   pub addresses : Addresses
   pub protocol : IpProtocol
+  pub hop_by_hop : Option (List ℕ)
   pub payload : List ℕ
   pub numbers : List ℕ
 
@@ -25,6 +27,7 @@ abbrev pub whole_of : Whole → WholeValue
 whole_of w = record {
   addresses = w.addresses;
   protocol = w.protocol;
+  hop_by_hop = option_map (λ options. options.items) w.hop_by_hop;
   payload = w.payload.items;
   numbers = w.numbers.items;
 }
@@ -34,6 +37,7 @@ abbrev pub joined : PartialValue → WholeValue
 joined d = record {
   addresses = d.key.addresses;
   protocol = protocol_of_first d.pieces;
+  hop_by_hop = options_of_first d.pieces;
   payload = payload_of d.pieces;
   numbers = numbers_of d.pieces;
 }

@@ -1,6 +1,8 @@
 -- Fragments that are kept of a datagram, and what they are together.
-use Rattle.std.specs.Prelude.{◌≡◌, ◌≢◌, ◌<◌, ◌+◌, ◌⊎◌, Bool, List, [], ◌∷◌, false, if◌then◌else◌, length, map, nat_lt, true, ℕ}
+use Rattle.std.specs.Prelude.{◌≡◌, ◌≢◌, ◌<◌, ◌+◌, ◌⊎◌, ◌==◌, Bool, List, [], ◌∷◌, None, Option, false, if◌then◌else◌}
+use Rattle.std.specs.Prelude.{length, map, nat_lt, true, ℕ}
 use Rattle.std.specs.List.{flat_map}
+use Rattle.std.specs.Option.{option_map}
 use Rattle.reassembly.specs.Fragment.{FragmentValue}
 use Rattle.reassembly.specs.Types.{IpProtocol, Piece, Standing}
 
@@ -10,6 +12,7 @@ pub record PieceValue : Type 0 where
   pub protocol : IpProtocol
   pub offset : ℕ
   pub more : Bool
+  pub hop_by_hop : Option (List ℕ)
   pub octets : List ℕ
 
 abbrev pub piece_of : Piece → PieceValue
@@ -18,8 +21,14 @@ piece_of p = record {
   protocol = p.protocol;
   offset = p.offset;
   more = p.more;
+  hop_by_hop = option_map (λ options. options.items) p.hop_by_hop;
   octets = p.octets.items;
 }
+
+-- What is kept of the hop-by-hop options in front of a fragment: those of the one at offset 0 stay with the datagram,
+-- and those of the others do not (RFC 8200 section 4.5).
+abbrev pub kept_options : FragmentValue → Option (List ℕ)
+kept_options f = if f.frag_offset == 0 then f.hop_by_hop else None
 
 abbrev pub piece_in : ℕ → FragmentValue → PieceValue
 piece_in number f = record {
@@ -27,6 +36,7 @@ piece_in number f = record {
   protocol = f.protocol;
   offset = f.frag_offset;
   more = f.more_frags;
+  hop_by_hop = kept_options f;
   octets = f.payload;
 }
 
@@ -39,7 +49,7 @@ fragment_end f = f.frag_offset + length f.payload
 
 -- ---- a fragment beside one that is kept
 
--- the same again, which may come in another packet
+-- the same again, which may come in another packet, behind other options
 abbrev pub IsSame : PieceValue → FragmentValue → Type 0
 IsSame q f =
     (q.protocol ≡ f.protocol) × (q.offset ≡ f.frag_offset) × (q.more ≡ f.more_frags) × (q.octets ≡ f.payload)
@@ -90,6 +100,11 @@ numbers_of ps = map (λ p. p.number) ps
 abbrev pub protocol_of_first : List PieceValue → IpProtocol
 protocol_of_first [] = IpProtocol.Ipv6NoNxt
 protocol_of_first (p ∷ ps) = p.protocol
+
+-- its hop-by-hop options, as the first one has them
+abbrev pub options_of_first : List PieceValue → Option (List ℕ)
+options_of_first [] = None
+options_of_first (p ∷ ps) = p.hop_by_hop
 
 -- one more in its place
 abbrev pub placed : PieceValue → List PieceValue → List PieceValue

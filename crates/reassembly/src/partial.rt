@@ -2,16 +2,18 @@
 
 ghost use Rattle.std.specs.Prelude.{◌≡◌, ◌↔◌, ◌<◌, ◌≤◌, ℕ, IfOk, IsTrue, OnErr, false, length, map, vec_len};
 ghost use Rattle.std.specs.List.{insert};
+ghost use Rattle.std.specs.Option.{option_map};
 ghost use Rattle.reassembly.specs.Fragment.{value_of, key_of, IsSound};
 ghost use Rattle.reassembly.specs.Partial.{partial_of, whole_of, joined, discarded_of, with_fragment, Takes};
 ghost use Rattle.reassembly.specs.private.Parts.{taken_of};
 ghost use Rattle.reassembly.specs.Piece.{piece_of, piece_in, fragment_end, StandsToAll, Tiles, placed, payload_of};
-ghost use Rattle.reassembly.specs.Piece.{numbers_of, protocol_of_first};
+ghost use Rattle.reassembly.specs.Piece.{numbers_of, options_of_first, protocol_of_first};
 ghost use Rattle.reassembly.specs.Reassembly.{begun};
 
 use crate::answer::{Fault, Refusal, Whole};
 use crate::fragment::Fragment;
 use crate::key::Key;
+use crate::options::copied;
 use crate::piece::{Piece, Standing};
 use std::alloc::Global;
 use wirebase::IpProtocol;
@@ -154,6 +156,7 @@ impl Partial {
         Ok(Whole {
             addresses: self.key.addresses,
             protocol: first_protocol(pieces),
+            hop_by_hop: copied(alloc, first_options(pieces))?,
             payload: payload(alloc, pieces)?,
             numbers: numbers(alloc, pieces)?,
         })
@@ -211,6 +214,16 @@ fn first_protocol(pieces: &[Piece]) -> IpProtocol
     match pieces.first() {
         Some(piece) => piece.protocol(),
         None => IpProtocol::Ipv6NoNxt,
+    }
+}
+
+// The hop-by-hop options that the first one has.
+fn first_options(pieces: &[Piece]) -> Option<&[u8]>
+    ensures { option_map (λ options. options.now) result ≡ options_of_first (map piece_of pieces.now) }
+{
+    match pieces.first() {
+        Some(piece) => piece.hop_by_hop(),
+        None => None,
     }
 }
 

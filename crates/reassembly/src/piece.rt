@@ -4,11 +4,16 @@ ghost use Rattle.std.specs.Prelude.{◌+◌, ◌≤◌, vec_len};
 
 use crate::answer::Fault;
 use crate::fragment::Fragment;
+use crate::options::kept_options;
 use std::alloc::Global;
 use wirebase::IpProtocol;
 
 /// The most bytes of a datagram's payload.
 pub const MOST_LEN: usize = 65_535;
+
+/// The most bytes of a datagram's hop-by-hop options: of the 2,048 bytes of the longest header those after the first
+/// two (RFC 8200 section 4.3).
+pub const MOST_OPTIONS_LEN: usize = 2_046;
 
 /// A fragment that is kept.
 #[derive(Debug, Drop)]
@@ -17,6 +22,8 @@ pub struct Piece {
     protocol: IpProtocol,
     offset: u16,
     more: bool,
+    // None where it is not at offset 0.
+    hop_by_hop: Option<Vec<u8>>,
     octets: Vec<u8>,
     ghost within: { offset + vec_len octets ≤ 65535 },
 }
@@ -36,6 +43,7 @@ pub(crate) enum Standing {
 
 impl Piece {
     ghost use Rattle.std.specs.Prelude.{◌≡◌, ◌↔◌, IfOk, IsTrue};
+    ghost use Rattle.std.specs.Option.{option_map};
     ghost use Rattle.reassembly.specs.Fragment.{value_of};
     ghost use Rattle.reassembly.specs.Piece.{piece_of, piece_in, end_of, fragment_end, IsSame, Stands};
 
@@ -44,6 +52,7 @@ impl Piece {
         requires { fragment_end (value_of fragment.now) ≤ 65535 }
         ensures { IfOk result (λ piece. piece_of piece ≡ piece_in number (value_of fragment.now)) }
     {
+        let hop_by_hop = kept_options(alloc, fragment)?;
         let mut octets = Vec::new(alloc);
         if octets.extend_from_slice(fragment.payload).is_err() {
             return Err(Fault::Memory);
@@ -53,6 +62,7 @@ impl Piece {
             protocol: fragment.protocol,
             offset: fragment.frag_offset,
             more: fragment.more_frags,
+            hop_by_hop,
             octets,
         })
     }
@@ -83,6 +93,17 @@ impl Piece {
         ensures { result ≡ (piece_of self.now).more }
     {
         self.more
+    }
+
+    /// The options of the hop-by-hop header in front of it, where it is at offset 0: those stay with the datagram (RFC
+    /// 8200 section 4.5). None of another.
+    pub fn hop_by_hop(&self) -> Option<&[u8]>
+        ensures { option_map (λ options. options.now) result ≡ (piece_of self.now).hop_by_hop }
+    {
+        match &self.hop_by_hop {
+            Some(options) => Some(options.as_slice()),
+            None => None,
+        }
     }
 
     /// Its bytes of the datagram's payload.

@@ -1,6 +1,11 @@
--- Other octets are no fragment.
-use Rattle.reassembly.proofs.Headers.{datagram_no_fragment, refused_no_fragment}
+-- The headers before that of a fragment are whole; other octets are no fragment.
+use Rattle.reassembly.proofs.Headers.{datagram_no_fragment, leads_whole, refused_no_fragment}
 use Rattle.reassembly.proofs.fragment.Fragment.parse_v6.Goals as goal
+
+pub options_of-options-requires : goal.options_of-options-requires
+options_of-options-requires c =
+    leads_whole c.next_header-next_header.result c.payload-payload.result.now c.in_ok-header-in-Fragment.header.now
+    c.in_ok-header-in-Fragment.ensures.sound
 
 pub returns-in_default-clause-complete : goal.returns-in_default-clause-complete
 returns-in_default-clause-complete c none v =
