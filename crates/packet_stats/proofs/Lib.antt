@@ -1,0 +1,10 @@
+pub mod Ascending
+pub mod AskedInTurn
+pub mod Bounds
+pub mod Counting
+pub mod DnsSaid
+pub mod NameOctets
+pub mod Places
+pub mod RowEntries
+pub mod Said
+pub mod Sorting

@@ -1,0 +1,8 @@
+-- What precedes the entries, the entries, and what follows them.
+use Rattle.packet_fields.proofs.EntryChains.{list_printed}
+use Rattle.packet_stats.proofs.show.show_list.Goals as goal
+
+pub returns : goal.returns
+returns g c =
+    list_printed _ _ _ _ _ _ _ c.close_list.result c.in_ok-open_list.ensures c.in_ok-show_rows.ensures
+    c.close_list.ensures

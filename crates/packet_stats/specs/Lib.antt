@@ -1,0 +1,10 @@
+pub mod Bounds
+pub mod Dns
+pub mod Message
+pub mod Row
+pub mod Shown
+pub mod Stats
+pub mod Subject
+pub mod Table
+pub mod Types
+pub mod private
