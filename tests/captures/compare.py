@@ -2,13 +2,14 @@
 """Compares what pcapdump prints of captures with what tshark has of them: `compare.py [--all] PCAPDUMP CAPTURE..`.
 
 Beside each capture is the table that fields.py made of it. The objects of `pcapdump --json` are compared with it, and
-the lines that pcapdump prints with the values of the objects. Of each packet that is a difference it prints both; then
-the kinds of packets that both programs see but read differently, with their numbers; and last 'N passed, M failed', of
-packets and of the counts of each capture. With --all the captures are all that are kept, and have to have each kind of
-packet that is wanted of them."""
+the lines that pcapdump prints with the values of the objects, and the brief lines with those of brief.py. Of each
+packet that is a difference it prints both; then the kinds of packets that both programs see but read differently, with
+their numbers; and last 'N passed, M failed', of packets and of the counts of each capture. With --all the captures are
+all that are kept, and have to have each kind of packet that is wanted of them."""
 
 import collections
 import datetime
+import itertools
 import json
 import os
 import re
@@ -21,6 +22,7 @@ import datagrams
 import expected
 import fields
 import names
+import plain
 from messages import KINDS, REASONS
 
 
@@ -264,6 +266,14 @@ def read_by_jq(program, capture):
     return None if (asked.returncode, asked.stdout) == (0, ran.stdout) else asked.stderr or "it prints something else"
 
 
+def other_brief_line(program, capture):
+    """The first of the brief lines that is not the one of brief.py, and that one; or None."""
+    with open(capture, "rb") as file:
+        wanted = plain.dump(file.read(), plain.Options(is_brief=True)).text.splitlines()
+    lines = run(program, "--brief", capture).stdout.splitlines()
+    return next((both for both in itertools.zip_longest(lines, wanted) if both[0] != both[1]), None)
+
+
 def told(text):
     """The numbers of the line that sums up: of what is listed and refused, of other protocols, and of fragments."""
     def number(pattern):
@@ -331,10 +341,11 @@ def compare(program, capture, known, seen):
     lines, line = same(objects, ran.stdout), told(ran.stderr)
     table, printed_table = totals.table(), counts_of(run(program, "--count", capture).stdout)
     by_jq = read_by_jq(program, capture) if shutil.which("jq") else None
+    brief = other_brief_line(program, capture)
     for text, holds in ((f"packets {list(left)} are printed, and not in the capture", not left),
                         (f"the status is {status}", status == 0), (f"no JSON: {unread}", unread is None),
                         (f"jq reads something else: {by_jq}", by_jq is None),
-                        (f"{lines}", lines is None),
+                        (f"{lines}", lines is None), (f"a brief line, and brief.py: {brief}", brief is None),
                         (f"the counts are not {table}, but {printed_table}", printed_table == table),
                         (f"the line that sums up has not {dict(totals.line)}, but {line}", line == totals.line)):
         agree, differ = agree + holds, differ + (not holds)

@@ -82,8 +82,8 @@ class Joined:
 
     def datagram(self):
         of = self.first
-        # Hop-by-hop options in front of the fragments are not told.
-        of = Datagram(of.source, of.destination, of.protocol, self.payload)
+        # The hop-by-hop options in front of the first fragment are those of the datagram.
+        of = Datagram(of.source, of.destination, of.protocol, self.payload, of.hop_by_hop)
         if len(of.source) == 4:
             return of
         # Headers that extend IPv6 may stand in what was fragmented.

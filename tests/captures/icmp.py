@@ -68,7 +68,14 @@ QUOTE_CUT = "the quoted header is cut"
 
 
 def quote4(quote):
-    """A header (RFC 791 section 3.1), and 8 octets or more behind it."""
+    """A header, and 8 octets or more behind it."""
+    if len(quote) < header_len4(quote) + 8:
+        raise Refused("quote", "fewer than 8 bytes stand behind the quoted header")
+    return header4(quote)
+
+
+def header4(quote):
+    """A header (RFC 791 section 3.1), and what stands behind it."""
     flags, payload = be(quote[6:8]), quote[header_len4(quote):]
     offset = flags % 0x2000 * 8
     return quoted(
@@ -91,8 +98,6 @@ def header_len4(quote):
         raise Refused("quote", "the quoted header has %d bytes by its own length" % length)
     if len(quote) < length:
         raise Refused("quote", QUOTE_CUT)
-    if len(quote) < length + 8:
-        raise Refused("quote", "fewer than 8 bytes stand behind the quoted header")
     return length
 
 

@@ -18,8 +18,9 @@ PORTS = {53: "dns", 5353: "mdns", 5355: "llmnr", 137: "nbns"}
 DHCP_PORTS = (67, 68)
 
 
-def kind_of(version, protocol, payload):
-    """The kind of a datagram, or None where it is of another protocol; `frame` where it can't be told."""
+def kind_of(version, protocol, payload, given):
+    """The kind of a datagram, or None where it is of another protocol; `frame` where it can't be told. `given` has
+    ports by their kinds, which count before the others."""
     if (version, protocol) in ((4, ICMP4), (4, IGMP), (6, ICMP6)):
         return {ICMP4: "icmp4", IGMP: "igmp", ICMP6: "icmp6"}[protocol]
     if version == 6 and protocol in EXTENSIONS + (FRAGMENT,):
@@ -29,7 +30,8 @@ def kind_of(version, protocol, payload):
     both = ports(payload)
     if both is None:
         return "frame"
-    named = next((kind for port, kind in PORTS.items() if port in both), None)
+    named = next((kind for kind in KINDS if given.get(kind) in both and (kind, version) != ("dhcp", 6)), None)
+    named = named or next((kind for port, kind in PORTS.items() if port in both), None)
     return named or ("dhcp" if version == 4 and any(port in both for port in DHCP_PORTS) else None)
 
 

@@ -1,15 +1,18 @@
 #!/usr/bin/env python3
 """Prints the control packets of capture files as pcapdump does, written from its manual and from the RFCs:
 
-    plain.py [--only KIND,..] [--count] [--json] [--strict] [FILE..]
+    plain.py [--only KIND,..] [--port KIND=PORT] [--count] [--json] [--brief] [--strict] [FILE..]
 
 As a module: `dump(octets)` gives the text, the status and the counts of a capture."""
+import json
 import os
+import re
 import sys
 
 sys.dont_write_bytecode = True
 sys.path.insert(0, os.path.dirname(os.path.abspath(__file__)))
 
+import brief  # noqa: E402
 import frames  # noqa: E402
 import items  # noqa: E402
 import messages  # noqa: E402
@@ -39,13 +42,15 @@ ENDINGS = {
 
 
 class Options:
-    """What is printed of captures: the kinds that are let through, or None for all; objects of JSON, and messages whose
-    checksum is wrong."""
+    """What is printed of captures: the kinds that are let through, or None for all; objects of JSON or brief lines;
+    messages whose checksum is wrong; and the ports that are given to kinds."""
 
-    def __init__(self, only=None, is_json=False, is_strict=False):
+    def __init__(self, only=None, is_json=False, is_strict=False, given=None, is_brief=False):
         self.only = only
         self.is_json = is_json
         self.is_strict = is_strict
+        self.given = given or {}
+        self.is_brief = is_brief
 
     def passes(self, shown):
         return self.only is None or shown.kind in self.only or shown.has_options and "hbh" in self.only
@@ -54,8 +59,9 @@ class Options:
 class Shown:
     """What a packet prints: its kind, where it is one of those that are printed; the reason under which it is counted,
     or None where all of it is in order; what it leads to as far as that is known, its VLANs, and its items, once for
-    each of its messages. One that is of no kind has a name of its protocol in `other`, or as a fragment that is kept in
-    `fragment`, or in `link` the name of its link, where that is not read."""
+    each of its messages, whose octets are in `octets`, with the header of UDP. One that is of no kind has a name of its
+    protocol in `other`, or as a fragment that is kept in `fragment`, or in `link` the name of its link, where that is
+    not read."""
 
     def __init__(self):
         self.kind = None
@@ -67,6 +73,7 @@ class Shown:
         self.numbers = None
         self.is_tcp = False
         self.messages = [[]]
+        self.octets = [b""]
         self.has_options = False
         self.other = None
         self.fragment = None
@@ -78,13 +85,20 @@ class Shown:
         of = self.datagram
         if of is not None:
             words += [endpoint(of.source, self.ports[0]), ">", endpoint(of.destination, self.ports[1])]
-        words += ["vlan=%d" % vlan for vlan in self.vlans]
+        heading = " ".join(words + self.marks() + [self.kind]) + "\n"
+        return "".join(heading + "".join("  %s\n" % line for line in items.lines(of)) for of in self.messages)
+
+    def marks(self):
+        """The words of a heading between the addresses and the kind."""
+        words = ["vlan=%d" % vlan for vlan in self.vlans]
         words += ["in=%s,%s,%s" % (tunnel.name, address(tunnel.source), address(tunnel.destination))
                   for tunnel in self.tunnels]
         words += ["frames=" + ",".join(map(str, self.numbers))] if self.numbers else []
-        words += (["hbh"] if self.has_options else []) + (["tcp"] if self.is_tcp else []) + [self.kind]
-        heading = " ".join(words) + "\n"
-        return "".join(heading + "".join("  %s\n" % line for line in items.lines(of)) for of in self.messages)
+        return words + (["hbh"] if self.has_options else []) + (["tcp"] if self.is_tcp else [])
+
+    def brief(self, number, packet):
+        """A line of each message."""
+        return brief.text(self, number, packet)
 
     def json(self, number, packet):
         """The same as an object of JSON."""
@@ -103,7 +117,7 @@ class Shown:
         return "".join(items.json_line(front + of) + "\n" for of in self.messages)
 
 
-def show(packet, number, fragments, is_strict=False):
+def show(packet, number, fragments, is_strict, given):
     """What a packet prints of this number. `fragments` are those of the packets before."""
     shown = Shown()
     if packet.link_type not in frames.LINKS:
@@ -121,19 +135,23 @@ def show(packet, number, fragments, is_strict=False):
     is_typed = packet.link_type in frames.TYPED
     shown.other = frames.network_name(frame.number) if is_typed else "network %d" % frame.number
     if frame.version is not None:
-        show_datagram(shown, tunnels.follow(frame.version, frame.payload, number, is_cut, fragments), is_strict)
+        found = tunnels.follow(frame.version, frame.payload, number, is_cut, fragments)
+        show_datagram(shown, found, is_strict, given)
     return shown
 
 
-def show_datagram(shown, found, is_strict):
-    of = found.of
+def show_datagram(shown, found, is_strict, given):
+    of, segments = found.of, []
     if found.kept:
         shown.fragment, shown.other = found.protocol_name(), None
         return
-    segments = dns_messages(of.payload) if of is not None and of.protocol == TCP and found.refused is None else []
-    head(shown, found, segments)
+    if of is not None and of.protocol == TCP and found.refused is None:
+        segments = dns_messages(of.payload, given.get("dns"))
+    head(shown, found, segments, given)
     if shown.kind is None:
         return
+    if of is not None:
+        shown.octets = segments or [of.payload]
     if is_strict and found.is_bad:
         why = Refused("cut" if found.refused and found.refused.reason == "cut" else "checksum", BAD_HEADER)
         shown.messages, shown.reason = [why.fields()] * max(1, len(segments)), why.reason
@@ -150,13 +168,13 @@ def show_datagram(shown, found, is_strict):
 BAD_HEADER = "the checksum of the IPv4 header does not hold"
 
 
-def head(shown, found, segments):
+def head(shown, found, segments, given):
     """Puts the kind and the addresses, as far as they are known."""
     of = found.of
     shown.datagram, shown.tunnels, shown.numbers, shown.kind = of, found.tunnels, found.numbers, "frame"
     if of is None:
         return
-    shown.kind = "dns" if segments else kind_of(found.version, of.protocol, of.payload)
+    shown.kind = "dns" if segments else kind_of(found.version, of.protocol, of.payload, given)
     shown.is_tcp = bool(segments)
     if of.protocol == UDP or segments:
         shown.ports = ports(of.payload) or (None, None)
@@ -282,18 +300,27 @@ class Dumped:
         return "".join("pcapdump: %s: %s\n" % (name, line) for line in lines)
 
 
+def among_others(name, text, options):
+    """What a capture prints that is one of several files: in JSON its name is in each object, and else above all."""
+    if not options.is_json:
+        return name + ":\n" + text
+    told = ',"file":' + json.dumps(name, ensure_ascii=False)
+    return re.sub(r'^\{"number":\d+', lambda front: front[0] + told, text, flags=re.MULTILINE)
+
+
 def dump(octets, options=Options(), total=None):
     """What the octets of a capture print. `total` counts the packets of several captures."""
     counts = Counts()
     capture = reading.Capture(octets)
     fragments, texts = Fragments(), []
     for number, packet in enumerate(capture, 1):
-        shown = show(packet, number, fragments, options.is_strict)
+        shown = show(packet, number, fragments, options.is_strict, options.given)
         counts.add(shown, packet.octets, options)
         if total is not None:
             total.add(shown, packet.octets, options)
         if shown.kind is not None and options.passes(shown):
-            texts.append((shown.json if options.is_json else shown.text)(number, packet))
+            form = shown.json if options.is_json else shown.brief if options.is_brief else shown.text
+            texts.append(form(number, packet))
     return Dumped("".join(texts), capture.ending, counts)
 
 
@@ -306,10 +333,15 @@ def arguments(words):
             options.only = chosen(words.pop(0))
         elif word.startswith("--only="):
             options.only = chosen(word[7:])
+        elif word == "--port" and words:
+            kind, _, port = words.pop(0).partition("=")
+            options.given[kind] = int(port)
         elif word == "--count":
             count = True
-        elif word == "--json":
-            options.is_json = True
+        elif word in ("--json", "--brief", "-1"):
+            # The last one counts.
+            options.is_json = word == "--json"
+            options.is_brief = not options.is_json
         elif word == "--strict":
             options.is_strict = True
         elif word.startswith("-") and word not in HABITS + ("-",):
@@ -336,7 +368,8 @@ def read(name):
 def main(words):
     asked = arguments(words)
     if asked is None:
-        print("usage: plain.py [--only KIND,..] [--count] [--json] [--strict] [FILE..]", file=sys.stderr)
+        print("usage: plain.py [--only KIND,..] [--port KIND=PORT] [--count] [--json] [--brief] [--strict] [FILE..]",
+              file=sys.stderr)
         return 2
     options, count, files = asked
     status, total = 0, Counts()
@@ -350,9 +383,7 @@ def main(words):
         dumped = dump(octets, options, total)
         status = max(status, dumped.status)
         if not count:
-            if len(files) > 1 and not options.is_json:
-                sys.stdout.write(name + ":\n")
-            sys.stdout.write(dumped.text)
+            sys.stdout.write(among_others(name, dumped.text, options) if len(files) > 1 else dumped.text)
         sys.stdout.flush()
         sys.stderr.write(dumped.said(name, count))
     if count:

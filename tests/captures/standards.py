@@ -5,6 +5,7 @@ import struct
 from building import (HOST6, NOON, SERVER6, TCP, attribute, block, c_hdlc, cooked, cooked2, enhanced, ethernet, hexed,
                       icmp4, interface, ip4, ip6_icmp6, ipnet, ipoib, nflog, obsolete, option, pcap, pcap_header,
                       pcap_record, section, session, simple, udp4, udp6)
+from standards_brief import BRIEF
 from standards_dns import DNS
 from standards_fragments import FRAGMENTS, MOST
 from standards_messages import LONG_PARTS, MESSAGES, WHOLE_JUMBOGRAMS
@@ -184,7 +185,7 @@ def captures():
 
 def mixed():
     """The captures by name of which the octets of the packets alone are damaged."""
-    return named(TUNNELS, FRAGMENTS, SEGMENTS, NETWORKS)
+    return named(TUNNELS, FRAGMENTS, SEGMENTS, NETWORKS, BRIEF)
 
 
 def named(*tables):

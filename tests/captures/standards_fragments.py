@@ -134,6 +134,11 @@ def header(following, content="010400000000"):
     return bytes([following, 0]) + hexed(content)
 
 
+# Hop-by-hop options before a fragment: a router alert, another one, and one of 16 octets.
+ALERT = header(44, "05020000 0100")
+OTHER_ALERT = header(44, "05020001 0100")
+LONG_ALERT = bytes([44, 1]) + hexed("05020002 1e08a1a2a3a4a5a6a7a8")
+
 OPTIONS = header(ICMP6) + PING6
 ROUTE = hexed("2c02 0001 00000000") + SERVER6
 OTHER6 = v6("2001:db8::2")
@@ -148,9 +153,15 @@ OF_IPV6 = {
     "fragments6_in_order": raw(*three6("012")),
     "fragments6_in_any_order": raw(*three6("201"), *three6("120", 2)),
     "fragments6_of_dns": raw(*parts(((8, len(ASKED)), (0, 8)), payload=ASKED6, part=part6, following=UDP)),
-    "fragments6_behind_options": raw(*behind(header(44, "05020000 0100"), 0)),
-    "fragments6_behind_options_of_the_first": raw(*behind(header(44, "05020000 0100"), 0, "0"), *three6("12")),
-    "fragments6_behind_options_of_the_last": raw(*three6("01"), *behind(header(44, "05020000 0100"), 0, "2")),
+    "fragments6_behind_options": raw(*behind(ALERT, 0)),
+    "fragments6_behind_options_of_the_first": raw(*behind(ALERT, 0, "0"), *three6("12")),
+    "fragments6_behind_options_of_the_last": raw(*three6("01"), *behind(ALERT, 0, "2")),
+    "fragments6_behind_options_of_each": raw(*behind(OTHER_ALERT, 0, "1"), *behind(ALERT, 0, "2"),
+                                             *behind(LONG_ALERT, 0, "0")),
+    "fragments6_repeated_behind_other_options": raw(*behind(ALERT, 0, "0"), *behind(OTHER_ALERT, 0, "0"),
+                                                    *three6("12")),
+    "fragments6_behind_two_headers_of_options": raw(*behind(header(0, "05020001 0100") + ALERT, 0)),
+    "fragments6_behind_options_behind_others": raw(*behind(header(0) + ALERT, 60)),
     "fragments6_of_destination_options": raw(*parts(((0, 8), (8, 32)), payload=OPTIONS, part=part6, following=60)),
     "fragments6_behind_destination_options": raw(*behind(header(44), 60)),
     "fragments6_on_a_route": raw(*behind(ROUTE, 43, payload=PING6)),
@@ -196,6 +207,9 @@ def outside(order, payload=INNER4, protocol=IP4, ident=1):
 IN_TUNNELS = {
     "fragments_in_a_tunnel": raw(*map(outer4, three("102"))),
     "fragments6_in_a_tunnel": raw(*(outer4(of, IP6) for of in three6("012"))),
+    "fragments6_behind_options_in_a_tunnel": raw(*(outer4(of, IP6) for of in behind(ALERT, 0, "102"))),
+    "fragments6_behind_options_of_a_tunnel": raw(*(ip6(LONG_ALERT + part6(INNER6, start, end, IP6)[40:], 0)
+                                                   for start, end in ((0, 16), (16, len(INNER6))))),
     "fragments_in_gre": raw(*(outer6(gre(of), GRE) for of in three("021"))),
     "fragments_of_a_tunnel": raw(*outside("012"), *outside("210", INNER6, IP6, 2)),
     "fragments_of_gre": raw(*outside("201", gre(INNER4, 0x0800, 0x2000, ECHO), GRE)),
@@ -256,7 +270,7 @@ ANSWER = udp(message(0x8180, [question(name("a."), 16)], [record(pointer(12), 16
 SHOWN = {
     "dns_in_fragments": raw(*parts(((0, 32), (32, len(ANSWER))), 4660, ANSWER, protocol=UDP, source=SERVER4,
                                    destination=HOST4)),
-    "icmp6_in_fragments": raw(*behind(header(44, "05020000 0100"), 0, "201")),
+    "icmp6_in_fragments": raw(*behind(ALERT, 0, "201")),
     "tunnel_in_fragments": raw(*parts(((0, 24), (24, 52)), 4660, gre(INNER4 + b"\0" * 4), protocol=GRE)),
 }
 

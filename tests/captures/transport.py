@@ -36,11 +36,11 @@ def segment_data(octets):
     return octets[length:] if 20 <= length <= len(octets) else None
 
 
-def dns_messages(octets):
-    """The messages that a segment of TCP is full of, from or to the port of DNS, each behind its length in two octets
-    (RFC 1035 section 4.2.2); none where its data are anything else."""
+def dns_messages(octets, given=None):
+    """The messages that a segment of TCP is full of, from or to the port of DNS or the one that is given to it, each
+    behind its length in two octets (RFC 1035 section 4.2.2); none where its data are anything else."""
     data, messages = segment_data(octets), []
-    if data is None or DOMAIN not in ports(octets):
+    if data is None or not {DOMAIN, given} & set(ports(octets)):
         return []
     while data:
         end = 2 + be(data[:2])

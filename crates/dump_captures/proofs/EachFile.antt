@@ -9,7 +9,7 @@ use Rattle.std.specs.Io.KnownBytes.{Keeps}
 use Rattle.packet_fields.specs.Output.{Gains, GainsSome}
 use Rattle.packet_fields.proofs.Printing.{gains_none, gains_both}
 use Rattle.dump_captures.specs.Files.{FilePrints, unopened, opened, FilesPrint, counts_before, names_of, several}
-use Rattle.dump_captures.specs.Files.{standard, title, end_text, RunPrints}
+use Rattle.dump_captures.specs.Files.{standard, title, told_name, end_text, RunPrints}
 use Rattle.dump_captures.specs.Tally.{TallyValue, empty}
 use Rattle.dump_captures.specs.declared.options.Options.{Options}
 use Rattle.dump_captures.proofs.Running.{known-input}
@@ -28,7 +28,8 @@ module _ (options : Options) (bytes : List ℕ → Option (List ℕ)) (several :
   pub so_far-more : (left : List (List ℕ)) (name : List ℕ) (old new : TallyValue) (status own : ℕ)
       (now titled later : Option (List ℕ)) → SoFar (name ∷ left) old status now
       → Gains now titled (title options several name)
-      → GainsSome titled later (λ text. FilePrints options (bytes name) (counts_before options old) text new own)
+      → GainsSome titled later (λ text.
+      FilePrints options (told_name several name) (bytes name) (counts_before options old) text new own)
       → SoFar left new (max status own) later
   so_far-more left name old new status own now titled later so_far heads shows =
       let head = title options several name in
@@ -66,7 +67,7 @@ no_title options name = elim options.prints as (λ prints. title (record options
 
 pub so_far-one : (options : Options) (bytes : List ℕ → Option (List ℕ)) (old new : TallyValue) (status own : ℕ)
     (before now : Option (List ℕ))
-    → GainsSome before now (λ text. FilePrints options (bytes standard) (counts_before options old) text new own)
+    → GainsSome before now (λ text. FilePrints options None (bytes standard) (counts_before options old) text new own)
     → GainsSome before now (λ text.
     FilesPrint options bytes false (standard ∷ []) old status text new (max status own))
 so_far-one options bytes old new status own before now prints = (
@@ -86,20 +87,20 @@ named view (file ∷ files) some = refl
 
 -- ---- a file whose bytes are known
 
-known-prints : (options : Options) (known bytes : Option (List ℕ)) (old new : TallyValue) (text : List ℕ) (status : ℕ)
-    → IfSome known (λ all. bytes ≡ Some all) → FilePrints options bytes old text new status
-    → FilePrints options known old text new status
-known-prints options known bytes old new text status gives (unopened none same is) = unopened none same is
-known-prints options known bytes old new text status gives (opened stop prints is) =
-    opened stop (known-input options known bytes old new text stop gives prints) is
+known-prints : (options : Options) (file known bytes : Option (List ℕ)) (old new : TallyValue) (text : List ℕ) (status : ℕ)
+    → IfSome known (λ all. bytes ≡ Some all) → FilePrints options file bytes old text new status
+    → FilePrints options file known old text new status
+known-prints options file known bytes old new text status gives (unopened none same is) = unopened none same is
+known-prints options file known bytes old new text status gives (opened stop prints is) =
+    opened stop (known-input options file known bytes old new text stop gives prints) is
 
-pub known-file : {E : Type 0} (options : Options) (bytes input : Option (List ℕ)) (old new : TallyValue)
+pub known-file : {E : Type 0} (options : Options) (file bytes input : Option (List ℕ)) (old new : TallyValue)
     (before now : Option (List ℕ)) (r : Result ℕ E) → IfSome bytes (λ all. input ≡ Some all)
-    → IfOk r (λ status. GainsSome before now (λ text. FilePrints options input old text new status))
-    → IfOk r (λ status. GainsSome before now (λ text. FilePrints options bytes old text new status))
-known-file options bytes input old new before now (Ok status) gives prints =
-    (prints.0, known-prints options bytes input old new prints.0 status gives prints.1, prints.2)
-known-file options bytes input old new before now (Err e) gives prints = tt
+    → IfOk r (λ status. GainsSome before now (λ text. FilePrints options file input old text new status))
+    → IfOk r (λ status. GainsSome before now (λ text. FilePrints options file bytes old text new status))
+known-file options file bytes input old new before now (Ok status) gives prints =
+    (prints.0, known-prints options file bytes input old new prints.0 status gives prints.1, prints.2)
+known-file options file bytes input old new before now (Err e) gives prints = tt
 
 -- ---- the whole run
 

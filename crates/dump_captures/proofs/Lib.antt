@@ -2,6 +2,7 @@ pub mod Countings
 pub mod EachFile
 pub mod Faults
 pub mod Headings
+pub mod LineWords
 pub mod MessageTexts
 pub mod Moments
 pub mod Names
@@ -13,5 +14,6 @@ pub mod Summaries
 pub mod Tallies
 pub mod Times
 pub mod TunnelEntries
+pub mod Unanswered
 pub mod Words
 pub mod Vlans

@@ -1,11 +1,13 @@
 -- Tunnels that are followed, one after another.
-use Rattle.std.proofs.Common.{◌≡◌, ◌<◌, ◌-◌, ◌+◌, ℕ, IfSome, List, None, Option, Some, refl, ◌∷◌, [], length, arith, subst, sym}
+use Rattle.std.proofs.Common.{◌≡◌, ◌<◌, ◌-◌, ◌+◌, ℕ, IfSome, List, None, Option, Some, refl, ◌∷◌, [], length, arith}
+use Rattle.std.proofs.Common.{subst, sym}
 use Rattle.std.proofs.lemmas.List.{length-append}
 use Rattle.frame_wire.specs.Captured.{CapturedValue}
 use Rattle.frame_wire.specs.declared.link.Network.{Network}
 use Rattle.frame_wire.specs.declared.link.Network.TheVariants as network
 use Rattle.dump_captures.specs.Path.{PathValue, through}
-use Rattle.dump_captures.specs.Place.{Follows, IsFollowed, IsLast, IsThere, LeadsTo, PlaceValue, StepValue, beyond, datagram, followed}
+use Rattle.dump_captures.specs.Place.{Follows, IsFollowed, IsLast, IsThere, LeadsTo, PlaceValue, StepValue, beyond}
+use Rattle.dump_captures.specs.Place.{datagram, followed}
 use Rattle.dump_captures.specs.Place.{most_tunnels, of_other, other, packet_in, step_of}
 use Rattle.dump_captures.specs.declared.path.Passage.{Passage}
 use Rattle.dump_captures.specs.declared.place.Place.{Place}

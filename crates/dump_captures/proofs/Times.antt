@@ -7,7 +7,7 @@ use Rattle.std.proofs.lemmas.Slice.{take-put_mid, drop-put_mid}
 use borrow.Rule.Slice.PartMut.{put_mid}
 use Rattle.capture.specs.Calendar.{date_of}
 use Rattle.wirebase.specs.Digits.{last_digits}
-use Rattle.dump_captures.specs.TimeText.{time_of_day_text, time_text, year_front}
+use Rattle.dump_captures.specs.TimeText.{milliseconds_text, time_of_day_text, time_text, year_front}
 use Rattle.dump_captures.specs.private.Parts.{kept_text}
 use Rattle.capture.proofs.Calendars.{year-least, year-most}
 use Rattle.capture.specs.TimeText.{clock_text, month_and_day_text}
@@ -70,6 +70,17 @@ time-ascii seconds nanoseconds =
     IsAscii-append (codes "T" ++ clock ++ codes "." ++ digits) (codes "Z")
     (IsAscii-append (codes "T" ++ clock ++ codes ".") digits point (last_digits-ascii 9 nanoseconds))
     (tested-ascii (codes "Z") refl)
+
+pub milliseconds_ascii : (seconds nanoseconds : ℕ) (text : List ℕ) → text ≡ milliseconds_text seconds nanoseconds
+    → IsAscii text
+unfolding milliseconds_text
+milliseconds_ascii seconds nanoseconds text is =
+    let clock = clock_text seconds in
+    let digits = last_digits 3 (nanoseconds / 1000000) in
+    let front = clock-ascii (seconds / 3600 % 24) (seconds / 60 % 60) (seconds % 60) in
+    rw is
+    (IsAscii-append (clock ++ codes ".") digits (IsAscii-append clock (codes ".") front (tested-ascii (codes ".") refl))
+    (last_digits-ascii 3 (nanoseconds / 1000000)))
 
 pub octets_ascii : (date : Date) (seconds nanoseconds : ℕ) (text : List ℕ)
     → text ≡ kept_text date ++ time_of_day_text seconds nanoseconds → IsAscii text

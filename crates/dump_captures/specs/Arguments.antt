@@ -8,6 +8,7 @@ use Rattle.packet_fields.specs.declared.form.Form.TheVariants.{Json, Lines}
 use Rattle.dump_captures.specs.Kinds.{kinds, kind_place, kind_text}
 use Rattle.dump_captures.specs.Nearest.{nearest}
 use Rattle.dump_captures.specs.Numbers.{changed_at}
+use Rattle.dump_captures.specs.Ports.{no_ports, with_ports}
 use Rattle.dump_captures.specs.Settings.{count_in, option_in, setting_of, time_form_in, value_in}
 use Rattle.dump_captures.specs.declared.arguments.Wrong.{Wrong}
 use Rattle.dump_captures.specs.declared.arguments.Wrong.TheVariants as wrong
@@ -16,7 +17,7 @@ use Rattle.dump_captures.specs.declared.kind.Kind.TheVariants.{Icmp4, Icmp6}
 use Rattle.dump_captures.specs.declared.options.Only.{Only}
 use Rattle.dump_captures.specs.declared.options.Options.{Options}
 use Rattle.dump_captures.specs.declared.options.TimeForm.{TimeForm}
-use Rattle.dump_captures.specs.declared.options.TimeForm.TheVariants.{Utc}
+use Rattle.dump_captures.specs.declared.ports.Ports.{Ports}
 use Rattle.dump_captures.specs.declared.settings.Setting.{Setting}
 use Rattle.dump_captures.specs.declared.settings.Setting.TheVariants as setting
 
@@ -112,8 +113,12 @@ nothing_read = record {
     most = None;
     prints = true;
     form = Lines;
-    time_form = Utc;
+    is_brief = false;
+    is_verbose = false;
+    time_form = None;
     is_strict = false;
+    pairs = false;
+    ports = no_ports;
   };
   host = None;
   name = None;
@@ -136,7 +141,14 @@ is_option word = nat_lt 1 (length word) && (get_or word 0 0 == 45)
 abbrev pub with_flag : List ℕ → ReadingValue → Option Reads
 with_flag word r =
     if bytes_eq word (codes "--count") then Some (more (record r { options = record r.options { prints = false } }))
-    else if bytes_eq word (codes "--json") then Some (more (record r { options = record r.options { form = Json } }))
+    else if bytes_eq word (codes "--json")
+    then Some (more (record r { options = record r.options { form = Json; is_brief = false } }))
+    else if bytes_eq word (codes "--brief") || bytes_eq word (codes "-1")
+    then Some (more (record r { options = record r.options { form = Lines; is_brief = true } }))
+    else if bytes_eq word (codes "--verbose") || bytes_eq word (codes "-v")
+    then Some (more (record r { options = record r.options { is_verbose = true } }))
+    else if bytes_eq word (codes "--pairs")
+    then Some (more (record r { options = record r.options { pairs = true } }))
     else if bytes_eq word (codes "--strict")
     then Some (more (record r { options = record r.options { is_strict = true } }))
     else if bytes_eq word (codes "--") then Some (more (record r { wants_files = true }))
@@ -145,13 +157,14 @@ with_flag word r =
     else if bytes_eq word (codes "--version") || bytes_eq word (codes "-V") then Some (ends version)
     else None
 
--- ---- options with a value, of which the last one counts
+-- ---- options with a value, of which the last one counts; of ports the last one of each kind
 
 -- the known words, for one that is not known
 abbrev pub option_words : List (List ℕ)
 option_words =
-    codes "--only" ∷ codes "--host" ∷ codes "--name" ∷ codes "--time" ∷ codes "--count" ∷ codes "--json"
-    ∷ codes "--strict" ∷ codes "--help" ∷ codes "--version" ∷ []
+    codes "--only" ∷ codes "--host" ∷ codes "--name" ∷ codes "--time" ∷ codes "--port" ∷ codes "--count"
+    ∷ codes "--json" ∷ codes "--brief" ∷ codes "--pairs" ∷ codes "--verbose" ∷ codes "--strict"
+    ∷ codes "--help" ∷ codes "--version" ∷ []
 
 abbrev pub kind_words : List (List ℕ)
 kind_words = map kind_text kinds ++ codes "icmp" ∷ codes "hbh" ∷ []
@@ -166,7 +179,11 @@ with_most (Some count) text r = more (record r { options = record r.options { mo
 
 abbrev pub with_time_form : Option TimeForm → List ℕ → ReadingValue → Reads
 with_time_form None text r = ends (unknown (bad_value setting.Time text))
-with_time_form (Some form) text r = more (record r { options = record r.options { time_form = form } })
+with_time_form (Some form) text r = more (record r { options = record r.options { time_form = Some form } })
+
+abbrev pub with_given : Option Ports → List ℕ → ReadingValue → Reads
+with_given None text r = ends (unknown (bad_value setting.Port text))
+with_given (Some ports) text r = more (record r { options = record r.options { ports = ports } })
 
 abbrev pub with_value : Setting → List ℕ → ReadingValue → Reads
 with_value setting.Only text r = with_only (only_of text) r
@@ -174,6 +191,7 @@ with_value setting.Most text r = with_most (count_in text) text r
 with_value setting.Host text r = more (record r { host = Some text })
 with_value setting.Name text r = more (record r { name = Some text })
 with_value setting.Time text r = with_time_form (time_form_in text) text r
+with_value setting.Port text r = with_given (with_ports r.options.ports text) text r
 
 -- the value is in the same word, or is the next argument
 abbrev pub with_setting : Option Setting → Option (List ℕ) → List ℕ → ReadingValue → Reads

@@ -9,12 +9,16 @@ use Rattle.packet_fields.specs.Fields.{Item, ItemsFit, items_text, number}
 use Rattle.packet_fields.specs.Json.{object_text}
 use Rattle.packet_fields.specs.declared.form.Form.{Form}
 use Rattle.packet_fields.specs.declared.form.Form.TheVariants.{Json, Lines}
+use Rattle.packet_pairs.specs.Pairs.{State as Questions}
+use Rattle.packet_pairs.specs.declared.pairs.Answered.{Answered}
 use Rattle.reassembly.specs.Answer.{AnswerValue, incomplete}
 use Rattle.reassembly.specs.Answer as answers
 use Rattle.reassembly.specs.Fragment.{FragmentValue}
 use Rattle.reassembly.specs.Partial.{PartialValue, WholeValue}
 use Rattle.reassembly.specs.Reassembly.{Adds}
 use Rattle.reassembly.specs.declared.answer.Refusal.{Refusal as FragmentRefusal}
+use Rattle.dump_captures.specs.Arrival.{ArrivalValue, arrival}
+use Rattle.dump_captures.specs.Brief.{BriefPrints}
 use Rattle.dump_captures.specs.Content.{kind_in}
 use Rattle.dump_captures.specs.Fragments.{IsJoinedSight, joined_path, refused_fragment}
 use Rattle.dump_captures.specs.Heading.{head_items, heading}
@@ -22,9 +26,11 @@ use Rattle.dump_captures.specs.Host.{has_host}
 use Rattle.dump_captures.specs.Kinds.{kind_place}
 use Rattle.dump_captures.specs.Messages.{ListingIs}
 use Rattle.dump_captures.specs.Owners.{HasName}
+use Rattle.dump_captures.specs.Pairing.{EndPrints, IsAnswer, answer_items, no_question}
 use Rattle.dump_captures.specs.Path.{PathValue}
 use Rattle.dump_captures.specs.Progress.{ProgressValue, after, begin, is_enough, time_in}
-use Rattle.dump_captures.specs.Sight.{HeadersValue, SightValue, StreamValue, unread, other, control, stream, fragment, seen}
+use Rattle.dump_captures.specs.Sight.{HeadersValue, SightValue, StreamValue, unread, other, control, stream, fragment}
+use Rattle.dump_captures.specs.Sight.{seen}
 use Rattle.dump_captures.specs.Sight.{IsSight, protocol_category, stream_headers}
 use Rattle.dump_captures.specs.Tally.{TallyValue, alone, counted}
 use Rattle.dump_captures.specs.declared.counts.Category.{Category}
@@ -59,33 +65,46 @@ abbrev pub outcome_of : Kind → Option Reason → Outcome
 outcome_of kind None = Listed kind
 outcome_of kind (Some reason) = Refused kind reason
 
--- The text of a packet that holds these items, with the text of its time: in lines a heading, and a line for each; in
--- JSON an object on a line.
-abbrev pub packet_text : Form → ℕ → Option (List ℕ) → PacketValue → HeadersValue → List Item → List ℕ
-packet_text Lines n time p h items = heading n time h ++ items_text Lines items
-packet_text Json n time p h items =
-    object_text (codes "number") (number n) (head_items time p h ++ items) ++ codes "\n"
+-- The text of a packet that holds these items: in lines a heading, and a line for each; in JSON an object on a line.
+abbrev pub packet_text : Form → Bool → ArrivalValue → HeadersValue → List Item → List ℕ
+packet_text Lines is_verbose a h items = heading is_verbose a h ++ items_text Lines items
+packet_text Json is_verbose a h items = object_text (codes "number") (number a.number) (head_items a h ++ items) ++ codes "\n"
 
--- What a control packet prints, and why it is refused or read in part. In JSON its numbers have at most 64 bits, so
--- that by `ReadsAsJson` the line is a text of JSON that reads as the object.
-abbrev pub ControlPrints : Options → ℕ → Option (List ℕ) → PacketValue → HeadersValue → Option Reason → List ℕ
-    → Type 0
-ControlPrints options n time p h why text =
-    (items : List Item) × ListingIs options h items why
-    × (options.form ≡ Json → (n < 2 ^ 64) × ItemsFit (head_items time p h ++ items))
-    × (text ≡ packet_text options.form n time p h items)
+-- What a control packet prints at length, with what it answers, and why it is refused or read in part. In JSON its
+-- numbers have at most 64 bits, so that by `ReadsAsJson` the line is a text of JSON that reads as the object.
+pub record LengthyPrints (options : Options) (a : ArrivalValue) (h : HeadersValue) (why : Option Reason)
+    (answer : Option Answered) (text : List ℕ) : Type 0 where
+  pub items : List Item
+  pub is : ListingIs options h items why
+  pub fits : options.form ≡ Json
+      → (a.number < 2 ^ 64) × ItemsFit (head_items a h ++ (items ++ answer_items Json answer))
+  pub text_is : text ≡ packet_text options.form options.is_verbose a h (items ++ answer_items options.form answer)
 
--- What a control packet prints, with the text of its time, and what becomes of it: one that is chosen its heading and
--- its listing, unless packets are only counted; the others nothing.
-pub data HeadersPrint (options : Options) (n : ℕ) (time : Option (List ℕ)) (p : PacketValue) (h : HeadersValue)
-    (text : List ℕ) (outcome : Outcome) : Type 0 where
-  printed : (why : Option Reason) → Chooses options h true → options.prints ≡ true
-      → ControlPrints options n time p h why text → outcome ≡ outcome_of (kind_in h.content) why
-      → HeadersPrint options n time p h text outcome
+-- whether a packet is printed on a line that is no JSON
+abbrev pub in_brief : Form → Bool → Bool
+in_brief Lines is_brief = is_brief
+in_brief Json is_brief = false
+
+-- what a control packet prints
+abbrev pub PrintsBy : Bool → Options → ArrivalValue → HeadersValue → Option Reason → Option Answered → List ℕ → Type 0
+PrintsBy true options a h why answer text = BriefPrints options a h why answer text
+PrintsBy false options a h why answer text = LengthyPrints options a h why answer text
+
+abbrev pub ControlPrints : Options → ArrivalValue → HeadersValue → Option Reason → Option Answered → List ℕ → Type 0
+ControlPrints options = PrintsBy (in_brief options.form options.is_brief) options
+
+-- What a control packet prints, and what becomes of it: one that is chosen its heading and its listing, unless packets
+-- are only counted; the others nothing. Before it and behind it these questions wait for an answer.
+pub data HeadersPrint (options : Options) (a : ArrivalValue) (h : HeadersValue) (old : Questions) (text : List ℕ)
+    (outcome : Outcome) (new : Questions) : Type 0 where
+  printed : (why : Option Reason) (answer : Option Answered) → Chooses options h true → options.prints ≡ true
+      → ControlPrints options a h why answer text → IsAnswer options a h why old answer new
+      → outcome ≡ outcome_of (kind_in h.content) why → HeadersPrint options a h old text outcome new
   counted_alone : (items : List Item) (why : Option Reason) → Chooses options h true → options.prints ≡ false
-      → ListingIs options h items why → text ≡ [] → outcome ≡ outcome_of (kind_in h.content) why
-      → HeadersPrint options n time p h text outcome
-  passed : Chooses options h false → text ≡ [] → outcome ≡ Passed → HeadersPrint options n time p h text outcome
+      → ListingIs options h items why → text ≡ [] → outcome ≡ outcome_of (kind_in h.content) why → new ≡ old
+      → HeadersPrint options a h old text outcome new
+  passed : Chooses options h false → text ≡ [] → outcome ≡ Passed → new ≡ old
+      → HeadersPrint options a h old text outcome new
 
 -- What becomes of a packet with several messages, after these and one more: the first that is refused or read in part
 -- counts, or else one that is listed.
@@ -95,65 +114,71 @@ joined_outcome (Listed kind) (Refused k reason) = Refused k reason
 joined_outcome so_far next = so_far
 
 -- what the messages in a segment print, one after another
-abbrev pub EachPrints : Options → ℕ → Option (List ℕ) → PacketValue → StreamValue → Outcome → List (List ℕ) → List ℕ
-    → Outcome → Type 0
-EachPrints options n time p s so_far [] text outcome = (text ≡ []) × (outcome ≡ so_far)
-EachPrints options n time p s so_far (message ∷ messages) text outcome =
-    (first : List ℕ) × (more : List ℕ) × (own : Outcome)
-    × HeadersPrint options n time p (stream_headers s message) first own
-    × EachPrints options n time p s (joined_outcome so_far own) messages more outcome
+abbrev pub EachPrints : Options → ArrivalValue → StreamValue → Outcome → Questions → List (List ℕ) → List ℕ → Outcome
+    → Questions → Type 0
+EachPrints options a s so_far old [] text outcome new = (text ≡ []) × (outcome ≡ so_far) × (new ≡ old)
+EachPrints options a s so_far old (message ∷ messages) text outcome new =
+    (first : List ℕ) × (more : List ℕ) × (own : Outcome) × (middle : Questions)
+    × HeadersPrint options a (stream_headers s message) old first own middle
+    × EachPrints options a s (joined_outcome so_far own) middle messages more outcome new
     × (text ≡ first ++ more)
 
--- What a packet of a number prints, by what its headers tell, and what becomes of it.
-pub data SightPrints (options : Options) (n : ℕ) (time : Option (List ℕ)) (p : PacketValue) (s : SightValue)
-    (text : List ℕ) (outcome : Outcome) : Type 0 where
-  of_unread : s ≡ unread → text ≡ [] → outcome ≡ Unread → SightPrints options n time p s text outcome
-  of_other : (c : Category) → s ≡ other c → text ≡ [] → outcome ≡ Other c → SightPrints options n time p s text outcome
-  of_control : (h : HeadersValue) → s ≡ control h → HeadersPrint options n time p h text outcome
-      → SightPrints options n time p s text outcome
-  of_stream : (t : StreamValue) → s ≡ stream t → EachPrints options n time p t Passed t.messages text outcome
-      → SightPrints options n time p s text outcome
+-- What a packet prints, by what its headers tell, and what becomes of it.
+pub data SightPrints (options : Options) (a : ArrivalValue) (s : SightValue) (old : Questions) (text : List ℕ)
+    (outcome : Outcome) (new : Questions) : Type 0 where
+  of_unread : s ≡ unread → text ≡ [] → outcome ≡ Unread → new ≡ old → SightPrints options a s old text outcome new
+  of_other : (c : Category) → s ≡ other c → text ≡ [] → outcome ≡ Other c → new ≡ old
+      → SightPrints options a s old text outcome new
+  of_control : (h : HeadersValue) → s ≡ control h → HeadersPrint options a h old text outcome new
+      → SightPrints options a s old text outcome new
+  of_stream : (t : StreamValue) → s ≡ stream t → EachPrints options a t Passed old t.messages text outcome new
+      → SightPrints options a s old text outcome new
 
 -- What a datagram prints that was put together, and how many packets before this one its fragments came in.
-pub record WholePrints (options : Options) (n : ℕ) (time : Option (List ℕ)) (p : PacketValue) (path : PathValue) (w :
-    WholeValue)
-    (text : List ℕ) (counted : Counted) : Type 0 where
+pub record WholePrints (options : Options) (a : ArrivalValue) (path : PathValue) (w : WholeValue) (old : Questions)
+    (text : List ℕ) (counted : Counted) (new : Questions) : Type 0 where
   pub sight : SightValue
   pub outcome : Outcome
-  pub is_sight : IsJoinedSight p (joined_path path w) w sight
-  pub prints : SightPrints options n time p sight text outcome
+  pub is_sight : IsJoinedSight options.ports a.packet (joined_path path w) w sight
+  pub prints : SightPrints options a sight old text outcome new
   pub counts : counted ≡ record { outcome = outcome; joined = length w.numbers - 1 }
 
 -- What a fragment prints, by what became of it: nothing where its datagram lacks others, and the whole datagram where
 -- it is the last to come.
-pub data FragmentPrints (options : Options) (n : ℕ) (time : Option (List ℕ)) (p : PacketValue) (path : PathValue) (f :
-    FragmentValue)
-    (answer : AnswerValue) (text : List ℕ) (counted : Counted) : Type 0 where
+pub data FragmentPrints (options : Options) (a : ArrivalValue) (path : PathValue) (f : FragmentValue)
+    (answer : AnswerValue) (old : Questions) (text : List ℕ) (counted : Counted) (new : Questions) : Type 0 where
   kept : (dropped : Option PartialValue) → answer ≡ incomplete dropped → text ≡ []
-      → counted ≡ alone (Kept (protocol_category f.protocol))
-      → FragmentPrints options n time p path f answer text counted
+      → counted ≡ alone (Kept (protocol_category f.protocol)) → new ≡ old
+      → FragmentPrints options a path f answer old text counted new
   refused : (r : FragmentRefusal) (outcome : Outcome) → answer ≡ answers.refused r
-      → SightPrints options n time p (refused_fragment path f (refusal.Fragment r)) text outcome
-      → counted ≡ alone outcome → FragmentPrints options n time p path f answer text counted
-  put_together : (w : WholeValue) → answer ≡ answers.whole w → WholePrints options n time p path w text counted
-      → FragmentPrints options n time p path f answer text counted
+      → SightPrints options a (refused_fragment options.ports path f (refusal.Fragment r)) old text outcome new
+      → counted ≡ alone outcome → FragmentPrints options a path f answer old text counted new
+  put_together : (w : WholeValue) → answer ≡ answers.whole w → WholePrints options a path w old text counted new
+      → FragmentPrints options a path f answer old text counted new
 
--- What a fragment prints that is put to those that are kept; they are then those in `new`.
-pub record FragmentAdds (options : Options) (n : ℕ) (time : Option (List ℕ)) (p : PacketValue) (path : PathValue) (f :
-    FragmentValue)
-    (old : List PartialValue) (text : List ℕ) (counted : Counted) (new : List PartialValue) : Type 0 where
+-- What is kept from packet to packet: fragments, and questions that wait for an answer.
+pub record KeptValue : Type 0 where
+  pub fragments : List PartialValue
+  pub questions : Questions
+
+abbrev pub nothing_kept : KeptValue
+nothing_kept = record { fragments = []; questions = no_question }
+
+-- What a fragment prints that is put to those that are kept.
+pub record FragmentAdds (options : Options) (a : ArrivalValue) (path : PathValue) (f : FragmentValue) (old : KeptValue)
+    (text : List ℕ) (counted : Counted) (new : KeptValue) : Type 0 where
   pub answer : AnswerValue
-  pub adds : Adds old n f answer new
-  pub prints : FragmentPrints options n time p path f answer text counted
+  pub adds : Adds old.fragments a.number f answer new.fragments
+  pub prints : FragmentPrints options a path f answer old.questions text counted new.questions
 
--- What a packet prints after others, of which these fragments are kept.
-pub data PacketPrints (options : Options) (n : ℕ) (time : Option (List ℕ)) (p : PacketValue) (old : List PartialValue)
-    (text : List ℕ)
-    (counted : Counted) (new : List PartialValue) : Type 0 where
-  at_once : (s : SightValue) (outcome : Outcome) → IsSight p (seen s) → SightPrints options n time p s text outcome
-      → counted ≡ alone outcome → new ≡ old → PacketPrints options n time p old text counted new
-  by_fragment : (path : PathValue) (f : FragmentValue) → IsSight p (fragment path f)
-      → FragmentAdds options n time p path f old text counted new → PacketPrints options n time p old text counted new
+-- What a packet prints after others, of which this is kept.
+pub data PacketPrints (options : Options) (a : ArrivalValue) (old : KeptValue) (text : List ℕ) (counted : Counted)
+    (new : KeptValue) : Type 0 where
+  at_once : (s : SightValue) (outcome : Outcome) → IsSight options.ports a.packet (seen s)
+      → SightPrints options a s old.questions text outcome new.questions → counted ≡ alone outcome
+      → new.fragments ≡ old.fragments → PacketPrints options a old text counted new
+  by_fragment : (path : PathValue) (f : FragmentValue) → IsSight options.ports a.packet (fragment path f)
+      → FragmentAdds options a path f old text counted new → PacketPrints options a old text counted new
 
 -- ---- a capture
 
@@ -161,16 +186,17 @@ pub data PacketPrints (options : Options) (n : ℕ) (time : Option (List ℕ)) (
 abbrev pub next_number : ℕ → ℕ
 next_number n = min (n + 1) (2 ^ 64 - 1)
 
--- What the packets after n others print, one after another, of which these fragments are kept, as long as packets are
--- left to be printed; each is counted.
-abbrev pub PacketsPrint : Options → ℕ → ProgressValue → List PartialValue → TallyValue → List PacketValue → List ℕ
-    → TallyValue → ProgressValue → Type 0
-PacketsPrint options n b held old [] text new last = (text ≡ []) × (new ≡ old) × (last ≡ b)
-PacketsPrint options n b held old (p ∷ packets) text new last =
-    (first : List ℕ) × (more : List ℕ) × (count : Counted) × (left : List PartialValue) × (is_enough b ≡ false)
-    × PacketPrints options (next_number n) (time_in b p.time) p held first count left
-    × PacketsPrint options (next_number n) (after count.outcome p.time b) left
-    (counted count p.link_type (length p.octets) old) packets more new last
+-- What the packets after n others print, one after another, of which this is kept, as long as packets are left to be
+-- printed; each is counted. Behind the last one these questions wait.
+abbrev pub PacketsPrint : Options → Option (List ℕ) → ℕ → ProgressValue → KeptValue → TallyValue → List PacketValue → List ℕ
+    → TallyValue → ProgressValue → Questions → Type 0
+PacketsPrint options file n b held old [] text new last waiting =
+    (text ≡ []) × (new ≡ old) × (last ≡ b) × (waiting ≡ held.questions)
+PacketsPrint options file n b held old (p ∷ packets) text new last waiting =
+    (first : List ℕ) × (more : List ℕ) × (count : Counted) × (left : KeptValue) × (is_enough b ≡ false)
+    × PacketPrints options (arrival file (next_number n) (time_in b p.time) p) held first count left
+    × PacketsPrint options file (next_number n) (after count.outcome p.time b) left
+    (counted count p.link_type (length p.octets) old) packets more new last waiting
     × (text ≡ first ++ more)
 
 -- These packets come first in a capture of these bytes: whatever it holds behind them, in the bytes that are left.
@@ -192,15 +218,26 @@ StopsBy (Ended ending) last = is_enough last ≡ false
 StopsBy Enough last = is_enough last ≡ true
 StopsBy NotRead last = ⊤
 
--- What an input prints, whose bytes may be known: packets, from the first on, up to the one after which no more are to
--- be printed; before the first no fragment is kept. Their counts are added to those before.
-pub record InputPrints (options : Options) (bytes : Option (List ℕ)) (old : TallyValue) (text : List ℕ)
-    (new : TallyValue) (stop : Stop) : Type 0 where
+-- What the packets of an input print, whose bytes may be known: those from the first on, up to the one after which no
+-- more are to be printed; before the first nothing is kept, and behind the last one these questions wait. Their counts
+-- are added to those before.
+pub record ReadPrints (options : Options) (file : Option (List ℕ)) (bytes : Option (List ℕ)) (old : TallyValue) (text : List ℕ)
+    (new : TallyValue) (waiting : Questions) (stop : Stop) : Type 0 where
   pub packets : List PacketValue
   pub last : ProgressValue
   pub reads : IfSome bytes (λ all. AreRead all packets stop)
-  pub prints : PacketsPrint options 0 (begin options) [] old packets text new last
+  pub prints : PacketsPrint options file 0 (begin options) nothing_kept old packets text new last waiting
   pub stops : StopsBy stop last
+
+-- What an input prints, with the name of its file where it is to be told: its packets, and then what got no answer.
+pub record InputPrints (options : Options) (file : Option (List ℕ)) (bytes : Option (List ℕ)) (old : TallyValue)
+    (text : List ℕ) (new : TallyValue) (stop : Stop) : Type 0 where
+  pub packets_text : List ℕ
+  pub waiting : Questions
+  pub packets : ReadPrints options file bytes old packets_text new waiting stop
+  pub end_text : List ℕ
+  pub ends : EndPrints options file waiting end_text
+  pub text_is : text ≡ packets_text ++ end_text
 
 -- how the reading stops: by what ends the capture, or by the number of packets
 abbrev pub stop_of : Option Ending → Stop
@@ -209,4 +246,4 @@ stop_of (Some ending) = Ended ending
 
 -- What a capture of these bytes prints, which ends so where no number of packets ends its reading before.
 abbrev pub CapturePrints : Options → List ℕ → TallyValue → List ℕ → TallyValue → Option Ending → Type 0
-CapturePrints options bytes old text new ending = InputPrints options (Some bytes) old text new (stop_of ending)
+CapturePrints options bytes old text new ending = InputPrints options None (Some bytes) old text new (stop_of ending)

@@ -1,6 +1,6 @@
 -- What the files of a run print, one after another, and the status at the end.
 use Rattle.std.specs.Prelude.{◌≡◌, ℕ, max, nat_lt, ◌&&◌, Bool, if◌then◌else◌, List, [], ◌∷◌, ◌++◌, length, codes}
-use Rattle.std.specs.Prelude.{bytes_eq, false, true, Option}
+use Rattle.std.specs.Prelude.{bytes_eq, false, true, None, Option, Some}
 use Rattle.capture.specs.declared.ending.Ending.{Ending}
 use Rattle.capture.specs.declared.ending.Ending.TheVariants.{Whole, Version, NotACapture}
 use Rattle.packet_fields.specs.declared.form.Form.{Form}
@@ -38,11 +38,11 @@ abbrev pub bytes_of_name : Option (List ℕ) → (List ℕ → Option (List ℕ)
 bytes_of_name input file name = if bytes_eq name standard then input else file name
 
 -- What a file prints whose bytes may be known, and its status: one that can't be opened prints nothing.
-pub data FilePrints (options : Options) (bytes : Option (List ℕ)) (old : TallyValue) (text : List ℕ)
+pub data FilePrints (options : Options) (file : Option (List ℕ)) (bytes : Option (List ℕ)) (old : TallyValue) (text : List ℕ)
     (new : TallyValue) (status : ℕ) : Type 0 where
-  unopened : text ≡ [] → new ≡ old → status ≡ 2 → FilePrints options bytes old text new status
-  opened : (stop : Stop) → InputPrints options bytes old text new stop → status ≡ stop_status stop
-      → FilePrints options bytes old text new status
+  unopened : text ≡ [] → new ≡ old → status ≡ 2 → FilePrints options file bytes old text new status
+  opened : (stop : Stop) → InputPrints options file bytes old text new stop → status ≡ stop_status stop
+      → FilePrints options file bytes old text new status
 
 -- ---- the files
 
@@ -55,6 +55,10 @@ abbrev pub title : Options → Bool → List ℕ → List ℕ
 title options several name =
     if options.prints && several && in_lines options.form then name ++ codes ":\n" else []
 
+-- the name that is told with each packet, where there are several files; in lines it is above them
+abbrev pub told_name : Bool → List ℕ → Option (List ℕ)
+told_name several name = if several then Some name else None
+
 -- the counts before a file: those of the files before it, unless it is counted by itself
 abbrev pub counts_before : Options → TallyValue → TallyValue
 counts_before options so_far = if options.prints then empty else so_far
@@ -65,7 +69,7 @@ abbrev pub FilesPrint : Options → (List ℕ → Option (List ℕ)) → Bool �
 FilesPrint options bytes several [] old status text new highest = (text ≡ []) × (new ≡ old) × (highest ≡ status)
 FilesPrint options bytes several (name ∷ names) old status text new highest =
     (first : List ℕ) × (more : List ℕ) × (middle : TallyValue) × (own : ℕ)
-    × FilePrints options (bytes name) (counts_before options old) first middle own
+    × FilePrints options (told_name several name) (bytes name) (counts_before options old) first middle own
     × FilesPrint options bytes several names middle (max status own) more new highest
     × (text ≡ title options several name ++ first ++ more)
 

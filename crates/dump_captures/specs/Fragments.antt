@@ -11,6 +11,7 @@ use Rattle.dump_captures.specs.Path.{PathValue}
 use Rattle.dump_captures.specs.Place.{IsFollowed, LeadsTo, Stays, StepValue}
 use Rattle.dump_captures.specs.Sight.{FindingValue, SightValue, IsEndSight, IsWhole, counted_as, fragment, seen, told}
 use Rattle.dump_captures.specs.declared.kind.Reason.TheVariants as reason
+use Rattle.dump_captures.specs.declared.ports.Ports.{Ports}
 use Rattle.dump_captures.specs.declared.refusal.Refusal.{Refusal}
 use Rattle.dump_captures.specs.declared.refusal.Refusal.TheVariants as refusal
 
@@ -19,13 +20,13 @@ abbrev pub first_ports : FragmentValue → Option (ℕ × ℕ)
 first_ports f = if f.frag_offset == 0 then ports_in f.protocol f.payload else None
 
 -- a fragment that is refused: what its headers tell
-abbrev pub refused_fragment : PathValue → FragmentValue → Refusal → SightValue
-refused_fragment path f r = told path f.addresses f.protocol (first_ports f) reason.Fragment r
+abbrev pub refused_fragment : Ports → PathValue → FragmentValue → Refusal → SightValue
+refused_fragment given path f r = told given path f.addresses f.protocol (first_ports f) reason.Fragment r
 
 -- in a datagram that was put together no fragment is put together with others
-abbrev pub unless_fragment : FindingValue → SightValue
-unless_fragment (seen s) = s
-unless_fragment (fragment path f) = refused_fragment path f refusal.Nested
+abbrev pub unless_fragment : Ports → FindingValue → SightValue
+unless_fragment given (seen s) = s
+unless_fragment given (fragment path f) = refused_fragment given path f refusal.Nested
 
 -- the way to a datagram that was put together
 abbrev pub joined_path : PathValue → WholeValue → PathValue
@@ -33,15 +34,21 @@ joined_path path w = record path { frames = w.numbers }
 
 -- What a datagram that was put together tells: as one that came whole, with the tunnels in it; but the checksums of its
 -- fragments' IPv4 headers are not looked at.
-pub data IsWithin (p : PacketValue) (path : PathValue) (d : DatagramValue) (s : SightValue) : Type 0 where
-  stays : Stays path d → IsWhole path false d s → IsWithin p path d s
-  follows : (t e : StepValue) (inner : FindingValue) → IsFollowed path d t → LeadsTo t e → IsEndSight p e inner
-      → s ≡ unless_fragment inner → IsWithin p path d s
+pub data IsWithin (given : Ports) (p : PacketValue) (path : PathValue) (d : DatagramValue) (s : SightValue)
+    : Type 0 where
+  stays : Stays path d → IsWhole given path false d s → IsWithin given p path d s
+  follows : (t e : StepValue) (inner : FindingValue) → IsFollowed path d t → LeadsTo t e → IsEndSight given p e inner
+      → s ≡ unless_fragment given inner → IsWithin given p path d s
+
+-- with the hop-by-hop options before its fragment at offset 0
+abbrev pub with_options : DatagramValue → WholeValue → DatagramValue
+with_options d w = record d { hop_by_hop = w.hop_by_hop }
 
 -- The extension headers that its payload begins with may be torn.
-pub data IsJoinedSight (p : PacketValue) (path : PathValue) (w : WholeValue) (s : SightValue) : Type 0 where
-  joined : (d : DatagramValue) → IsJoined w.addresses w.protocol w.payload d → IsWithin p path d s
-      → IsJoinedSight p path w s
+pub data IsJoinedSight (given : Ports) (p : PacketValue) (path : PathValue) (w : WholeValue) (s : SightValue)
+    : Type 0 where
+  joined : (d : DatagramValue) → IsJoined w.addresses w.protocol w.payload d → IsWithin given p path (with_options d w) s
+      → IsJoinedSight given p path w s
   torn : (r : DatagramRefusal) → RefusesJoined w.addresses w.protocol w.payload r
-      → s ≡ told path w.addresses w.protocol None (counted_as p (refusal.Datagram r)) (refusal.Datagram r)
-      → IsJoinedSight p path w s
+      → s ≡ told given path w.addresses w.protocol None (counted_as p (refusal.Datagram r)) (refusal.Datagram r)
+      → IsJoinedSight given p path w s

@@ -1,11 +1,12 @@
 -- The heading of a control packet, and what is in its place in JSON.
 use Rattle.std.specs.Prelude.{ℕ, List, [], ◌∷◌, ◌++◌, Option, None, Some, codes, decimal, flat_map, length, unwrap_or}
-use Rattle.std.specs.Prelude.{Bool, false, if◌then◌else◌, map, true}
+use Rattle.std.specs.Prelude.{◌==◌, Bool, drop, false, if◌then◌else◌, map, nat_lt, take, true}
 use Rattle.std.specs.Option.{option_map}
 use Rattle.capture.specs.Packet.{PacketValue}
 use Rattle.frame_wire.specs.Link.{vlan_in}
 use Rattle.frame_wire.specs.declared.datagram.Addresses.{Addresses}
 use Rattle.frame_wire.specs.declared.datagram.Addresses.TheVariants.{V4, V6}
+use Rattle.wirebase.specs.Hexadecimal.{hex_colons}
 use Rattle.wirebase.specs.EndpointText.{v4_text, v6_text}
 use Rattle.frame_wire.specs.Names.{link_names, name_in}
 use Rattle.wirebase.specs.Ipv4 as ipv4
@@ -13,10 +14,12 @@ use Rattle.wirebase.specs.Ipv6Address as ipv6
 use Rattle.frame_wire.specs.declared.tunnel.Tunnel.{Tunnel}
 use Rattle.frame_wire.specs.declared.tunnel.Tunnel.TheVariants as tunnel
 use Rattle.packet_fields.specs.Entries.{keyed_value}
-use Rattle.packet_fields.specs.Fields.{Entry, Item, Leaf, entries, field, leaf_or_missing, leaf_text, missing, named, number}
+use Rattle.packet_fields.specs.Fields.{Entry, Item, Leaf, entries, field, leaf_or_missing, leaf_text, missing, named}
+use Rattle.packet_fields.specs.Fields.{number}
 use Rattle.packet_fields.specs.Fields.{numbers, text}
 use Rattle.packet_fields.specs.declared.form.Form.TheVariants.{Lines}
 use Rattle.message_fields.specs.Checksums.{tcp}
+use Rattle.dump_captures.specs.Arrival.{ArrivalValue}
 use Rattle.dump_captures.specs.Content.{ContentValue, kind_in, whole}
 use Rattle.dump_captures.specs.Kinds.{kind_text}
 use Rattle.dump_captures.specs.Sight.{HeadersValue}
@@ -90,14 +93,51 @@ is_over_tcp _ = false
 abbrev pub transport_text : Bool → List ℕ
 transport_text over_tcp = if over_tcp then codes " tcp" else []
 
--- the heading of the packet of a number, at this time
-unfoldable pub heading : ℕ → Option (List ℕ) → HeadersValue → List ℕ
-heading n time h =
-    decimal n ++ codes " " ++ time_word time ++ addresses_text h.addresses h.ports ++ tags_text h.path.tags
-    ++ tunnels_text h.path.tunnels ++ frames_text h.path.frames ++ hop_by_hop_text h.hop_by_hop
-    ++ transport_text (is_over_tcp h.content) ++ codes " " ++ kind_text (kind_in h.content) ++ codes "\n"
+-- the link addresses in the header of an Ethernet frame, the source first
+abbrev pub ends_words : List ℕ → List ℕ → List ℕ
+ends_words source destination = codes " link=" ++ hex_colons source ++ codes ">" ++ hex_colons destination
+
+abbrev pub ethernet_words : List ℕ → List ℕ
+ethernet_words octets =
+    if nat_lt (length octets) 12 then [] else ends_words (take 6 (drop 6 octets)) (take 6 octets)
+
+abbrev pub link_words : PacketValue → List ℕ
+link_words p = if p.link_type == 1 then ethernet_words p.octets else []
+
+-- the hops that are left, by the name that the field has
+abbrev pub hops_key : Addresses → List ℕ
+hops_key (V4 source destination) = codes " ttl="
+hops_key (V6 source destination) = codes " hop_limit="
+
+abbrev pub hops_word : Option Addresses → Option ℕ → List ℕ
+hops_word (Some addresses) (Some hops) = hops_key addresses ++ decimal hops
+hops_word addresses hops = []
+
+-- and the bytes of the packet, of which fewer may be captured
+abbrev pub more_words : PacketValue → HeadersValue → List ℕ
+more_words p h = link_words p ++ codes " length=" ++ decimal p.original_len ++ hops_word h.addresses h.hop_limit
+
+abbrev pub verbose_words : Bool → PacketValue → HeadersValue → List ℕ
+verbose_words is_verbose p h = if is_verbose then more_words p h else []
+
+-- the way to the datagram and to its message
+unfoldable pub way_words : HeadersValue → List ℕ
+way_words h =
+    tags_text h.path.tags ++ tunnels_text h.path.tunnels ++ frames_text h.path.frames ++ hop_by_hop_text h.hop_by_hop
+    ++ transport_text (is_over_tcp h.content)
+
+-- the heading of a packet, with more words where these are asked for
+unfoldable pub heading : Bool → ArrivalValue → HeadersValue → List ℕ
+heading is_verbose a h =
+    decimal a.number ++ codes " " ++ time_word a.time ++ addresses_text h.addresses h.ports
+    ++ verbose_words is_verbose a.packet h ++ way_words h
+    ++ codes " " ++ kind_text (kind_in h.content) ++ codes "\n"
 
 -- ---- in JSON
+
+abbrev pub file_items : Option (List ℕ) → List Item
+file_items None = []
+file_items (Some name) = field (codes "file") (text name) ∷ []
 
 abbrev pub time_items : Option (List ℕ) → List Item
 time_items time = field (codes "time") (leaf_or_missing text time) ∷ []
@@ -161,10 +201,11 @@ path_items h =
     ++ transport_items (is_over_tcp h.content)
 
 -- all members after the number
-abbrev pub head_items : Option (List ℕ) → PacketValue → HeadersValue → List Item
-head_items time p h =
-    time_items time
-    ++ link_items p.link_type
-    ++ length_items (length p.octets) p.original_len
+abbrev pub head_items : ArrivalValue → HeadersValue → List Item
+head_items a h =
+    file_items a.file
+    ++ time_items a.time
+    ++ link_items a.packet.link_type
+    ++ length_items (length a.packet.octets) a.packet.original_len
     ++ path_items h
     ++ (field (codes "kind") (text (kind_text (kind_in h.content))) ∷ [])

@@ -1,4 +1,6 @@
 pub mod Arguments
+pub mod Arrival
+pub mod Brief
 pub mod Content
 pub mod Counts
 pub mod Dump
@@ -13,8 +15,10 @@ pub mod Moments
 pub mod Nearest
 pub mod Numbers
 pub mod Owners
+pub mod Pairing
 pub mod Path
 pub mod Place
+pub mod Ports
 pub mod Progress
 pub mod Refusals
 pub mod Settings

@@ -5,7 +5,7 @@ use Rattle.dump_captures.specs.TimeText.{form_text, long_text, sign_text}
 use Rattle.dump_captures.specs.declared.moment.Moment.{Moment}
 use Rattle.dump_captures.specs.declared.when.Span.{Span}
 use Rattle.dump_captures.specs.declared.when.TimeWord.{TimeWord}
-use Rattle.dump_captures.specs.declared.when.TimeWord.TheVariants.{Utc, Seconds}
+use Rattle.dump_captures.specs.declared.when.TimeWord.TheVariants.{Clock, Utc, Seconds}
 use Rattle.dump_captures.specs.declared.when.When.{When}
 
 abbrev pub nanos_of : Moment → ℕ
@@ -16,6 +16,7 @@ span_text s = sign_text s.is_negative ++ (decimal s.len.seconds ++ (codes "." ++
 
 abbrev pub word_text : TimeWord → List ℕ
 word_text (Utc time) = long_text time.ten_thousands time.octets
+word_text (Clock time) = time.octets
 word_text (Seconds span) = span_text span
 
 abbrev pub when_text : When → List ℕ

@@ -6,7 +6,7 @@ use Rattle.dump_captures.specs.Moments.{nanos_of}
 use Rattle.dump_captures.specs.TimeText.{form_text}
 use Rattle.dump_captures.specs.declared.options.Options.{Options}
 use Rattle.dump_captures.specs.declared.options.TimeForm.{TimeForm}
-use Rattle.dump_captures.specs.declared.options.TimeForm.TheVariants.{Relative, Delta}
+use Rattle.dump_captures.specs.declared.options.TimeForm.TheVariants.{Clock, Delta, Relative, Utc}
 use Rattle.dump_captures.specs.declared.progress.Progress.{Progress}
 use Rattle.dump_captures.specs.declared.tally.Outcome.{Outcome}
 use Rattle.dump_captures.specs.declared.tally.Outcome.TheVariants.{Listed, Refused}
@@ -27,8 +27,12 @@ progress_of p = record {
   last = option_map nanos_of p.last;
 }
 
+-- the form that is asked for, or that of packets on a line, or else in UTC
+abbrev pub time_form : Options → TimeForm
+time_form options = unwrap_or options.time_form (if options.is_brief then Clock else Utc)
+
 abbrev pub begin : Options → ProgressValue
-begin options = record { form = options.time_form; left = options.most; first = None; last = None }
+begin options = record { form = time_form options; left = options.most; first = None; last = None }
 
 -- nothing more is read
 abbrev pub is_enough : ProgressValue → Bool

@@ -6,9 +6,9 @@ use Rattle.std.specs.Option.{option_and_then}
 use Rattle.std.specs.Str.{all_ascii_digits}
 use Rattle.std.specs.Str.Parse.{digits_value}
 use Rattle.dump_captures.specs.declared.options.TimeForm.{TimeForm}
-use Rattle.dump_captures.specs.declared.options.TimeForm.TheVariants.{Utc, Relative, Delta, Epoch}
+use Rattle.dump_captures.specs.declared.options.TimeForm.TheVariants.{Clock, Utc, Relative, Delta, Epoch}
 use Rattle.dump_captures.specs.declared.settings.Setting.{Setting}
-use Rattle.dump_captures.specs.declared.settings.Setting.TheVariants.{Only, Most, Host, Name, Time}
+use Rattle.dump_captures.specs.declared.settings.Setting.TheVariants.{Only, Most, Host, Name, Time, Port}
 
 -- ---- the options
 
@@ -19,6 +19,7 @@ setting_of option =
     else if bytes_eq option (codes "--host") then Some Host
     else if bytes_eq option (codes "--name") then Some Name
     else if bytes_eq option (codes "--time") then Some Time
+    else if bytes_eq option (codes "--port") then Some Port
     else None
 
 -- ---- two parts of a text
@@ -55,6 +56,7 @@ count_in text = option_and_then (λ number. if number == 0 then None else Some n
 abbrev pub time_form_in : List ℕ → Option TimeForm
 time_form_in text =
     if bytes_eq text (codes "utc") then Some Utc
+    else if bytes_eq text (codes "clock") then Some Clock
     else if bytes_eq text (codes "relative") then Some Relative
     else if bytes_eq text (codes "delta") then Some Delta
     else if bytes_eq text (codes "epoch") then Some Epoch

@@ -36,6 +36,7 @@ use Rattle.dump_captures.specs.declared.kind.Kind.{Kind}
 use Rattle.dump_captures.specs.declared.kind.Kind.TheVariants as kind
 use Rattle.dump_captures.specs.declared.kind.Reason.{Reason}
 use Rattle.dump_captures.specs.declared.place.Version.TheVariants as version
+use Rattle.dump_captures.specs.declared.ports.Ports.{Ports}
 use Rattle.dump_captures.specs.declared.refusal.Refusal.{Refusal}
 use Rattle.dump_captures.specs.declared.refusal.Refusal.TheVariants as refusal
 use Rattle.dump_captures.specs.declared.sight.Finding.{Finding}
@@ -53,6 +54,7 @@ pub record HeadersValue : Type 0 where
   pub path : PathValue
   pub addresses : Option Addresses
   pub ports : Option (ℕ × ℕ)
+  pub hop_limit : Option ℕ
   pub hop_by_hop : Option (List ℕ)
   pub is_header_bad : Bool
   pub content : ContentValue
@@ -82,6 +84,7 @@ headers_of h = record {
   path = path_of h.path;
   addresses = h.addresses;
   ports = h.ports;
+  hop_limit = h.hop_limit;
   hop_by_hop = option_map (λ octets. octets.now) h.hop_by_hop;
   is_header_bad = h.is_header_bad;
   content = content_of h.content;
@@ -121,19 +124,28 @@ abbrev pub sight_by : IpProtocol → Option ContentValue → (ContentValue → H
 sight_by p None headers = other (protocol_category p)
 sight_by p (Some content) headers = control (headers content)
 
+-- the hops that are left; not where fragments were put together, which may differ in it
+abbrev pub hop_limit_by : List ℕ → ℕ → Option ℕ
+hop_limit_by [] hops = Some hops
+hop_limit_by frames hops = None
+
+abbrev pub hop_limit_in : PathValue → DatagramValue → Option ℕ
+hop_limit_in path d = hop_limit_by path.frames d.hop_limit
+
 abbrev pub datagram_headers : PathValue → Bool → DatagramValue → ContentValue → HeadersValue
 datagram_headers path bad d content = record {
   path = path;
   addresses = Some d.addresses;
   ports = ports_in d.protocol d.payload;
+  hop_limit = hop_limit_in path d;
   hop_by_hop = d.hop_by_hop;
   is_header_bad = bad;
   content = content;
 }
 
-abbrev pub datagram_sight : PathValue → Bool → DatagramValue → SightValue
-datagram_sight path bad d =
-    sight_by d.protocol (content_by d.addresses d.protocol (ports_in d.protocol d.payload) d.payload)
+abbrev pub datagram_sight : Ports → PathValue → Bool → DatagramValue → SightValue
+datagram_sight given path bad d =
+    sight_by d.protocol (content_by given d.addresses d.protocol (ports_in d.protocol d.payload) d.payload)
     (datagram_headers path bad d)
 
 -- what the headers tell of a message in a segment
@@ -142,12 +154,12 @@ stream_headers s message =
     datagram_headers s.path s.is_header_bad s.datagram (whole (tcp s.datagram.addresses s.datagram.payload message))
 
 -- by its messages over TCP, or else by its protocol
-pub data IsWhole (path : PathValue) (bad : Bool) (d : DatagramValue) (s : SightValue) : Type 0 where
-  over_tcp : (messages : List (List ℕ)) → IsOverTcp d messages
+pub data IsWhole (given : Ports) (path : PathValue) (bad : Bool) (d : DatagramValue) (s : SightValue) : Type 0 where
+  over_tcp : (messages : List (List ℕ)) → IsOverTcp given d messages
       → s ≡ stream (record { path = path; is_header_bad = bad; datagram = d; messages = messages })
-      → IsWhole path bad d s
-  otherwise : ((messages : List (List ℕ)) → IsOverTcp d messages → ⊥) → s ≡ datagram_sight path bad d
-      → IsWhole path bad d s
+      → IsWhole given path bad d s
+  otherwise : ((messages : List (List ℕ)) → IsOverTcp given d messages → ⊥) → s ≡ datagram_sight given path bad d
+      → IsWhole given path bad d s
 
 -- The IPv4 header at the start of these bytes is there, and its checksum does not hold.
 pub record HasBadHeader (bytes : List ℕ) : Type 0 where
@@ -170,6 +182,7 @@ refused_headers path addresses ports kind counted r = record {
   path = path;
   addresses = addresses;
   ports = ports;
+  hop_limit = None;
   hop_by_hop = None;
   is_header_bad = false;
   content = refused kind counted r;
@@ -181,9 +194,9 @@ untold path counted r = control (refused_headers path None None kind.Frame count
 
 -- its addresses and its protocol are known, and the ports where they are there: they tell the kind, whatever the
 -- payload
-abbrev pub told : PathValue → Addresses → IpProtocol → Option (ℕ × ℕ) → Reason → Refusal → SightValue
-told path addresses protocol ports counted r =
-    sight_by protocol (content_by addresses protocol ports [])
+abbrev pub told : Ports → PathValue → Addresses → IpProtocol → Option (ℕ × ℕ) → Reason → Refusal → SightValue
+told given path addresses protocol ports counted r =
+    sight_by protocol (content_by given addresses protocol ports [])
     (λ content. refused_headers path (Some addresses) ports (kind_in content) counted r)
 
 -- what there is of a datagram that is refused, of which this would be the content: the message of one that is cut
@@ -192,10 +205,10 @@ front_content (Extent.Cut missing) counted r (whole m) = cut m missing counted
 front_content extent counted r content = refused (kind_in content) counted r
 
 -- the start of a datagram, as far as the capture has it
-abbrev pub told_front : PathValue → Bool → CapturedValue → Reason → Refusal → SightValue
-told_front path bad c counted r =
+abbrev pub told_front : Ports → PathValue → Bool → CapturedValue → Reason → Refusal → SightValue
+told_front given path bad c counted r =
     sight_by c.datagram.protocol
-    (content_by c.datagram.addresses c.datagram.protocol (ports_in c.datagram.protocol c.datagram.payload)
+    (content_by given c.datagram.addresses c.datagram.protocol (ports_in c.datagram.protocol c.datagram.payload)
     c.datagram.payload)
     (λ content. datagram_headers path bad c.datagram (front_content c.extent counted r content))
 
@@ -210,21 +223,24 @@ abbrev pub ports_behind : List ℕ → Head → Option (ℕ × ℕ)
 ports_behind bytes h = if h.frag_offset == 0 then ports_in h.protocol (drop (header_len_in bytes) bytes) else None
 
 -- By the start where it was captured; or else by what is known without it.
-pub data IsRefused4 (path : PathValue) (bytes : List ℕ) (counted : Reason) (r : Refusal) (s : SightValue) : Type 0 where
+pub data IsRefused4 (given : Ports) (path : PathValue) (bytes : List ℕ) (counted : Reason) (r : Refusal)
+    (s : SightValue) : Type 0 where
   by_front : (c : CapturedValue) (bad : Bool) → IsCaptured4 bytes c → (IsTrue bad ↔ HasBadHeader bytes)
-      → s ≡ told_front path bad c counted r → IsRefused4 path bytes counted r s
+      → s ≡ told_front given path bad c counted r → IsRefused4 given path bytes counted r s
   by_head : (other : DatagramRefusal) (h : Head) → RefusesCaptured4 bytes other → head_of other ≡ Some h
-      → s ≡ told path h.addresses h.protocol (ports_behind bytes h) counted r → IsRefused4 path bytes counted r s
+      → s ≡ told given path h.addresses h.protocol (ports_behind bytes h) counted r
+      → IsRefused4 given path bytes counted r s
   by_none : (other : DatagramRefusal) → RefusesCaptured4 bytes other → head_of other ≡ None
-      → s ≡ untold path counted r → IsRefused4 path bytes counted r s
+      → s ≡ untold path counted r → IsRefused4 given path bytes counted r s
 
-pub data IsRefused6 (path : PathValue) (bytes : List ℕ) (counted : Reason) (r : Refusal) (s : SightValue) : Type 0 where
-  by_front : (c : CapturedValue) → IsCaptured6 bytes c → s ≡ told_front path false c counted r
-      → IsRefused6 path bytes counted r s
+pub data IsRefused6 (given : Ports) (path : PathValue) (bytes : List ℕ) (counted : Reason) (r : Refusal)
+    (s : SightValue) : Type 0 where
+  by_front : (c : CapturedValue) → IsCaptured6 bytes c → s ≡ told_front given path false c counted r
+      → IsRefused6 given path bytes counted r s
   by_head : (other : DatagramRefusal) (h : Head) → RefusesCaptured6 bytes other → head_of other ≡ Some h
-      → s ≡ told path h.addresses h.protocol None counted r → IsRefused6 path bytes counted r s
+      → s ≡ told given path h.addresses h.protocol None counted r → IsRefused6 given path bytes counted r s
   by_none : (other : DatagramRefusal) → RefusesCaptured6 bytes other → head_of other ≡ None
-      → s ≡ untold path counted r → IsRefused6 path bytes counted r s
+      → s ≡ untold path counted r → IsRefused6 given path bytes counted r s
 
 -- ---- a datagram at its place
 
@@ -233,29 +249,31 @@ counted_as p r = reason_of (is_cut p) r
 
 -- The datagram that begins at a place, of IPv4 and of IPv6: a whole one, a whole fragment of one, or one that is
 -- refused.
-pub data IsSight4 (p : PacketValue) (at : PlaceValue) (s : FindingValue) : Type 0 where
+pub data IsSight4 (given : Ports) (p : PacketValue) (at : PlaceValue) (s : FindingValue) : Type 0 where
   whole4 : (d : DatagramValue) (bad : Bool) (told : SightValue) → IsDatagram4 at.bytes d
-      → (IsTrue bad ↔ HasBadHeader at.bytes) → IsWhole at.path bad d told → s ≡ seen told → IsSight4 p at s
-  fragment4 : (f : FragmentValue) → IsFragment4 at.bytes f → s ≡ fragment at.path f → IsSight4 p at s
+      → (IsTrue bad ↔ HasBadHeader at.bytes) → IsWhole given at.path bad d told → s ≡ seen told → IsSight4 given p at s
+  fragment4 : (f : FragmentValue) → IsFragment4 at.bytes f → s ≡ fragment at.path f → IsSight4 given p at s
   refused4 : (r : DatagramRefusal) (told : SightValue) → Refuses4 at.bytes r
       → ((f : FragmentValue) → IsFragment4 at.bytes f → ⊥)
-      → IsRefused4 at.path at.bytes (counted_as p (refusal.Datagram r)) (refusal.Datagram r) told → s ≡ seen told
-      → IsSight4 p at s
+      → IsRefused4 given at.path at.bytes (counted_as p (refusal.Datagram r)) (refusal.Datagram r) told → s ≡ seen told
+      → IsSight4 given p at s
 
-pub data IsSight6 (p : PacketValue) (at : PlaceValue) (s : FindingValue) : Type 0 where
-  whole6 : (d : DatagramValue) (told : SightValue) → IsDatagram6 at.bytes d → IsWhole at.path false d told
-      → s ≡ seen told → IsSight6 p at s
-  fragment6 : (f : FragmentValue) → IsFragment6 at.bytes f → s ≡ fragment at.path f → IsSight6 p at s
+pub data IsSight6 (given : Ports) (p : PacketValue) (at : PlaceValue) (s : FindingValue) : Type 0 where
+  whole6 : (d : DatagramValue) (told : SightValue) → IsDatagram6 at.bytes d → IsWhole given at.path false d told
+      → s ≡ seen told → IsSight6 given p at s
+  fragment6 : (f : FragmentValue) → IsFragment6 at.bytes f → s ≡ fragment at.path f → IsSight6 given p at s
   refused6 : (r : DatagramRefusal) (told : SightValue) → Refuses6 at.bytes r
       → ((f : FragmentValue) → IsFragment6 at.bytes f → ⊥)
-      → IsRefused6 at.path at.bytes (counted_as p (refusal.Datagram r)) (refusal.Datagram r) told → s ≡ seen told
-      → IsSight6 p at s
+      → IsRefused6 given at.path at.bytes (counted_as p (refusal.Datagram r)) (refusal.Datagram r) told → s ≡ seen told
+      → IsSight6 given p at s
 
 -- where the tunnels end
-pub data IsEndSight (p : PacketValue) (e : StepValue) (s : FindingValue) : Type 0 where
-  of_v4 : (at : PlaceValue) → e ≡ step.datagram at → at.version ≡ version.V4 → IsSight4 p at s → IsEndSight p e s
-  of_v6 : (at : PlaceValue) → e ≡ step.datagram at → at.version ≡ version.V6 → IsSight6 p at s → IsEndSight p e s
-  of_network : (n : ℕ) → e ≡ step.other n → s ≡ seen (other (category.EtherType n)) → IsEndSight p e s
+pub data IsEndSight (given : Ports) (p : PacketValue) (e : StepValue) (s : FindingValue) : Type 0 where
+  of_v4 : (at : PlaceValue) → e ≡ step.datagram at → at.version ≡ version.V4 → IsSight4 given p at s
+      → IsEndSight given p e s
+  of_v6 : (at : PlaceValue) → e ≡ step.datagram at → at.version ≡ version.V6 → IsSight6 given p at s
+      → IsEndSight given p e s
+  of_network : (n : ℕ) → e ≡ step.other n → s ≡ seen (other (category.EtherType n)) → IsEndSight given p e s
 
 -- ---- a packet
 
@@ -263,16 +281,16 @@ abbrev pub frame_path : FrameValue → PathValue
 frame_path f = record { tags = f.tags; tunnels = []; frames = [] }
 
 -- The frame of a packet on its link, and the packet by its link.
-pub data IsFrameSight (p : PacketValue) (link : Link) (f : FrameValue) (s : FindingValue) : Type 0 where
+pub data IsFrameSight (given : Ports) (p : PacketValue) (link : Link) (f : FrameValue) (s : FindingValue) : Type 0 where
   tunnels_end : (at : PlaceValue) (e : StepValue) → packet_in (frame_path f) f.network f.payload ≡ step.datagram at
-      → LeadsTo (step.datagram at) e → IsEndSight p e s → IsFrameSight p link f s
+      → LeadsTo (step.datagram at) e → IsEndSight given p e s → IsFrameSight given p link f s
   other_network : (n : ℕ) → packet_in (frame_path f) f.network f.payload ≡ step.other n
-      → s ≡ seen (other (network_category link n)) → IsFrameSight p link f s
+      → s ≡ seen (other (network_category link n)) → IsFrameSight given p link f s
 
-pub data IsSight (p : PacketValue) (s : FindingValue) : Type 0 where
-  no_link : link_of p.link_type ≡ None → s ≡ seen unread → IsSight p s
+pub data IsSight (given : Ports) (p : PacketValue) (s : FindingValue) : Type 0 where
+  no_link : link_of p.link_type ≡ None → s ≡ seen unread → IsSight given p s
   no_frame : (link : Link) (r : LinkRefusal) → link_of p.link_type ≡ Some link
       → ((f : FrameValue) → IsFrame link p.octets f → ⊥) → Refuses link p.octets r
-      → s ≡ seen (untold no_path (counted_as p (refusal.Frame r)) (refusal.Frame r)) → IsSight p s
+      → s ≡ seen (untold no_path (counted_as p (refusal.Frame r)) (refusal.Frame r)) → IsSight given p s
   framed : (link : Link) (f : FrameValue) → link_of p.link_type ≡ Some link → IsFrame link p.octets f
-      → IsFrameSight p link f s → IsSight p s
+      → IsFrameSight given p link f s → IsSight given p s

@@ -5,7 +5,7 @@ use Rattle.wirebase.specs.Digits.{last_digits}
 use Rattle.capture.specs.Calendar.{date_of}
 use Rattle.capture.specs.TimeText.{date_text, clock_text}
 use Rattle.dump_captures.specs.declared.options.TimeForm.{TimeForm}
-use Rattle.dump_captures.specs.declared.options.TimeForm.TheVariants.{Utc, Relative, Delta, Epoch}
+use Rattle.dump_captures.specs.declared.options.TimeForm.TheVariants.{Clock, Utc, Relative, Delta, Epoch}
 
 -- ---- in UTC
 
@@ -25,6 +25,11 @@ year_front ten_thousands = if ten_thousands == 0 then [] else decimal ten_thousa
 -- a time whose digits before these of its year are those of a number
 abbrev pub long_text : ℕ → List ℕ → List ℕ
 long_text ten_thousands text = year_front ten_thousands ++ text
+
+-- the time of day with milliseconds
+unfoldable pub milliseconds_text : ℕ → ℕ → List ℕ
+milliseconds_text seconds nanoseconds =
+    clock_text seconds ++ codes "." ++ last_digits 3 (nanoseconds / 1000000)
 
 -- ---- seconds
 
@@ -46,6 +51,7 @@ difference_text from to =
 -- in a form, of which two count from the time of an earlier packet
 abbrev pub form_text : TimeForm → ℕ → ℕ → List ℕ
 form_text Utc from nanoseconds = time_text (nanoseconds / 1000000000) (nanoseconds % 1000000000)
+form_text Clock from nanoseconds = milliseconds_text (nanoseconds / 1000000000) (nanoseconds % 1000000000)
 form_text Relative from nanoseconds = difference_text from nanoseconds
 form_text Delta from nanoseconds = difference_text from nanoseconds
 form_text Epoch from nanoseconds = seconds_text nanoseconds

@@ -4,10 +4,11 @@ ghost use Rattle.std.specs.Prelude.{◌≡◌, IfOk, IfErr, IfSome, IfNone, Matc
 ghost use Rattle.std.specs.Option.{option_map};
 ghost use Rattle.std.specs.Vec.Iter.{into_iter_items};
 ghost use Rattle.dump_captures.specs.Arguments.{kind_named, only_of, with_name, is_option};
-ghost use Rattle.dump_captures.specs.Arguments.{with_flag, with_only};
+ghost use Rattle.dump_captures.specs.Arguments.{with_flag, with_given, with_only};
 ghost use Rattle.dump_captures.specs.Arguments.{with_most, with_setting, with_time_form, with_value, with_word, more};
 ghost use Rattle.dump_captures.specs.Arguments.{at_end, nothing_read, task_of};
 ghost use Rattle.dump_captures.specs.Tasks.{HasHost, HasNameOf, IsNoHost, IsNoName, IsTask};
+ghost use Rattle.dump_captures.specs.Ports.{with_ports};
 ghost use Rattle.dump_captures.specs.Settings.{count_in, option_in, setting_of, time_form_in, value_in};
 ghost use Rattle.dump_captures.specs.private.Parts.{reading_of, reads_of};
 
@@ -51,13 +52,17 @@ pub enum Wrong {
 }
 
 // The options, and the names of packets, for a word that is neither.
-const OPTIONS: [&str; 9] = [
+const OPTIONS: [&str; 13] = [
     "--only",
     "--host",
     "--name",
     "--time",
+    "--port",
     "--count",
     "--json",
+    "--brief",
+    "--pairs",
+    "--verbose",
     "--strict",
     "--help",
     "--version",
@@ -185,6 +190,20 @@ impl Reading {
         }
         if word == "--json" {
             self.options.form = Form::Json;
+            self.options.is_brief = false;
+            return Some(Step::More);
+        }
+        if word == "--brief" || word == "-1" {
+            self.options.form = Form::Lines;
+            self.options.is_brief = true;
+            return Some(Step::More);
+        }
+        if word == "--verbose" || word == "-v" {
+            self.options.is_verbose = true;
+            return Some(Step::More);
+        }
+        if word == "--pairs" {
+            self.options.pairs = true;
             return Some(Step::More);
         }
         if word == "--strict" {
@@ -245,6 +264,7 @@ impl Reading {
                 Ok(Step::More)
             }
             Setting::Time => Ok(self.read_time_form(text)),
+            Setting::Port => Ok(self.read_port(text)),
         }
     }
 
@@ -286,7 +306,20 @@ impl Reading {
         let Some(time_form) = time_form_in(text.as_str()) else {
             return Step::Unknown(Wrong::BadValue(Setting::Time, text));
         };
-        self.options.time_form = time_form;
+        self.options.time_form = Some(time_form);
+        Step::More
+    }
+
+    // Reads the kind and the port after `--port`.
+    fn read_port(&mut self, text: String) -> Step
+        ensures { reads_of result (reading_of self.new)
+            ≡ with_given (with_ports self.old.options.ports (string_bytes text)) (string_bytes text)
+            (reading_of self.old) }
+    {
+        let Some(ports) = self.options.ports.with(text.as_str()) else {
+            return Step::Unknown(Wrong::BadValue(Setting::Port, text));
+        };
+        self.options.ports = ports;
         Step::More
     }
 }

@@ -6,10 +6,11 @@ ghost use Rattle.frame_wire.specs.Datagram.{value_of as datagram_of};
 ghost use Rattle.frame_wire.specs.TcpPrefixed.{messages_of};
 ghost use Rattle.message_fields.specs.Checksums.{value_of as message_of};
 ghost use Rattle.dump_captures.specs.Content.{content_of, kind_in, kind_of_message, content_by, content_of_udp};
-ghost use Rattle.dump_captures.specs.Content.{IsOverTcp, has_port, service_of};
+ghost use Rattle.dump_captures.specs.Content.{IsOverTcp, is_dns, own_service, service_of};
 ghost use Rattle.dump_captures.specs.Heading.{is_over_tcp};
 
 use crate::kind::{Kind, Reason};
+use crate::ports::{Ports, has_given, has_port};
 use crate::refusal::Refusal;
 use frame_wire::tcp::Prefixed;
 use frame_wire::{Addresses, Datagram, TcpSegment, udp};
@@ -74,27 +75,28 @@ const UNKNOWN: Content<'static> = Content::Refused(
     Refusal::Message(message_fields::Refusal::Udp(udp::Refusal::Short)),
 );
 
-/// What a datagram between these addresses holds; None for other protocols.
+/// What a datagram between these addresses holds, where these ports are given; None for other protocols.
 pub fn content_by<'a>(
+    given: &Ports,
     addresses: &Addresses,
     protocol: IpProtocol,
     ports: Option<(u16, u16)>,
     payload: &'a [u8],
 ) -> Option<Content<'a>>
-    ensures { option_map content_of result ≡ content_by addresses.now protocol ports payload.now }
+    ensures { option_map content_of result ≡ content_by given.now addresses.now protocol ports payload.now }
 {
     match addresses {
         Addresses::V4(_, _) => match protocol {
             IpProtocol::Icmp => Some(Content::Whole(Message::Icmp4(payload))),
             IpProtocol::Igmp => Some(Content::Whole(Message::Igmp(payload))),
-            IpProtocol::Udp => content_of_udp(addresses, ports, payload),
+            IpProtocol::Udp => content_of_udp(given, addresses, ports, payload),
             _ => None,
         },
         Addresses::V6(src_addr, dst_addr) => match protocol {
             IpProtocol::Icmpv6 => Some(Content::Whole(Message::Icmp6(
                 *src_addr, *dst_addr, payload,
             ))),
-            IpProtocol::Udp => content_of_udp(addresses, ports, payload),
+            IpProtocol::Udp => content_of_udp(given, addresses, ports, payload),
             IpProtocol::HopByHop
             | IpProtocol::Ipv6Route
             | IpProtocol::Ipv6Frag
@@ -106,22 +108,33 @@ pub fn content_by<'a>(
 
 // What a UDP datagram between these ports holds.
 fn content_of_udp<'a>(
+    given: &Ports,
     addresses: &Addresses,
     ports: Option<(u16, u16)>,
     payload: &'a [u8],
 ) -> Option<Content<'a>>
-    ensures { option_map content_of result ≡ content_of_udp addresses.now ports payload.now }
+    ensures { option_map content_of result ≡ content_of_udp given.now addresses.now ports payload.now }
 {
     let Some(ports) = ports else {
         return Some(UNKNOWN);
     };
-    let service = service_of(addresses.is_v4(), ports)?;
+    let service = service_of(given, addresses.is_v4(), ports)?;
     Some(Content::Whole(Message::Udp(service, *addresses, payload)))
 }
 
+// The service of these ports, one of which is given to it, or else its own.
+fn service_of(given: &Ports, is_v4: bool, ports: (u16, u16)) -> Option<Service>
+    ensures { result ≡ service_of given.now is_v4 ports }
+{
+    match given.service(is_v4, ports) {
+        Some(service) => Some(service),
+        None => own_service(is_v4, ports),
+    }
+}
+
 // The service of these ports, one of which is its own.
-fn service_of(is_v4: bool, ports: (u16, u16)) -> Option<Service>
-    ensures { result ≡ service_of is_v4 ports }
+fn own_service(is_v4: bool, ports: (u16, u16)) -> Option<Service>
+    ensures { result ≡ own_service is_v4 ports }
 {
     if has_port(ports, 53) {
         Some(Service::Dns)
@@ -138,17 +151,18 @@ fn service_of(is_v4: bool, ports: (u16, u16)) -> Option<Service>
     }
 }
 
-// Whether a port is that of the source or of the destination.
-fn has_port(ports: (u16, u16), port: u16) -> bool
-    ensures { result ≡ has_port ports port }
+// Whether one of these ports is that of DNS over TCP, or given to it.
+fn is_dns(given: &Ports, ports: (u16, u16)) -> bool
+    ensures { result ≡ is_dns given.now ports }
 {
-    ports.0 == port || ports.1 == port
+    has_port(ports, 53) || has_given(ports, given.dns)
 }
 
-/// The messages of DNS in a segment of TCP; None where the datagram has none.
-pub fn messages_over_tcp<'a>(datagram: &Datagram<'a>) -> Option<Prefixed<'a>>
-    ensures some { IfSome result (λ messages. IsOverTcp (datagram_of datagram.now) (messages_of messages)) }
-    ensures none { IsNone result → (messages : List (List ℕ)) → IsOverTcp (datagram_of datagram.now) messages → ⊥ }
+/// The messages of DNS in a segment of TCP, where these ports are given; None where the datagram has none.
+pub fn messages_over_tcp<'a>(given: &Ports, datagram: &Datagram<'a>) -> Option<Prefixed<'a>>
+    ensures some { IfSome result (λ messages. IsOverTcp given.now (datagram_of datagram.now) (messages_of messages)) }
+    ensures none { IsNone result → (messages : List (List ℕ)) → IsOverTcp given.now (datagram_of datagram.now) messages
+        → ⊥ }
 {
     if datagram.protocol != IpProtocol::Tcp {
         return None;
@@ -156,7 +170,7 @@ pub fn messages_over_tcp<'a>(datagram: &Datagram<'a>) -> Option<Prefixed<'a>>
     let Ok(segment) = TcpSegment::parse(datagram.payload) else {
         return None;
     };
-    if !has_port((segment.src_port, segment.dst_port), 53) {
+    if !is_dns(given, (segment.src_port, segment.dst_port)) {
         return None;
     }
     Prefixed::new(segment.payload, DNS_HEADER_LEN)

@@ -2,7 +2,8 @@
 
 #![tactic(auto, using(packet_fields::proofs::Printing::gained, packet_fields::proofs::Printing::gains_both))]
 
-ghost use Rattle.std.specs.Prelude.{◌≡◌, ◌<◌, ◌++◌, IfSome, IsNone, OnOk, codes, decimal, length, false, true, take, get_or};
+ghost use Rattle.std.specs.Prelude.{◌≡◌, ◌<◌, ◌++◌, IfSome, IsNone, OnOk, codes, decimal, length, false, true, take};
+ghost use Rattle.std.specs.Prelude.{get_or};
 ghost use Rattle.std.specs.Option.{option_map};
 ghost use Rattle.packet_fields.specs.Output.{Gains};
 ghost use Rattle.wirebase.specs.ByteWriter.{be16};

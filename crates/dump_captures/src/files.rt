@@ -1,9 +1,10 @@
 //! The files of a run, one after another, and the status at the end.
 
 ghost use Rattle.std.specs.Prelude.{◌≡◌, ℕ, List, Option, Some, IfOk, IfSome, OnOk, length, map, nat_lt, string_bytes};
+ghost use Rattle.std.specs.Option.{option_map};
 ghost use Rattle.packet_fields.specs.Output.{Gains, GainsSome};
 ghost use Rattle.dump_captures.specs.Files.{bytes_of_name, counts_before, ending_status, FilePrints, FilesPrint};
-ghost use Rattle.dump_captures.specs.Files.{end_text, names_of, title, RunPrints};
+ghost use Rattle.dump_captures.specs.Files.{end_text, names_of, title, told_name, RunPrints};
 ghost use Rattle.dump_captures.specs.Tally.{tally_of};
 
 use crate::Fault;
@@ -142,13 +143,14 @@ fn dump_each<C: Captures, W: Write>(
         status.old text (tally_of total.new) status.new)) }
 {
     if files.is_empty() {
-        let own = dump_file(rt, captures, options, "-", output, total)?;
+        let own = dump_file(rt, captures, options, false, "-", output, total)?;
         *status = (*status).max(own);
         return Ok(());
     }
     for file in files {
-        show_title(options, files.len() > 1, file.as_str(), output)?;
-        let own = dump_file(rt, captures, options, file.as_str(), output, total)?;
+        let several = files.len() > 1;
+        show_title(options, several, file.as_str(), output)?;
+        let own = dump_file(rt, captures, options, several, file.as_str(), output, total)?;
         *status = (*status).max(own);
     }
     Ok(())
@@ -176,20 +178,21 @@ fn dump_file<C: Captures, W: Write>(
     rt: &(impl Eprint + AllocGlobal),
     captures: &C,
     options: &Options,
+    several: bool,
     file: &str,
     output: &mut W,
     tally: &mut Tally,
 ) -> Result<u8, Fault>
     ensures { IfOk result (λ status. GainsSome (W.contents output.old) (W.contents output.new) (λ text.
-        FilePrints options.now (bytes_of_name (C.input_bytes captures.now) (C.file_bytes captures.now) file.now)
+        FilePrints options.now (told_name several file.now) (bytes_of_name (C.input_bytes captures.now) (C.file_bytes captures.now) file.now)
         (counts_before options.now (tally_of tally.old)) text (tally_of tally.new) status)) }
 {
     start_counts(options, tally);
     if file == "-" {
-        return dump_input(rt, options, file, captures.reader(), output, tally);
+        return dump_input(rt, options, several, file, captures.reader(), output, tally);
     }
     match captures.open(file) {
-        Ok(input) => dump_input(rt, options, file, input, output, tally),
+        Ok(input) => dump_input(rt, options, several, file, input, output, tally),
         Err(error) => {
             report_unopened(rt, file, &error);
             Ok(WRONG)
@@ -210,13 +213,14 @@ fn start_counts(options: &Options, tally: &mut Tally)
 fn dump_input<R: Read + Drop, W: Write>(
     rt: &(impl Eprint + AllocGlobal),
     options: &Options,
+    several: bool,
     name: &str,
     input: R,
     output: &mut W,
     tally: &mut Tally,
 ) -> Result<u8, Fault>
     ensures { IfOk result (λ status. GainsSome (W.contents output.old) (W.contents output.new) (λ text.
-        FilePrints options.now (R.remaining input) (tally_of tally.old) text (tally_of tally.new) status)) }
+        FilePrints options.now (told_name several name.now) (R.remaining input) (tally_of tally.old) text (tally_of tally.new) status)) }
 {
     let before = tally.packets;
     let mut input = Watched {
@@ -225,7 +229,8 @@ fn dump_input<R: Read + Drop, W: Write>(
         is_begun: false,
         is_gzip: false,
     };
-    let stop = dump_readable(rt.alloc(), options, &mut input, output, tally)?;
+    let told = told_name(several, name);
+    let stop = dump_readable(rt.alloc(), options, told, &mut input, output, tally)?;
     if options.prints {
         report_counts(rt, Some(name), tally)?;
     }
@@ -241,6 +246,13 @@ fn dump_input<R: Read + Drop, W: Write>(
             Ok(FAILED)
         }
     }
+}
+
+// The name that is told with each packet.
+fn told_name(several: bool, name: &str) -> Option<&str>
+    ensures { option_map (λ name. name.now) result ≡ told_name several name.now }
+{
+    if several { Some(name) } else { None }
 }
 
 // The status of a capture that ends so.

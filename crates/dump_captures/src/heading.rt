@@ -8,15 +8,19 @@ ghost use Rattle.std.specs.Option.{option_map};
 ghost use Rattle.frame_wire.specs.declared.datagram.Addresses.TheVariants.{V4, V6};
 ghost use Rattle.packet_fields.specs.Output.{Gains};
 ghost use Rattle.dump_captures.specs.Heading.{heading, time_word, addresses_text, source_port as source_in};
-ghost use Rattle.dump_captures.specs.Heading.{destination_port as destination_in, frames_text, tag_text, tags_text, hop_by_hop_text};
-ghost use Rattle.dump_captures.specs.Heading.{transport_text};
+ghost use Rattle.dump_captures.specs.Heading.{destination_port as destination_in, frames_text, tag_text, tags_text};
+ghost use Rattle.dump_captures.specs.Heading.{hop_by_hop_text};
+ghost use Rattle.dump_captures.specs.Arrival.{arrival_of};
+ghost use Rattle.dump_captures.specs.Heading.{transport_text, way_words};
 ghost use Rattle.dump_captures.specs.Sight.{headers_of};
 ghost use Rattle.dump_captures.specs.Moments.{when_text};
 
+use crate::arrival::Arrival;
 use crate::numbers::Numbers;
 use crate::sight::Headers;
 use crate::time::Clock;
 use crate::tunnels::show_tunnels;
+use crate::verbose::show_more;
 use crate::when::When;
 use frame_wire::Addresses;
 use packet_fields::Form;
@@ -32,33 +36,45 @@ pub(crate) const TAG_LEN: usize = 4;
 
 const VLAN: Field = 0..2;
 
-/// Prints the heading of the control packet of a number.
+/// Prints the heading of a control packet.
 pub fn show_heading<W: Write>(
     output: &mut W,
     clock: &mut Clock,
-    when: Option<When>,
-    number: u64,
+    is_verbose: bool,
+    arrival: &Arrival<'_>,
     headers: &Headers<'_>,
 ) -> io::Result<()>
     ensures { OnOk result (Gains (W.contents output.old) (W.contents output.new)
-        (heading number (option_map when_text when) (headers_of headers.now))) }
+        (heading is_verbose (arrival_of arrival.now) (headers_of headers.now))) }
 {
-    number.put(output, Form::Lines)?;
+    arrival.record.number.put(output, Form::Lines)?;
     output.write_all(b" ")?;
-    show_time(output, clock, when)?;
+    show_time(output, clock, arrival.when)?;
     show_addresses(output, headers.addresses, headers.ports)?;
-    show_tags(output, headers.path.tags)?;
-    show_tunnels(output, &headers.path.tunnels)?;
-    show_frames(output, headers.path.frames)?;
-    show_hop_by_hop(output, headers.hop_by_hop)?;
-    show_transport(output, headers.content.is_over_tcp())?;
+    show_more(output, is_verbose, arrival, headers)?;
+    show_way(output, headers)?;
     output.write_all(b" ")?;
     headers.content.kind().name().put(output, Form::Lines)?;
     output.write_all(b"\n")
 }
 
-// Prints the time at which a packet was captured, where it is known.
-fn show_time<W: Write>(output: &mut W, clock: &mut Clock, when: Option<When>) -> io::Result<()>
+/// Prints the words of the way to the datagram and to its message.
+pub(crate) fn show_way<W: Write>(output: &mut W, headers: &Headers<'_>) -> io::Result<()>
+    ensures { OnOk result (Gains (W.contents output.old) (W.contents output.new) (way_words (headers_of headers.now))) }
+{
+    show_tags(output, headers.path.tags)?;
+    show_tunnels(output, &headers.path.tunnels)?;
+    show_frames(output, headers.path.frames)?;
+    show_hop_by_hop(output, headers.hop_by_hop)?;
+    show_transport(output, headers.content.is_over_tcp())
+}
+
+/// Prints the time at which a packet was captured, where it is known.
+pub(crate) fn show_time<W: Write>(
+    output: &mut W,
+    clock: &mut Clock,
+    when: Option<When>,
+) -> io::Result<()>
     ensures { OnOk result (Gains (W.contents output.old) (W.contents output.new)
         (time_word (option_map when_text when))) }
 {
@@ -68,8 +84,8 @@ fn show_time<W: Write>(output: &mut W, clock: &mut Clock, when: Option<When>) ->
     }
 }
 
-// Prints the source and the destination of a packet, as far as they are known.
-fn show_addresses<W: Write>(
+/// Prints the source and the destination of a packet, as far as they are known.
+pub(crate) fn show_addresses<W: Write>(
     output: &mut W,
     addresses: Option<Addresses>,
     ports: Option<(u16, u16)>,

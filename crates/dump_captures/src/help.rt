@@ -6,7 +6,8 @@ pub const VERSION: &str = "0.14.1";
 /// The usage, for a wrong argument.
 pub const USAGE: &str =
     "usage: pcapdump [--only KIND,..] [--host ADDRESS[/BITS]] [--name NAME] [-c N] [--time FORM]
-                [--json] [--strict] [--count] [--help] [--version] [FILE..]";
+                [--port KIND=PORT] [--brief | --json] [--pairs] [-v] [--strict] [--count] [--help] [--version]
+                [FILE..]";
 
 /// The names after `--only`, for a list with an unknown one.
 pub const KINDS: &str =
@@ -23,9 +24,17 @@ its kind, and below it what it holds, a field a line. Without a file, and for -,
   --name NAME       prints those messages of DNS, mDNS, LLMNR and the NetBIOS name service alone that have a question or
                     a record of this name or of one that ends in it
   -c N              stops reading a file after the Nth packet that is printed
-  --time FORM       tells times as `utc`, by RFC 3339; as `relative`, in seconds since the first packet of the file; as
-                    `delta`, in seconds since the packet that was printed before; or as `epoch`, in seconds since 1970
+  --time FORM       tells times as `utc`, by RFC 3339; as `clock`, the time of day in UTC; as `relative`, in seconds
+                    since the first packet of the file; as `delta`, in seconds since the packet that was printed before;
+                    or as `epoch`, in seconds since 1970
+  --port KIND=PORT  reads UDP of this port as `dns`, `mdns`, `llmnr`, `nbns` or `dhcp` too, and as `dns` also TCP; it
+                    goes before the ports below, and may be given for each kind
+  -1, --brief       prints each packet on a line
+  -v, --verbose     adds to headings, and to lines of --brief, the addresses of Ethernet frames, the length of the packet
+                    in bytes, and the TTL or the hop limit
   --json            prints each packet as an object of JSON, on a line
+  --pairs           tells of an answer the packet with its question and the time between the two, and behind the last
+                    packet the questions that got no answer
   --strict          refuses messages whose checksum is wrong; without it they are printed with checksum=bad
   --count           prints no packets but a table at the end: of each kind how many were listed and how many were
                     refused for each reason, and their octets; on standard error it sums up the rest. The table comes
@@ -36,7 +45,7 @@ its kind, and below it what it holds, a field a line. Without a file, and for -,
   -n                has no effect: no name is looked up
 
 The value of an option is the next word, or is behind an equals sign, as in --only=dns. Of an option that comes several
-times the last one counts.
+times the last one counts, of --port the last one of each kind.
 
 The kinds:
 
@@ -71,6 +80,8 @@ Examples:
   pcapdump trace.pcap
   pcapdump --only dns,mdns --count trace.pcap more.pcapng
   pcapdump --name example.com --time=delta -c 10 trace.pcap
+  pcapdump --brief --pairs trace.pcap | grep NXDOMAIN
+  pcapdump --port dns=5300 --port mdns=5454 trace.pcap
   tcpdump --immediate-mode -U -w - | pcapdump --only icmp6
   pcapdump --json trace.pcap | jq -c 'select(.kind == \"dhcp\")'
 

@@ -4,23 +4,25 @@
 
 ghost use Rattle.std.specs.Prelude.{◌≤◌, OnOk, length, true};
 ghost use Rattle.std.specs.Option.{option_map};
-ghost use Rattle.capture.specs.Capture.{packet_of};
+ghost use Rattle.dump_captures.specs.Arrival.{arrival_of};
 ghost use Rattle.packet_fields.specs.Fields.{AllFit, comma_unless, leaf_text, numbers};
 ghost use Rattle.packet_fields.specs.Output.{Gains};
 ghost use Rattle.packet_fields.specs.Prints.{Prints};
-ghost use Rattle.dump_captures.specs.Heading.{addresses_items, ends_items, frame_items, head_items, length_items};
-ghost use Rattle.dump_captures.specs.Heading.{link_items, path_items, port_items, time_items, transport_items, vlans_of};
+ghost use Rattle.dump_captures.specs.Heading.{addresses_items, ends_items, file_items, frame_items, head_items};
+ghost use Rattle.dump_captures.specs.Heading.{length_items};
+ghost use Rattle.dump_captures.specs.Heading.{link_items, path_items, port_items, time_items, transport_items};
+ghost use Rattle.dump_captures.specs.Heading.{vlans_of};
 ghost use Rattle.dump_captures.specs.Moments.{when_text};
 ghost use Rattle.dump_captures.specs.private.Vlans.{one_of, run_from};
 ghost use Rattle.dump_captures.specs.Sight.{headers_of};
 
+use crate::arrival::Arrival;
 use crate::heading::{TAG_LEN, destination_port, show_vlan, source_port};
 use crate::numbers::Numbers;
 use crate::sight::Headers;
 use crate::time::Clock;
 use crate::tunnels::show_tunnel_members;
 use crate::when::When;
-use capture::Record;
 use frame_wire::Addresses;
 use frame_wire::names::link_name;
 use packet_fields::Form;
@@ -33,19 +35,33 @@ use std::io::Write;
 pub fn show_members<W: Write>(
     output: &mut W,
     clock: &mut Clock,
-    when: Option<When>,
-    captured: &Record,
-    octets: &[u8],
+    arrival: &Arrival<'_>,
     headers: &Headers<'_>,
 ) -> io::Result<()>
     ensures { OnOk result (Prints Form.Json (W.contents output.old) (W.contents output.new)
-        (head_items (option_map when_text when) (packet_of captured.now octets.now) (headers_of headers.now))) }
+        (head_items (arrival_of arrival.now) (headers_of headers.now))) }
 {
-    show_time(output, clock, when)?;
-    show_link(output, captured.link_type)?;
-    show_lengths(output, octets.len() as u64, captured.original_len)?;
+    show_file(output, arrival.file)?;
+    show_time(output, clock, arrival.when)?;
+    show_link(output, arrival.record.link_type)?;
+    show_lengths(
+        output,
+        arrival.octets.len() as u64,
+        arrival.record.original_len,
+    )?;
     show_path(output, headers)?;
     field(output, Form::Json, "kind", headers.content.kind().name())
+}
+
+/// Prints the name of the file, where it is to be told.
+pub(crate) fn show_file<W: Write>(output: &mut W, file: Option<&str>) -> io::Result<()>
+    ensures { OnOk result (Prints Form.Json (W.contents output.old) (W.contents output.new)
+        (file_items (option_map (λ name. name.now) file.entry))) }
+{
+    match file {
+        Some(name) => field(output, Form::Json, "file", name),
+        None => Ok(()),
+    }
 }
 
 // Prints the time at which the packet was captured.

@@ -7,6 +7,7 @@ ghost use Rattle.dump_captures.specs.Sight.{headers_of};
 use crate::host::{Host, has_host};
 use crate::kind::KINDS;
 use crate::owners::has_name;
+use crate::ports::Ports;
 use crate::sight::Headers;
 use packet_fields::Form;
 use record_wire::Name;
@@ -48,6 +49,8 @@ impl Only {
 pub enum TimeForm {
     /// As RFC 3339 writes it, in UTC.
     Utc,
+    /// The time of day, in UTC, with milliseconds.
+    Clock,
     /// The seconds since the first packet of the file.
     Relative,
     /// The seconds since the packet that was printed before.
@@ -71,10 +74,18 @@ pub struct Options {
     pub prints: bool,
     /// The form in which they are printed.
     pub form: Form,
-    /// The form of their times.
-    pub time_form: TimeForm,
+    /// Whether in lines each is printed on a line.
+    pub is_brief: bool,
+    /// Whether in lines each has its link addresses, its length, and the hops that are left.
+    pub is_verbose: bool,
+    /// The form of their times; None for the usual one.
+    pub time_form: Option<TimeForm>,
     /// Whether a message whose checksum is wrong is refused.
     pub is_strict: bool,
+    /// Whether answers are told, and the questions that got none.
+    pub pairs: bool,
+    /// The ports that are given to services beside their own.
+    pub ports: Ports,
 }
 
 impl Options {
@@ -86,8 +97,12 @@ impl Options {
         most: None,
         prints: true,
         form: Form::Lines,
-        time_form: TimeForm::Utc,
+        is_brief: false,
+        is_verbose: false,
+        time_form: None,
         is_strict: false,
+        pairs: false,
+        ports: Ports::NONE,
     };
 
     /// Whether a control packet is chosen.

@@ -1,48 +1,37 @@
 //! The packets of a capture, in one pass.
 
-ghost use Rattle.std.specs.Prelude.{◌≡◌, ◌<◌, ◌-◌, ◌^◌, length, List, Option, [], IfOk, IfSome, OnOk};
+ghost use Rattle.std.specs.Prelude.{◌≡◌, ◌-◌, length, [], IfOk, IfSome, OnOk};
 ghost use Rattle.std.specs.Option.{option_map};
-ghost use Rattle.capture.specs.Capture.{packet_of};
 ghost use Rattle.std.specs.Io.Buffered.{reader_remaining};
 ghost use Rattle.packet_fields.specs.Output.{Gains, GainsSome};
-ghost use Rattle.packet_fields.specs.Fields.{Item};
 ghost use Rattle.frame_wire.specs.TcpPrefixed.{messages_of};
 ghost use Rattle.reassembly.specs.Fragment.{value_of};
 ghost use Rattle.reassembly.specs.Partial.{whole_of};
-ghost use Rattle.reassembly.specs.Reassembly.{state_of};
-ghost use Rattle.dump_captures.specs.Dump.{CapturePrints, ControlPrints, FragmentAdds, InputPrints, PacketPrints};
-ghost use Rattle.dump_captures.specs.Dump.{EachPrints, HeadersPrint, SightPrints, WholePrints, joined_outcome, outcome_of};
-ghost use Rattle.dump_captures.specs.Content.{content_of, kind_in};
-ghost use Rattle.dump_captures.specs.Moments.{when_text};
-ghost use Rattle.dump_captures.specs.Messages.{ListingIs};
+ghost use Rattle.dump_captures.specs.Arrival.{arrival_of};
+ghost use Rattle.dump_captures.specs.Dump.{CapturePrints, FragmentAdds, InputPrints, PacketPrints, ReadPrints};
+ghost use Rattle.dump_captures.specs.Dump.{EachPrints, SightPrints, WholePrints, joined_outcome, nothing_kept};
+ghost use Rattle.dump_captures.specs.Fragments.{refused_fragment};
 ghost use Rattle.dump_captures.specs.Path.{path_of};
-ghost use Rattle.dump_captures.specs.private.Objects.{object_front};
-ghost use Rattle.dump_captures.specs.Sight.{headers_of, sight_of, stream_of};
+ghost use Rattle.dump_captures.specs.Sight.{sight_of, stream_of};
 ghost use Rattle.dump_captures.specs.Tally.{tally_of, empty};
-ghost use Rattle.dump_captures.specs.declared.kind.Reason.{Reason as AnyReason};
 ghost use Rattle.dump_captures.specs.declared.tally.Outcome.TheVariants.{Passed};
+ghost use Rattle.dump_captures.specs.private.Kept.{kept_of, questions_of};
 
 use crate::Fault;
+use crate::arrival::Arrival;
 use crate::fragments::{look_at_joined, refused_fragment};
-use crate::heading::show_heading;
-use crate::kind::{Kind, Reason};
-use crate::members::show_members;
-use crate::messages::show_listing;
 use crate::options::Options;
+use crate::pairing::{Session, show_unanswered};
 use crate::path::Path;
+use crate::printed::show_control;
 use crate::progress::Progress;
 use crate::refusal::Refusal;
-use crate::sight::{Finding, Headers, Segment, Sight, look, protocol_category};
+use crate::sight::{Finding, Segment, Sight, look, protocol_category};
 use crate::stop::Stop;
 use crate::tally::{Counted, Outcome, Tally};
-use crate::time::Clock;
-use crate::when::When;
-use capture::{Capture, Ending, Next, Record};
-use packet_fields::Form;
-use packet_fields::value::{Value, put_string};
+use capture::{Capture, Ending, Next};
 use reassembly::{Answer, Fragment, Reassembly, Whole};
 use std::alloc::Global;
-use std::io;
 use std::io::{BufReader, BufWriter, Read, Write};
 
 // The bytes of the buffers of input and output.
@@ -99,28 +88,29 @@ pub fn dump<R: Read + Drop, W: Write>(
         GainsSome (W.contents output.old) (W.contents output.new) (λ text.
         CapturePrints options.now bytes (tally_of tally.old) text (tally_of tally.new) ending))) }
 {
-    match dump_readable(alloc, options, input, output, tally)? {
+    match dump_readable(alloc, options, None, input, output, tally)? {
         Stop::Ended(ending) => Ok(Some(ending)),
         Stop::Enough => Ok(None),
         Stop::Unread => Err(Fault::Read),
     }
 }
 
-/// Dumps as far as the input can be read, or as is asked for.
+/// Dumps as far as the input can be read, or as is asked for. Objects of JSON have the name of the file, if there is one.
 pub fn dump_readable<R: Read + Drop, W: Write>(
     alloc: Global,
     options: &Options,
+    file: Option<&str>,
     input: R,
     output: &mut W,
     tally: &mut Tally,
 ) -> Result<Stop, Fault>
     ensures { IfOk result (λ stop. GainsSome (W.contents output.old) (W.contents output.new) (λ text.
-        InputPrints options.now (R.remaining input) (tally_of tally.old) text (tally_of tally.new) stop)) }
+        InputPrints options.now (option_map (λ name. name.now) file.entry) (R.remaining input) (tally_of tally.old) text (tally_of tally.new) stop)) }
 {
     let Ok(mut input) = BufReader::with_capacity(alloc, BUFFER_LEN, input) else {
         return Err(Fault::Memory);
     };
-    let answer = show_packets(alloc, options, &mut input, output, tally);
+    let answer = show_capture(alloc, options, file, &mut input, output, tally);
     let flushed = output.flush();
     let stop = answer?;
     if stop != Stop::Unread {
@@ -132,8 +122,30 @@ pub fn dump_readable<R: Read + Drop, W: Write>(
 // What is kept from packet to packet of a capture.
 #[derive(Drop)]
 struct Kept {
-    clock: Clock,
     fragments: Reassembly,
+    session: Session,
+}
+
+// Prints the packets, and then what got no answer, and returns where the reading stops.
+fn show_capture<R: Read, W: Write>(
+    alloc: Global,
+    options: &Options,
+    file: Option<&str>,
+    input: &mut BufReader<R>,
+    output: &mut W,
+    tally: &mut Tally,
+) -> Result<Stop, Fault>
+    ensures { IfOk result (λ stop. GainsSome (W.contents output.old) (W.contents output.new) (λ text.
+        InputPrints options.now (option_map (λ name. name.now) file.entry) (reader_remaining R.remaining input.old)
+        (tally_of tally.old) text (tally_of tally.new) stop)) }
+{
+    let mut kept = Kept {
+        fragments: Reassembly::new(alloc),
+        session: Session::new(alloc),
+    };
+    let stop = show_packets(alloc, options, file, input, output, &mut kept, tally)?;
+    show_unanswered(output, alloc, options, file, &kept.session)?;
+    Ok(stop)
 }
 
 // Prints the packets, and returns where the reading stops. What is printed is written out before the input is waited
@@ -141,19 +153,18 @@ struct Kept {
 fn show_packets<R: Read, W: Write>(
     alloc: Global,
     options: &Options,
+    file: Option<&str>,
     input: &mut BufReader<R>,
     output: &mut W,
+    kept: &mut Kept,
     tally: &mut Tally,
 ) -> Result<Stop, Fault>
+    requires { kept_of kept.old ≡ nothing_kept }
     ensures { IfOk result (λ stop. GainsSome (W.contents output.old) (W.contents output.new) (λ text.
-        InputPrints options.now (reader_remaining R.remaining input.old) (tally_of tally.old) text (tally_of tally.new)
-        stop)) }
+        ReadPrints options.now (option_map (λ name. name.now) file.entry) (reader_remaining R.remaining input.old)
+        (tally_of tally.old) text (tally_of tally.new) (questions_of kept.new.session) stop)) }
 {
     let mut capture = Capture::new(alloc);
-    let mut kept = Kept {
-        clock: Clock::new(),
-        fragments: Reassembly::new(alloc),
-    };
     let mut progress = Progress::new(options);
     'packets: for _ in 0..u64::MAX {
         if progress.is_enough() {
@@ -162,13 +173,15 @@ fn show_packets<R: Read, W: Write>(
         write_out_before_wait(&capture, input, output)?;
         match capture.next(input) {
             Ok(Next::Record(record)) => {
-                let octets = capture.octets();
-                let when = progress.when(record.time);
-                let counted = show_packet(
-                    options, output, alloc, &mut kept, when, &record, octets,
-                )?;
+                let arrival = Arrival {
+                    file,
+                    record: &record,
+                    octets: capture.octets(),
+                    when: progress.when(record.time),
+                };
+                let counted = show_packet(options, output, alloc, kept, &arrival)?;
                 progress.pass(record.time, counted.outcome);
-                tally.count(counted, record.link_type, octets.len() as u64);
+                tally.count(counted, record.link_type, arrival.octets.len() as u64);
             }
             Ok(Next::Ended(ending)) => return Ok(Stop::Ended(ending)),
             Err(capture::Fault::Read) => return Ok(Stop::Unread),
@@ -198,34 +211,19 @@ fn show_packet<W: Write>(
     output: &mut W,
     alloc: Global,
     kept: &mut Kept,
-    when: Option<When>,
-    captured: &Record,
-    octets: &[u8],
+    arrival: &Arrival<'_>,
 ) -> Result<Counted, Fault>
     ensures { IfOk result (λ counted. GainsSome (W.contents output.old) (W.contents output.new) (λ text.
-        PacketPrints options.now captured.now.number (option_map when_text when) (packet_of captured.now octets.now)
-        (state_of kept.old.fragments)
-        text counted (state_of kept.new.fragments))) }
+        PacketPrints options.now (arrival_of arrival.now) (kept_of kept.old) text counted (kept_of kept.new))) }
 {
     // By reference: to move what was found costs a run of the program 3 % of its instructions.
-    match &look(captured, octets) {
+    match &look(&options.ports, arrival.record, arrival.octets) {
         Finding::Sight(sight) => {
-            let outcome = show_sight(
-                options,
-                output,
-                alloc,
-                &mut kept.clock,
-                when,
-                captured,
-                octets,
-                sight,
-            )?;
+            let outcome = show_sight(options, output, alloc, &mut kept.session, arrival, sight)?;
             Ok(Counted::alone(outcome))
         }
         Finding::Fragment(path, fragment) => {
-            let counted = show_fragment(
-                options, output, alloc, kept, when, captured, octets, path, fragment,
-            )?;
+            let counted = show_fragment(options, output, alloc, kept, arrival, path, fragment)?;
             Ok(counted)
         }
     }
@@ -238,39 +236,55 @@ fn show_fragment<W: Write>(
     output: &mut W,
     alloc: Global,
     kept: &mut Kept,
-    when: Option<When>,
-    captured: &Record,
-    octets: &[u8],
+    arrival: &Arrival<'_>,
     path: &Path<'_>,
     fragment: &Fragment<'_>,
 ) -> Result<Counted, Fault>
     ensures { IfOk result (λ counted. GainsSome (W.contents output.old) (W.contents output.new) (λ text.
-        FragmentAdds options.now captured.now.number (option_map when_text when) (packet_of captured.now octets.now)
-        (path_of path.now)
-        (value_of fragment.now) (state_of kept.old.fragments) text counted (state_of kept.new.fragments))) }
+        FragmentAdds options.now (arrival_of arrival.now) (path_of path.now) (value_of fragment.now) (kept_of kept.old)
+        text counted (kept_of kept.new))) }
 {
-    let Ok(answer) = kept.fragments.add(alloc, captured.number, fragment) else {
+    let number = arrival.record.number;
+    let Ok(answer) = kept.fragments.add(alloc, number, fragment) else {
         return Err(Fault::Memory);
     };
-    let clock = &mut kept.clock;
+    let session = &mut kept.session;
     match &answer {
         Answer::Incomplete(_) => Ok(Counted::alone(Outcome::Kept(protocol_category(
             fragment.protocol,
         )))),
         Answer::Refused(refusal) => {
-            let sight = refused_fragment(path, fragment, Refusal::Fragment(*refusal));
-            let outcome = show_sight(
-                options, output, alloc, clock, when, captured, octets, &sight,
+            let refusal = Refusal::Fragment(*refusal);
+            let outcome = show_refused(
+                options, output, alloc, session, arrival, path, fragment, refusal,
             )?;
             Ok(Counted::alone(outcome))
         }
         Answer::Whole(whole) => {
-            let counted = show_whole(
-                options, output, alloc, clock, when, captured, octets, path, whole,
-            )?;
+            let counted = show_whole(options, output, alloc, session, arrival, path, whole)?;
             Ok(counted)
         }
     }
+}
+
+// Prints why a fragment is refused.
+fn show_refused<W: Write>(
+    options: &Options,
+    output: &mut W,
+    alloc: Global,
+    session: &mut Session,
+    arrival: &Arrival<'_>,
+    path: &Path<'_>,
+    fragment: &Fragment<'_>,
+    refusal: Refusal,
+) -> Result<Outcome, Fault>
+    ensures { IfOk result (λ outcome. GainsSome (W.contents output.old) (W.contents output.new) (λ text.
+        SightPrints options.now (arrival_of arrival.now)
+        (refused_fragment options.now.ports (path_of path.now) (value_of fragment.now) refusal)
+        (questions_of session.old) text outcome (questions_of session.new))) }
+{
+    let sight = refused_fragment(&options.ports, path, fragment, refusal);
+    show_sight(options, output, alloc, session, arrival, &sight)
 }
 
 // Prints a datagram that was put together with a packet.
@@ -278,27 +292,22 @@ fn show_whole<W: Write>(
     options: &Options,
     output: &mut W,
     alloc: Global,
-    clock: &mut Clock,
-    when: Option<When>,
-    captured: &Record,
-    octets: &[u8],
+    session: &mut Session,
+    arrival: &Arrival<'_>,
     path: &Path<'_>,
     whole: &Whole,
 ) -> Result<Counted, Fault>
     ensures { IfOk result (λ counted. GainsSome (W.contents output.old) (W.contents output.new) (λ text.
-        WholePrints options.now captured.now.number (option_map when_text when) (packet_of captured.now octets.now)
-        (path_of path.now)
-        (whole_of whole.now) text counted)) }
+        WholePrints options.now (arrival_of arrival.now) (path_of path.now) (whole_of whole.now)
+        (questions_of session.old) text counted (questions_of session.new))) }
 {
     let path = Path {
         tags: path.tags,
         tunnels: path.tunnels,
         frames: whole.numbers.as_slice(),
     };
-    let sight = look_at_joined(captured, octets, &path, whole);
-    let outcome = show_sight(
-        options, output, alloc, clock, when, captured, octets, &sight,
-    )?;
+    let sight = look_at_joined(&options.ports, arrival.record, arrival.octets, &path, whole);
+    let outcome = show_sight(options, output, alloc, session, arrival, &sight)?;
     Ok(Counted {
         outcome,
         joined: all_but_one(whole.numbers.as_slice()),
@@ -317,29 +326,19 @@ fn show_sight<W: Write>(
     options: &Options,
     output: &mut W,
     alloc: Global,
-    clock: &mut Clock,
-    when: Option<When>,
-    captured: &Record,
-    octets: &[u8],
+    session: &mut Session,
+    arrival: &Arrival<'_>,
     sight: &Sight<'_>,
 ) -> Result<Outcome, Fault>
     ensures { IfOk result (λ outcome. GainsSome (W.contents output.old) (W.contents output.new) (λ text.
-        SightPrints options.now captured.now.number (option_map when_text when) (packet_of captured.now octets.now)
-        (sight_of sight.now) text outcome)) }
+        SightPrints options.now (arrival_of arrival.now) (sight_of sight.now) (questions_of session.old) text outcome
+        (questions_of session.new))) }
 {
     match sight {
         Sight::Unread => Ok(Outcome::Unread),
         Sight::Other(category) => Ok(Outcome::Other(*category)),
-        Sight::Control(headers) => {
-            show_control(
-                options, output, alloc, clock, when, captured, octets, headers,
-            )
-        }
-        Sight::Segment(segment) => {
-            show_segment(
-                options, output, alloc, clock, when, captured, octets, segment,
-            )
-        }
+        Sight::Control(headers) => show_control(options, output, alloc, session, arrival, headers),
+        Sight::Segment(segment) => show_segment(options, output, alloc, session, arrival, segment),
     }
 }
 
@@ -349,23 +348,19 @@ fn show_segment<W: Write>(
     options: &Options,
     output: &mut W,
     alloc: Global,
-    clock: &mut Clock,
-    when: Option<When>,
-    captured: &Record,
-    octets: &[u8],
+    session: &mut Session,
+    arrival: &Arrival<'_>,
     segment: &Segment<'_>,
 ) -> Result<Outcome, Fault>
     ensures { IfOk result (λ outcome. GainsSome (W.contents output.old) (W.contents output.new) (λ text.
-        EachPrints options.now captured.now.number (option_map when_text when) (packet_of captured.now octets.now)
-        (stream_of segment.now) Passed (messages_of segment.now.messages) text outcome)) }
+        EachPrints options.now (arrival_of arrival.now) (stream_of segment.now) Passed (questions_of session.old)
+        (messages_of segment.now.messages) text outcome (questions_of session.new))) }
 {
     let mut messages = segment.messages.messages();
     let mut outcome = Outcome::Passed;
     while let Some(message) = messages.next() {
         let headers = segment.headers(message);
-        let own = show_control(
-            options, output, alloc, clock, when, captured, octets, &headers,
-        )?;
+        let own = show_control(options, output, alloc, session, arrival, &headers)?;
         outcome = joined_outcome(outcome, own);
     }
     Ok(outcome)
@@ -379,133 +374,5 @@ fn joined_outcome(so_far: Outcome, next: Outcome) -> Outcome
         (Outcome::Passed, next) => next,
         (Outcome::Listed(_), Outcome::Refused(kind, reason)) => Outcome::Refused(kind, reason),
         (so_far, _) => so_far,
-    }
-}
-
-// Prints a control packet that has these headers. Never inlined: a part of `show_packet` it costs a run of the program
-// 0.7 % of its instructions.
-#[inline(never)]
-fn show_control<W: Write>(
-    options: &Options,
-    output: &mut W,
-    alloc: Global,
-    clock: &mut Clock,
-    when: Option<When>,
-    captured: &Record,
-    octets: &[u8],
-    headers: &Headers<'_>,
-) -> Result<Outcome, Fault>
-    ensures { IfOk result (λ outcome. GainsSome (W.contents output.old) (W.contents output.new) (λ text.
-        HeadersPrint options.now captured.now.number (option_map when_text when) (packet_of captured.now octets.now)
-        (headers_of headers.now) text outcome)) }
-{
-    if !options.chooses(headers) {
-        return Ok(Outcome::Passed);
-    }
-    if !options.prints {
-        return count_alone(options, alloc, headers);
-    }
-    let why = show_chosen(
-        options, output, alloc, clock, when, captured, octets, headers,
-    )?;
-    Ok(outcome(headers.content.kind(), why))
-}
-
-// Prints a control packet in the form that is asked for.
-fn show_chosen<W: Write>(
-    options: &Options,
-    output: &mut W,
-    alloc: Global,
-    clock: &mut Clock,
-    when: Option<When>,
-    captured: &Record,
-    octets: &[u8],
-    headers: &Headers<'_>,
-) -> Result<Option<Reason>, Fault>
-    ensures { IfOk result (λ why. GainsSome (W.contents output.old) (W.contents output.new)
-        (ControlPrints options.now captured.now.number (option_map when_text when) (packet_of captured.now octets.now)
-        (headers_of headers.now) why)) }
-{
-    match options.form {
-        Form::Lines => show_lines(
-            options, output, alloc, clock, when, captured, octets, headers,
-        ),
-        Form::Json => show_object(
-            options, output, alloc, clock, when, captured, octets, headers,
-        ),
-    }
-}
-
-// Prints a control packet in lines.
-fn show_lines<W: Write>(
-    options: &Options,
-    output: &mut W,
-    alloc: Global,
-    clock: &mut Clock,
-    when: Option<When>,
-    captured: &Record,
-    octets: &[u8],
-    headers: &Headers<'_>,
-) -> Result<Option<Reason>, Fault>
-    requires { options.now.form ≡ Form.Lines }
-    ensures { IfOk result (λ why. GainsSome (W.contents output.old) (W.contents output.new)
-        (ControlPrints options.now captured.now.number (option_map when_text when) (packet_of captured.now octets.now)
-        (headers_of headers.now) why)) }
-{
-    show_heading(output, clock, when, captured.number, headers)?;
-    show_listing(options, output, alloc, headers)
-}
-
-// Prints a control packet as an object of JSON, on a line.
-fn show_object<W: Write>(
-    options: &Options,
-    output: &mut W,
-    alloc: Global,
-    clock: &mut Clock,
-    when: Option<When>,
-    captured: &Record,
-    octets: &[u8],
-    headers: &Headers<'_>,
-) -> Result<Option<Reason>, Fault>
-    requires { options.now.form ≡ Form.Json }
-    ensures { IfOk result (λ why. GainsSome (W.contents output.old) (W.contents output.new)
-        (ControlPrints options.now captured.now.number (option_map when_text when) (packet_of captured.now octets.now)
-        (headers_of headers.now) why)) }
-{
-    open_object(output, captured.number)?;
-    show_members(output, clock, when, captured, octets, headers)?;
-    let why = show_listing(options, output, alloc, headers)?;
-    output.write_all(b"}\n")?;
-    Ok(why)
-}
-
-// Prints the front of an object, up to its first member, the packet's number.
-fn open_object<W: Write>(output: &mut W, number: u64) -> io::Result<()>
-    ensures text { OnOk result (Gains (W.contents output.old) (W.contents output.new) (object_front number)) }
-    ensures fits { number < 2 ^ 64 }
-{
-    output.write_all(b"{")?;
-    put_string(output, "number")?;
-    output.write_all(b":")?;
-    number.put(output, Form::Json)
-}
-
-// Reads a control packet that is only counted.
-fn count_alone(options: &Options, alloc: Global, headers: &Headers<'_>) -> Result<Outcome, Fault>
-    ensures { IfOk result (λ outcome. (items : List Item) × (why : Option AnyReason)
-        × ListingIs options.now (headers_of headers.now) items why × (outcome
-        ≡ outcome_of (kind_in (content_of headers.now.content)) why)) }
-{
-    let why = show_listing(options, &mut io::sink(), alloc, headers)?;
-    Ok(outcome(headers.content.kind(), why))
-}
-
-// The outcome for a control packet.
-fn outcome(kind: Kind, why: Option<Reason>) -> Outcome
-    ensures { result ≡ outcome_of kind why }
-{
-    match why {
-        Some(reason) => Outcome::Refused(kind, reason),
-        None => Outcome::Listed(kind),
     }
 }

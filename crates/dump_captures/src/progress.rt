@@ -3,7 +3,8 @@
 ghost use Rattle.std.specs.Prelude.{◌≡◌, ◌<◌, ◌-◌, IfSome};
 ghost use Rattle.std.specs.Option.{option_map};
 ghost use Rattle.capture.specs.Time.{value_of};
-ghost use Rattle.dump_captures.specs.Progress.{after, begin, is_enough, is_taken, nanos_in, progress_of, time_in};
+ghost use Rattle.dump_captures.specs.Progress.{after, begin, is_enough, is_taken, nanos_in, progress_of, time_form};
+ghost use Rattle.dump_captures.specs.Progress.{time_in};
 ghost use Rattle.dump_captures.specs.Moments.{nanos_of, when_text};
 
 use crate::moment::Moment;
@@ -29,7 +30,7 @@ impl Progress {
         ensures { progress_of result ≡ begin options.now }
     {
         Progress {
-            form: options.time_form,
+            form: time_form(options),
             left: options.most,
             first: None,
             last: None,
@@ -54,7 +55,7 @@ impl Progress {
         let from = match self.form {
             TimeForm::Relative => self.first.unwrap_or(time),
             TimeForm::Delta => self.last.unwrap_or(time),
-            TimeForm::Utc | TimeForm::Epoch => time,
+            TimeForm::Utc | TimeForm::Clock | TimeForm::Epoch => time,
         };
         Some(When {
             form: self.form,
@@ -76,6 +77,18 @@ impl Progress {
             self.left = one_less(self.left);
         }
     }
+}
+
+// The form of times.
+fn time_form(options: &Options) -> TimeForm
+    ensures { result ≡ time_form options.now }
+{
+    let usual = if options.is_brief {
+        TimeForm::Clock
+    } else {
+        TimeForm::Utc
+    };
+    options.time_form.unwrap_or(usual)
 }
 
 // The moment of a time.

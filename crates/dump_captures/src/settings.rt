@@ -20,6 +20,8 @@ pub enum Setting {
     Name,
     /// `--time`: how times are printed.
     Time,
+    /// `--port`: another port of a service.
+    Port,
 }
 
 impl Setting {
@@ -31,6 +33,7 @@ impl Setting {
             Setting::Host => "--host",
             Setting::Name => "--name",
             Setting::Time => "--time",
+            Setting::Port => "--port",
         }
     }
 
@@ -41,7 +44,8 @@ impl Setting {
             Setting::Most => "a number of packets from 1 on",
             Setting::Host => "an IPv4 or IPv6 address, or ADDRESS/BITS",
             Setting::Name => "a DNS name",
-            Setting::Time => "utc, relative, delta or epoch",
+            Setting::Time => "utc, clock, relative, delta or epoch",
+            Setting::Port => "KIND=PORT of dns, mdns, llmnr, nbns or dhcp, as dns=5300",
         }
     }
 }
@@ -56,6 +60,7 @@ pub fn setting_of(option: &str) -> Option<Setting>
         "--host" => Some(Setting::Host),
         "--name" => Some(Setting::Name),
         "--time" => Some(Setting::Time),
+        "--port" => Some(Setting::Port),
         _ => None,
     }
 }
@@ -111,6 +116,7 @@ pub fn time_form_in(text: &str) -> Option<TimeForm>
 {
     match text {
         "utc" => Some(TimeForm::Utc),
+        "clock" => Some(TimeForm::Clock),
         "relative" => Some(TimeForm::Relative),
         "delta" => Some(TimeForm::Delta),
         "epoch" => Some(TimeForm::Epoch),

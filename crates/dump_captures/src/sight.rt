@@ -10,8 +10,9 @@ ghost use Rattle.frame_wire.specs.Link.{value_of as frame_of};
 ghost use Rattle.dump_captures.specs.Path.{path_of};
 ghost use Rattle.dump_captures.specs.Place.{place_of, step_of};
 ghost use Rattle.dump_captures.specs.Content.{content_of};
-ghost use Rattle.dump_captures.specs.Sight.{sight_of, finding_of, headers_of, stream_headers, stream_of, datagram_sight, is_cut, untold, protocol_category, network_category};
-ghost use Rattle.dump_captures.specs.Sight.{front_content, told, told_front, head_of, ports_behind};
+ghost use Rattle.dump_captures.specs.Sight.{sight_of, finding_of, headers_of, stream_headers, stream_of};
+ghost use Rattle.dump_captures.specs.Sight.{datagram_sight, is_cut, untold, protocol_category, network_category};
+ghost use Rattle.dump_captures.specs.Sight.{front_content, hop_limit_in, told, told_front, head_of, ports_behind};
 ghost use Rattle.dump_captures.specs.Sight.{HasBadHeader, IsRefused4, IsRefused6, IsSight4, IsSight6, IsEndSight};
 ghost use Rattle.dump_captures.specs.Sight.{IsFrameSight, IsSight, IsWhole};
 
@@ -20,6 +21,7 @@ use crate::counts::Category;
 use crate::kind::{Kind, Reason};
 use crate::path::{Path, Tunnels};
 use crate::place::{Place, Step, Version, follow, packet_in};
+use crate::ports::Ports;
 use crate::refusal::Refusal;
 use capture::Record;
 use frame_wire::tcp::Prefixed;
@@ -60,6 +62,8 @@ pub struct Headers<'a> {
     pub addresses: Option<Addresses>,
     /// The ports of the source and the destination, where there are any.
     pub ports: Option<(u16, u16)>,
+    /// The hops that are left, where the datagram came whole.
+    pub hop_limit: Option<u8>,
     /// The hop-by-hop options, where there are any.
     pub hop_by_hop: Option<&'a [u8]>,
     /// Whether the checksum of the IPv4 header is wrong.
@@ -92,6 +96,7 @@ impl<'a> Segment<'a> {
             path: self.path,
             addresses: Some(datagram.addresses),
             ports: ports_of(datagram.protocol, datagram.payload),
+            hop_limit: hop_limit_of(&self.path, datagram),
             hop_by_hop: datagram.hop_by_hop,
             is_header_bad: self.is_header_bad,
             content: Content::Whole(message),
@@ -99,15 +104,15 @@ impl<'a> Segment<'a> {
     }
 }
 
-/// What a packet leads to, of which the capture has these octets.
-pub fn look<'a>(captured: &Record, octets: &'a [u8]) -> Finding<'a>
-    ensures { IsSight (packet_of captured.now octets.now) (finding_of result) }
+/// What a packet leads to, of which the capture has these octets, where these ports are given.
+pub fn look<'a>(given: &Ports, captured: &Record, octets: &'a [u8]) -> Finding<'a>
+    ensures { IsSight given.now (packet_of captured.now octets.now) (finding_of result) }
 {
     let Some(link) = Link::of(captured.link_type) else {
         return Finding::Sight(Sight::Unread);
     };
     match link.frame_or_refusal(octets) {
-        Ok(frame) => look_into(captured, octets, link, &frame),
+        Ok(frame) => look_into(given, captured, octets, link, &frame),
         Err(refusal) => {
             let refusal = Refusal::Frame(refusal);
             let reason = refusal.reason(is_cut(captured, octets));
@@ -124,8 +129,15 @@ const NO_PATH: Path<'static> = Path {
 };
 
 // What a frame leads to.
-fn look_into<'a>(captured: &Record, octets: &[u8], link: Link, frame: &Frame<'a>) -> Finding<'a>
-    ensures { IsFrameSight (packet_of captured.now octets.now) link (frame_of frame.now) (finding_of result) }
+fn look_into<'a>(
+    given: &Ports,
+    captured: &Record,
+    octets: &[u8],
+    link: Link,
+    frame: &Frame<'a>,
+) -> Finding<'a>
+    ensures { IsFrameSight given.now (packet_of captured.now octets.now) link (frame_of frame.now)
+        (finding_of result) }
 {
     let path = Path {
         tags: frame.tags,
@@ -134,31 +146,38 @@ fn look_into<'a>(captured: &Record, octets: &[u8], link: Link, frame: &Frame<'a>
     };
     match packet_in(path, frame.network, frame.payload) {
         Step::Other(number) => Finding::Sight(Sight::Other(network_category(link, number))),
-        Step::Datagram(place) => look_at_end(captured, octets, &follow(Step::Datagram(place))),
+        Step::Datagram(place) => {
+            look_at_end(given, captured, octets, &follow(Step::Datagram(place)))
+        }
     }
 }
 
 /// What there is where the tunnels end.
-pub fn look_at_end<'a>(captured: &Record, octets: &[u8], end: &Step<'a>) -> Finding<'a>
-    ensures { IsEndSight (packet_of captured.now octets.now) (step_of end.now) (finding_of result) }
+pub fn look_at_end<'a>(
+    given: &Ports,
+    captured: &Record,
+    octets: &[u8],
+    end: &Step<'a>,
+) -> Finding<'a>
+    ensures { IsEndSight given.now (packet_of captured.now octets.now) (step_of end.now) (finding_of result) }
 {
     match end {
         Step::Other(number) => Finding::Sight(Sight::Other(Category::EtherType(*number))),
         Step::Datagram(place) => match place.version {
-            Version::V4 => look_at_v4(captured, octets, place),
-            Version::V6 => look_at_v6(captured, octets, place),
+            Version::V4 => look_at_v4(given, captured, octets, place),
+            Version::V6 => look_at_v6(given, captured, octets, place),
         },
     }
 }
 
 // What an IPv4 datagram is.
-fn look_at_v4<'a>(captured: &Record, octets: &[u8], place: &Place<'a>) -> Finding<'a>
-    ensures { IsSight4 (packet_of captured.now octets.now) (place_of place.now) (finding_of result) }
+fn look_at_v4<'a>(given: &Ports, captured: &Record, octets: &[u8], place: &Place<'a>) -> Finding<'a>
+    ensures { IsSight4 given.now (packet_of captured.now octets.now) (place_of place.now) (finding_of result) }
 {
     let refusal = match Datagram::parse_v4(place.octets) {
         Ok(datagram) => {
             let is_bad = is_header_bad(place.octets);
-            return Finding::Sight(whole(&place.path, is_bad, &datagram));
+            return Finding::Sight(whole(given, &place.path, is_bad, &datagram));
         }
         Err(refusal) => Refusal::Datagram(refusal),
     };
@@ -166,22 +185,22 @@ fn look_at_v4<'a>(captured: &Record, octets: &[u8], place: &Place<'a>) -> Findin
         return Finding::Fragment(place.path, fragment);
     }
     let reason = refusal.reason(is_cut(captured, octets));
-    Finding::Sight(refused_v4(&place.path, place.octets, reason, refusal))
+    Finding::Sight(refused_v4(given, &place.path, place.octets, reason, refusal))
 }
 
 // What an IPv6 datagram is.
-fn look_at_v6<'a>(captured: &Record, octets: &[u8], place: &Place<'a>) -> Finding<'a>
-    ensures { IsSight6 (packet_of captured.now octets.now) (place_of place.now) (finding_of result) }
+fn look_at_v6<'a>(given: &Ports, captured: &Record, octets: &[u8], place: &Place<'a>) -> Finding<'a>
+    ensures { IsSight6 given.now (packet_of captured.now octets.now) (place_of place.now) (finding_of result) }
 {
     let refusal = match Datagram::parse_v6(place.octets) {
-        Ok(datagram) => return Finding::Sight(whole(&place.path, false, &datagram)),
+        Ok(datagram) => return Finding::Sight(whole(given, &place.path, false, &datagram)),
         Err(refusal) => Refusal::Datagram(refusal),
     };
     if let Some(fragment) = Fragment::parse_v6(place.octets) {
         return Finding::Fragment(place.path, fragment);
     }
     let reason = refusal.reason(is_cut(captured, octets));
-    Finding::Sight(refused_v6(&place.path, place.octets, reason, refusal))
+    Finding::Sight(refused_v6(given, &place.path, place.octets, reason, refusal))
 }
 
 // The bytes of an IPv4 header without options.
@@ -216,37 +235,59 @@ fn network_category(link: Link, number: u16) -> Category
 }
 
 /// What a whole datagram tells, of which the checksum of the IPv4 header may be wrong.
-pub fn whole<'a>(path: &Path<'a>, is_header_bad: bool, datagram: &Datagram<'a>) -> Sight<'a>
-    ensures { IsWhole (path_of path.now) is_header_bad (datagram_of datagram.now) (sight_of result) }
+pub fn whole<'a>(
+    given: &Ports,
+    path: &Path<'a>,
+    is_header_bad: bool,
+    datagram: &Datagram<'a>,
+) -> Sight<'a>
+    ensures { IsWhole given.now (path_of path.now) is_header_bad (datagram_of datagram.now) (sight_of result) }
 {
-    match messages_over_tcp(datagram) {
+    match messages_over_tcp(given, datagram) {
         Some(messages) => Sight::Segment(Segment {
             path: *path,
             is_header_bad,
             datagram: *datagram,
             messages,
         }),
-        None => by_protocol(path, is_header_bad, datagram),
+        None => by_protocol(given, path, is_header_bad, datagram),
     }
 }
 
 // What a datagram tells by its protocol.
-fn by_protocol<'a>(path: &Path<'a>, is_header_bad: bool, datagram: &Datagram<'a>) -> Sight<'a>
-    ensures { sight_of result ≡ datagram_sight (path_of path.now) is_header_bad (datagram_of datagram.now) }
+fn by_protocol<'a>(
+    given: &Ports,
+    path: &Path<'a>,
+    is_header_bad: bool,
+    datagram: &Datagram<'a>,
+) -> Sight<'a>
+    ensures { sight_of result ≡ datagram_sight given.now (path_of path.now) is_header_bad (datagram_of
+        datagram.now) }
 {
     let (protocol, payload) = (datagram.protocol, datagram.payload);
     let ports = ports_of(protocol, payload);
-    let Some(content) = content_by(&datagram.addresses, protocol, ports, payload) else {
+    let Some(content) = content_by(given, &datagram.addresses, protocol, ports, payload) else {
         return Sight::Other(protocol_category(protocol));
     };
     Sight::Control(Headers {
         path: *path,
         addresses: Some(datagram.addresses),
         ports,
+        hop_limit: hop_limit_of(path, datagram),
         hop_by_hop: datagram.hop_by_hop,
         is_header_bad,
         content,
     })
+}
+
+// The hops that are left of a datagram on this way. Fragments may differ in it.
+fn hop_limit_of(path: &Path<'_>, datagram: &Datagram<'_>) -> Option<u8>
+    ensures { result ≡ hop_limit_in (path_of path.now) (datagram_of datagram.now) }
+{
+    if path.frames.is_empty() {
+        return Some(datagram.hop_limit);
+    }
+    None
 }
 
 /// Whether the capture kept only a part of a packet.
@@ -264,6 +305,7 @@ fn untold(path: Path<'_>, reason: Reason, refusal: Refusal) -> Sight<'_>
         path,
         addresses: None,
         ports: None,
+        hop_limit: None,
         hop_by_hop: None,
         is_header_bad: false,
         content: Content::Refused(Kind::Frame, reason, refusal),
@@ -272,6 +314,7 @@ fn untold(path: Path<'_>, reason: Reason, refusal: Refusal) -> Sight<'_>
 
 /// A refused datagram, of which this is known.
 pub fn told<'a>(
+    given: &Ports,
     path: &Path<'a>,
     addresses: Addresses,
     protocol: IpProtocol,
@@ -279,15 +322,16 @@ pub fn told<'a>(
     reason: Reason,
     refusal: Refusal,
 ) -> Sight<'a>
-    ensures { sight_of result ≡ told (path_of path.now) addresses protocol ports reason refusal }
+    ensures { sight_of result ≡ told given.now (path_of path.now) addresses protocol ports reason refusal }
 {
-    let Some(content) = content_by(&addresses, protocol, ports, &[]) else {
+    let Some(content) = content_by(given, &addresses, protocol, ports, &[]) else {
         return Sight::Other(protocol_category(protocol));
     };
     Sight::Control(Headers {
         path: *path,
         addresses: Some(addresses),
         ports,
+        hop_limit: None,
         hop_by_hop: None,
         is_header_bad: false,
         content: Content::Refused(content.kind(), reason, refusal),
@@ -296,24 +340,27 @@ pub fn told<'a>(
 
 // A refused datagram, of which the start is known: what is there of one that is cut.
 fn told_front<'a>(
+    given: &Ports,
     path: &Path<'a>,
     is_header_bad: bool,
     front: &Captured<'a>,
     reason: Reason,
     refusal: Refusal,
 ) -> Sight<'a>
-    ensures { sight_of result ≡ told_front (path_of path.now) is_header_bad (captured_of front.now) reason refusal }
+    ensures { sight_of result ≡ told_front given.now (path_of path.now) is_header_bad (captured_of front.now) reason
+        refusal }
 {
     let datagram = &front.datagram;
     let (protocol, payload) = (datagram.protocol, datagram.payload);
     let ports = ports_of(protocol, payload);
-    let Some(content) = content_by(&datagram.addresses, protocol, ports, payload) else {
+    let Some(content) = content_by(given, &datagram.addresses, protocol, ports, payload) else {
         return Sight::Other(protocol_category(protocol));
     };
     Sight::Control(Headers {
         path: *path,
         addresses: Some(datagram.addresses),
         ports,
+        hop_limit: hop_limit_of(path, datagram),
         hop_by_hop: datagram.hop_by_hop,
         is_header_bad,
         content: front_content(front.extent, reason, refusal, content),
@@ -338,15 +385,29 @@ fn front_content(
 }
 
 // What is known of a refused IPv4 datagram, as far as it was captured.
-fn refused_v4<'a>(path: &Path<'a>, octets: &'a [u8], reason: Reason, refusal: Refusal) -> Sight<'a>
-    ensures { IsRefused4 (path_of path.now) octets.now reason refusal (sight_of result) }
+fn refused_v4<'a>(
+    given: &Ports,
+    path: &Path<'a>,
+    octets: &'a [u8],
+    reason: Reason,
+    refusal: Refusal,
+) -> Sight<'a>
+    ensures { IsRefused4 given.now (path_of path.now) octets.now reason refusal (sight_of result) }
 {
     match Captured::parse_v4(octets) {
-        Ok(front) => told_front(path, is_header_bad(octets), &front, reason, refusal),
+        Ok(front) => told_front(given, path, is_header_bad(octets), &front, reason, refusal),
         Err(other) => match head_of(other) {
             Some(head) => {
                 let ports = ports_behind(octets, &head);
-                told(path, head.addresses, head.protocol, ports, reason, refusal)
+                told(
+                    given,
+                    path,
+                    head.addresses,
+                    head.protocol,
+                    ports,
+                    reason,
+                    refusal,
+                )
             }
             None => untold(*path, reason, refusal),
         },
@@ -376,13 +437,27 @@ fn behind_header(octets: &[u8]) -> &[u8]
 }
 
 // What is known of a refused IPv6 datagram, as far as it was captured.
-fn refused_v6<'a>(path: &Path<'a>, octets: &'a [u8], reason: Reason, refusal: Refusal) -> Sight<'a>
-    ensures { IsRefused6 (path_of path.now) octets.now reason refusal (sight_of result) }
+fn refused_v6<'a>(
+    given: &Ports,
+    path: &Path<'a>,
+    octets: &'a [u8],
+    reason: Reason,
+    refusal: Refusal,
+) -> Sight<'a>
+    ensures { IsRefused6 given.now (path_of path.now) octets.now reason refusal (sight_of result) }
 {
     match Captured::parse_v6(octets) {
-        Ok(front) => told_front(path, false, &front, reason, refusal),
+        Ok(front) => told_front(given, path, false, &front, reason, refusal),
         Err(other) => match head_of(other) {
-            Some(head) => told(path, head.addresses, head.protocol, None, reason, refusal),
+            Some(head) => told(
+                given,
+                path,
+                head.addresses,
+                head.protocol,
+                None,
+                reason,
+                refusal,
+            ),
             None => untold(*path, reason, refusal),
         },
     }

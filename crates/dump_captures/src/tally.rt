@@ -1,7 +1,8 @@
 //! The number of packets of each kind in a capture, and their outcomes.
 
 ghost use Rattle.std.specs.Prelude.{◌≡◌};
-ghost use Rattle.dump_captures.specs.Tally.{tally_of, alone, counted as counted_in, empty, no_row, with_listed, with_refused};
+ghost use Rattle.dump_captures.specs.Tally.{tally_of, alone, counted as counted_in, empty, no_row, with_listed};
+ghost use Rattle.dump_captures.specs.Tally.{with_refused};
 
 use crate::counts::{Category, Counts};
 use crate::kind::{KINDS, Kind, REASONS, Reason};

@@ -6,7 +6,8 @@ ghost use Rattle.std.specs.Prelude.{◌≡◌, ◌+◌, ◌/◌, ◌%◌, ◌++�
 ghost use Rattle.capture.specs.Calendar.{date_of as date_after};
 ghost use Rattle.std.specs.Prelude.{IsAscii};
 ghost use Rattle.packet_fields.specs.Fields.{text};
-ghost use Rattle.dump_captures.specs.TimeText.{long_text, time_of_day_text, time_text};
+ghost use Rattle.wirebase.specs.Digits.{last_digits};
+ghost use Rattle.dump_captures.specs.TimeText.{long_text, milliseconds_text, time_of_day_text, time_text};
 ghost use Rattle.dump_captures.specs.private.Parts.{kept_text};
 
 use capture::calendar::{Date, date_of};
@@ -22,6 +23,9 @@ const DAY_SECONDS: u64 = 86_400;
 const DATE_LEN: usize = 10;
 
 const TIME_LEN: usize = 20;
+
+// The length of the text of a time of day with milliseconds.
+const CLOCK_LEN: usize = 12;
 
 /// Tells times, most of which are on the same day as the one before.
 #[derive(Drop)]
@@ -76,6 +80,54 @@ impl Clock {
             date: date_octets(date),
         }
     }
+}
+
+/// The text of a time of day with milliseconds, as `12:34:56.789`.
+#[derive(Debug, Clone, Copy)]
+pub struct ClockText {
+    octets: [u8; CLOCK_LEN],
+    ghost ascii: { IsAscii octets },
+}
+
+impl ClockText {
+    /// That of the time this many seconds and nanoseconds after 1970-01-01T00:00:00Z. Further digits are cut.
+    #[inline]
+    pub fn of(seconds: u64, nanoseconds: u32) -> ClockText
+        ensures { result.octets ≡ milliseconds_text seconds nanoseconds }
+    {
+        ClockText {
+            octets: clock_octets(seconds, nanoseconds),
+        }
+    }
+}
+
+impl Text for ClockText {
+    ghost text_of = { λ time. time.octets };
+
+    fn put_into<O, S: Sink<O>>(self, output: &mut O) -> Result<(), S::Error> {
+        S::put(output, &self.octets)
+    }
+}
+
+// Hours, minutes and seconds, and three digits of milliseconds.
+fn clock_octets(seconds: u64, nanoseconds: u32) -> [u8; CLOCK_LEN]
+    ensures { result ≡ milliseconds_text seconds nanoseconds }
+{
+    let [h1, h0] = two_digits(seconds / 60 / 60 % 24);
+    let [m1, m0] = two_digits(seconds / 60 % 60);
+    let [s1, s0] = two_digits(seconds % 60);
+    let [d2, d1, d0] = three_digits(u64::from(nanoseconds) / 1_000_000);
+    [h1, h0, b':', m1, m0, b':', s1, s0, b'.', d2, d1, d0]
+}
+
+fn three_digits(number: u64) -> [u8; 3]
+    ensures { result ≡ last_digits 3 number }
+{
+    [
+        last_digit(number / 10 / 10),
+        last_digit(number / 10),
+        last_digit(number),
+    ]
 }
 
 /// The text of a time.

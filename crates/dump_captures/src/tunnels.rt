@@ -6,7 +6,8 @@ ghost use Rattle.std.specs.Prelude.{◌≡◌, [], ◌∷◌, OnOk, codes, map};
 ghost use Rattle.packet_fields.specs.Fields.{entries as entries_item, entries_text, entry_text};
 ghost use Rattle.packet_fields.specs.Output.{Gains};
 ghost use Rattle.packet_fields.specs.Prints.{Prints};
-ghost use Rattle.dump_captures.specs.Heading.{ends_text, entry_between, tunnel_entry, tunnel_items, tunnel_name, tunnel_text};
+ghost use Rattle.dump_captures.specs.Heading.{ends_text, entry_between, tunnel_entry, tunnel_items, tunnel_name};
+ghost use Rattle.dump_captures.specs.Heading.{tunnel_text};
 ghost use Rattle.dump_captures.specs.Heading.{tunnels_text};
 ghost use Rattle.dump_captures.specs.Path.{tunnels_of};
 

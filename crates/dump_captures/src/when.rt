@@ -9,7 +9,7 @@ ghost use Rattle.dump_captures.specs.Moments.{nanos_of, span_text, when_text, wo
 
 use crate::moment::Moment;
 use crate::options::TimeForm;
-use crate::time::{Clock, TimeText};
+use crate::time::{Clock, ClockText, TimeText};
 use packet_fields::Form;
 use packet_fields::value::{Text, Value, put_text};
 use std::io;
@@ -32,6 +32,8 @@ pub struct When {
 pub enum TimeWord {
     /// In UTC.
     Utc(TimeText),
+    /// Of the day.
+    Clock(ClockText),
     /// In seconds.
     Seconds(Span),
 }
@@ -52,6 +54,7 @@ impl When {
         let time = self.time;
         match self.form {
             TimeForm::Utc => TimeWord::Utc(clock.time(time.seconds, time.nanoseconds)),
+            TimeForm::Clock => TimeWord::Clock(ClockText::of(time.seconds, time.nanoseconds)),
             TimeForm::Epoch => TimeWord::Seconds(Span {
                 is_negative: false,
                 len: time,
@@ -83,6 +86,7 @@ impl Text for TimeWord {
     fn put_into<O, S: Sink<O>>(self, output: &mut O) -> Result<(), S::Error> {
         match self {
             TimeWord::Utc(text) => text.put_into::<O, S>(output),
+            TimeWord::Clock(text) => text.put_into::<O, S>(output),
             TimeWord::Seconds(span) => span.put_into::<O, S>(output),
         }
     }

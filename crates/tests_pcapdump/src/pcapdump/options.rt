@@ -237,6 +237,15 @@ fn times_in_each_form(rt: HostRuntime) {
             ],
         ),
         (
+            TimeForm::Clock,
+            [
+                "12:35:06.000",
+                "12:35:04.000",
+                "12:35:04.000",
+                "12:36:11.000",
+            ],
+        ),
+        (
             TimeForm::Relative,
             [
                 "0.000000000",
@@ -269,7 +278,7 @@ fn times_in_each_form(rt: HostRuntime) {
     }
     for (time_form, times) in ROWS {
         let options = Options {
-            time_form: *time_form,
+            time_form: Some(*time_form),
             ..PRINTED
         };
         check_times(&rt, alloc, capture.as_slice(), &options, times);
@@ -294,7 +303,7 @@ fn times_since_packets_that_are_printed_or_not(rt: HostRuntime) {
     for (time_form, times) in ROWS {
         let options = Options {
             host: Host::read("::/0"),
-            time_form: *time_form,
+            time_form: Some(*time_form),
             ..PRINTED
         };
         check_times(&rt, alloc, capture.as_slice(), &options, times);

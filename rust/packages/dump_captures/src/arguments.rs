@@ -40,13 +40,17 @@ pub enum Wrong {
 }
 
 // The options, and the names of packets, for a word that is neither.
-const OPTIONS: [&str; 9] = [
+const OPTIONS: [&str; 13] = [
     "--only",
     "--host",
     "--name",
     "--time",
+    "--port",
     "--count",
     "--json",
+    "--brief",
+    "--pairs",
+    "--verbose",
     "--strict",
     "--help",
     "--version",
@@ -156,6 +160,20 @@ impl Reading {
         }
         if word == "--json" {
             self.options.form = Form::Json;
+            self.options.is_brief = false;
+            return Some(Step::More);
+        }
+        if word == "--brief" || word == "-1" {
+            self.options.form = Form::Lines;
+            self.options.is_brief = true;
+            return Some(Step::More);
+        }
+        if word == "--verbose" || word == "-v" {
+            self.options.is_verbose = true;
+            return Some(Step::More);
+        }
+        if word == "--pairs" {
+            self.options.pairs = true;
             return Some(Step::More);
         }
         if word == "--strict" {
@@ -207,6 +225,7 @@ impl Reading {
                 Ok(Step::More)
             }
             Setting::Time => Ok(self.read_time_form(text)),
+            Setting::Port => Ok(self.read_port(text)),
         }
     }
 
@@ -238,7 +257,16 @@ impl Reading {
         let Some(time_form) = time_form_in(text.as_str()) else {
             return Step::Unknown(Wrong::BadValue(Setting::Time, text));
         };
-        self.options.time_form = time_form;
+        self.options.time_form = Some(time_form);
+        Step::More
+    }
+
+    // Reads the kind and the port after `--port`.
+    fn read_port(&mut self, text: String) -> Step {
+        let Some(ports) = self.options.ports.with(text.as_str()) else {
+            return Step::Unknown(Wrong::BadValue(Setting::Port, text));
+        };
+        self.options.ports = ports;
         Step::More
     }
 }

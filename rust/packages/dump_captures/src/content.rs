@@ -2,6 +2,7 @@
 //! What a control packet holds.
 
 use crate::kind::{Kind, Reason};
+use crate::ports::{Ports, has_given, has_port};
 use crate::refusal::Refusal;
 use control_wire::IpProtocol;
 use control_wire::frames::tcp::Prefixed;
@@ -60,8 +61,9 @@ const UNKNOWN: Content<'static> = Content::Refused(
     Refusal::Message(message_fields::Refusal::Udp(udp::Refusal::Short)),
 );
 
-/// What a datagram between these addresses holds; None for other protocols.
+/// What a datagram between these addresses holds, where these ports are given; None for other protocols.
 pub fn content_by<'a>(
+    given: &Ports,
     addresses: &Addresses,
     protocol: IpProtocol,
     ports: Option<(u16, u16)>,
@@ -71,14 +73,14 @@ pub fn content_by<'a>(
         Addresses::V4(_, _) => match protocol {
             IpProtocol::Icmp => Some(Content::Whole(Message::Icmp4(payload))),
             IpProtocol::Igmp => Some(Content::Whole(Message::Igmp(payload))),
-            IpProtocol::Udp => content_of_udp(addresses, ports, payload),
+            IpProtocol::Udp => content_of_udp(given, addresses, ports, payload),
             _ => None,
         },
         Addresses::V6(src_addr, dst_addr) => match protocol {
             IpProtocol::Icmpv6 => Some(Content::Whole(Message::Icmp6(
                 *src_addr, *dst_addr, payload,
             ))),
-            IpProtocol::Udp => content_of_udp(addresses, ports, payload),
+            IpProtocol::Udp => content_of_udp(given, addresses, ports, payload),
             IpProtocol::HopByHop
             | IpProtocol::Ipv6Route
             | IpProtocol::Ipv6Frag
@@ -90,6 +92,7 @@ pub fn content_by<'a>(
 
 // What a UDP datagram between these ports holds.
 fn content_of_udp<'a>(
+    given: &Ports,
     addresses: &Addresses,
     ports: Option<(u16, u16)>,
     payload: &'a [u8],
@@ -97,12 +100,20 @@ fn content_of_udp<'a>(
     let Some(ports) = ports else {
         return Some(UNKNOWN);
     };
-    let service = service_of(addresses.is_v4(), ports)?;
+    let service = service_of(given, addresses.is_v4(), ports)?;
     Some(Content::Whole(Message::Udp(service, *addresses, payload)))
 }
 
+// The service of these ports, one of which is given to it, or else its own.
+fn service_of(given: &Ports, is_v4: bool, ports: (u16, u16)) -> Option<Service> {
+    match given.service(is_v4, ports) {
+        Some(service) => Some(service),
+        None => own_service(is_v4, ports),
+    }
+}
+
 // The service of these ports, one of which is its own.
-fn service_of(is_v4: bool, ports: (u16, u16)) -> Option<Service> {
+fn own_service(is_v4: bool, ports: (u16, u16)) -> Option<Service> {
     if has_port(ports, 53) {
         Some(Service::Dns)
     } else if has_port(ports, 5353) {
@@ -118,20 +129,20 @@ fn service_of(is_v4: bool, ports: (u16, u16)) -> Option<Service> {
     }
 }
 
-// Whether a port is that of the source or of the destination.
-fn has_port(ports: (u16, u16), port: u16) -> bool {
-    ports.0 == port || ports.1 == port
+// Whether one of these ports is that of DNS over TCP, or given to it.
+fn is_dns(given: &Ports, ports: (u16, u16)) -> bool {
+    has_port(ports, 53) || has_given(ports, given.dns)
 }
 
-/// The messages of DNS in a segment of TCP; None where the datagram has none.
-pub fn messages_over_tcp<'a>(datagram: &Datagram<'a>) -> Option<Prefixed<'a>> {
+/// The messages of DNS in a segment of TCP, where these ports are given; None where the datagram has none.
+pub fn messages_over_tcp<'a>(given: &Ports, datagram: &Datagram<'a>) -> Option<Prefixed<'a>> {
     if datagram.protocol != IpProtocol::Tcp {
         return None;
     }
     let Ok(segment) = TcpSegment::parse(datagram.payload) else {
         return None;
     };
-    if !has_port((segment.src_port, segment.dst_port), 53) {
+    if !is_dns(given, (segment.src_port, segment.dst_port)) {
         return None;
     }
     Prefixed::new(segment.payload, DNS_HEADER_LEN)

@@ -113,13 +113,14 @@ fn dump_each<C: Captures, W: Write>(
     status: &mut u8,
 ) -> Result<(), Fault> {
     if files.is_empty() {
-        let own = dump_file(captures, options, "-", output, total)?;
+        let own = dump_file(captures, options, false, "-", output, total)?;
         *status = (*status).max(own);
         return Ok(());
     }
     for file in files {
-        show_title(options, files.len() > 1, file.as_str(), output)?;
-        let own = dump_file(captures, options, file.as_str(), output, total)?;
+        let several = files.len() > 1;
+        show_title(options, several, file.as_str(), output)?;
+        let own = dump_file(captures, options, several, file.as_str(), output, total)?;
         *status = (*status).max(own);
     }
     Ok(())
@@ -143,16 +144,17 @@ fn show_title<W: Write>(
 fn dump_file<C: Captures, W: Write>(
     captures: &C,
     options: &Options,
+    several: bool,
     file: &str,
     output: &mut W,
     tally: &mut Tally,
 ) -> Result<u8, Fault> {
     start_counts(options, tally);
     if file == "-" {
-        return dump_input(options, file, captures.reader(), output, tally);
+        return dump_input(options, several, file, captures.reader(), output, tally);
     }
     match captures.open(file) {
-        Ok(input) => dump_input(options, file, input, output, tally),
+        Ok(input) => dump_input(options, several, file, input, output, tally),
         Err(error) => {
             report_unopened(file, &error);
             Ok(WRONG)
@@ -170,6 +172,7 @@ fn start_counts(options: &Options, tally: &mut Tally) {
 // Prints the capture of an input, and returns the status.
 fn dump_input<R: Read, W: Write>(
     options: &Options,
+    several: bool,
     name: &str,
     input: R,
     output: &mut W,
@@ -182,7 +185,8 @@ fn dump_input<R: Read, W: Write>(
         is_begun: false,
         is_gzip: false,
     };
-    let stop = dump_readable(options, &mut input, output, tally)?;
+    let told = told_name(several, name);
+    let stop = dump_readable(options, told, &mut input, output, tally)?;
     if options.prints {
         report_counts(Some(name), tally)?;
     }
@@ -198,6 +202,11 @@ fn dump_input<R: Read, W: Write>(
             Ok(FAILED)
         }
     }
+}
+
+// The name that is told with each packet.
+fn told_name(several: bool, name: &str) -> Option<&str> {
+    if several { Some(name) } else { None }
 }
 
 // The status of a capture that ends so.

@@ -1,10 +1,12 @@
 // Made from crates/dump_captures/src/heading.rt by rust/erase.
 //! The heading of a control packet.
 
+use crate::arrival::Arrival;
 use crate::numbers::Numbers;
 use crate::sight::Headers;
 use crate::time::Clock;
 use crate::tunnels::show_tunnels;
+use crate::verbose::show_more;
 use crate::when::When;
 use control_wire::frames::Addresses;
 use control_wire::inside::text::{put_v4, put_v6};
@@ -20,38 +22,48 @@ pub(crate) const TAG_LEN: usize = 4;
 
 const VLAN: Field = 0..2;
 
-/// Prints the heading of the control packet of a number.
+/// Prints the heading of a control packet.
 pub fn show_heading<W: Write>(
     output: &mut W,
     clock: &mut Clock,
-    when: Option<When>,
-    number: u64,
+    is_verbose: bool,
+    arrival: &Arrival<'_>,
     headers: &Headers<'_>,
 ) -> io::Result<()> {
-    number.put(output, Form::Lines)?;
+    arrival.record.number.put(output, Form::Lines)?;
     output.write_all(b" ")?;
-    show_time(output, clock, when)?;
+    show_time(output, clock, arrival.when)?;
     show_addresses(output, headers.addresses, headers.ports)?;
-    show_tags(output, headers.path.tags)?;
-    show_tunnels(output, &headers.path.tunnels)?;
-    show_frames(output, headers.path.frames)?;
-    show_hop_by_hop(output, headers.hop_by_hop)?;
-    show_transport(output, headers.content.is_over_tcp())?;
+    show_more(output, is_verbose, arrival, headers)?;
+    show_way(output, headers)?;
     output.write_all(b" ")?;
     headers.content.kind().name().put(output, Form::Lines)?;
     output.write_all(b"\n")
 }
 
-// Prints the time at which a packet was captured, where it is known.
-fn show_time<W: Write>(output: &mut W, clock: &mut Clock, when: Option<When>) -> io::Result<()> {
+/// Prints the words of the way to the datagram and to its message.
+pub(crate) fn show_way<W: Write>(output: &mut W, headers: &Headers<'_>) -> io::Result<()> {
+    show_tags(output, headers.path.tags)?;
+    show_tunnels(output, &headers.path.tunnels)?;
+    show_frames(output, headers.path.frames)?;
+    show_hop_by_hop(output, headers.hop_by_hop)?;
+    show_transport(output, headers.content.is_over_tcp())
+}
+
+/// Prints the time at which a packet was captured, where it is known.
+pub(crate) fn show_time<W: Write>(
+    output: &mut W,
+    clock: &mut Clock,
+    when: Option<When>,
+) -> io::Result<()> {
     match when {
         Some(when) => put_text(output, Form::Lines, when.word(clock)),
         None => output.write_all(b"-"),
     }
 }
 
-// Prints the source and the destination of a packet, as far as they are known.
-fn show_addresses<W: Write>(
+/// Prints the source and the destination of a packet, as far as they are known.
+pub(crate) fn show_addresses<W: Write>(
     output: &mut W,
     addresses: Option<Addresses>,
     ports: Option<(u16, u16)>,

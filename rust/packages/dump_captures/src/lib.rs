@@ -2,6 +2,8 @@
 //! The texts of `pcapdump`: what the control packets of captures hold, and what is counted of them.
 
 pub mod arguments;
+mod arrival;
+mod brief;
 mod content;
 pub mod counts;
 mod fault;
@@ -16,11 +18,15 @@ mod messages;
 pub mod moment;
 pub mod nearest;
 mod numbers;
+mod objects;
 pub mod options;
 mod owners;
 mod packets;
+mod pairing;
 mod path;
 mod place;
+pub mod ports;
+mod printed;
 mod program;
 mod progress;
 pub mod refusal;
@@ -33,6 +39,7 @@ pub mod table;
 pub mod tally;
 pub mod time;
 mod tunnels;
+mod verbose;
 pub mod when;
 
 pub use fault::Fault;

@@ -1,13 +1,13 @@
 // Made from crates/dump_captures/src/members.rt by rust/erase.
 //! The members of a control packet's object in JSON that its heading has in lines.
 
+use crate::arrival::Arrival;
 use crate::heading::{TAG_LEN, destination_port, show_vlan, source_port};
 use crate::numbers::Numbers;
 use crate::sight::Headers;
 use crate::time::Clock;
 use crate::tunnels::show_tunnel_members;
 use crate::when::When;
-use capture::Record;
 use control_wire::frames::Addresses;
 use control_wire::frames::names::link_name;
 use packet_fields::Form;
@@ -20,16 +20,27 @@ use rattle_std::io::Write;
 pub fn show_members<W: Write>(
     output: &mut W,
     clock: &mut Clock,
-    when: Option<When>,
-    captured: &Record,
-    octets: &[u8],
+    arrival: &Arrival<'_>,
     headers: &Headers<'_>,
 ) -> io::Result<()> {
-    show_time(output, clock, when)?;
-    show_link(output, captured.link_type)?;
-    show_lengths(output, octets.len() as u64, captured.original_len)?;
+    show_file(output, arrival.file)?;
+    show_time(output, clock, arrival.when)?;
+    show_link(output, arrival.record.link_type)?;
+    show_lengths(
+        output,
+        arrival.octets.len() as u64,
+        arrival.record.original_len,
+    )?;
     show_path(output, headers)?;
     field(output, Form::Json, "kind", headers.content.kind().name())
+}
+
+/// Prints the name of the file, where it is to be told.
+pub(crate) fn show_file<W: Write>(output: &mut W, file: Option<&str>) -> io::Result<()> {
+    match file {
+        Some(name) => field(output, Form::Json, "file", name),
+        None => Ok(()),
+    }
 }
 
 // Prints the time at which the packet was captured.

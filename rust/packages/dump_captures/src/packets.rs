@@ -2,24 +2,18 @@
 //! The packets of a capture, in one pass.
 
 use crate::Fault;
+use crate::arrival::Arrival;
 use crate::fragments::{look_at_joined, refused_fragment};
-use crate::heading::show_heading;
-use crate::kind::{Kind, Reason};
-use crate::members::show_members;
-use crate::messages::show_listing;
 use crate::options::Options;
+use crate::pairing::{Session, show_unanswered};
 use crate::path::Path;
+use crate::printed::show_control;
 use crate::progress::Progress;
 use crate::refusal::Refusal;
-use crate::sight::{Finding, Headers, Segment, Sight, look, protocol_category};
+use crate::sight::{Finding, Segment, Sight, look, protocol_category};
 use crate::stop::Stop;
 use crate::tally::{Counted, Outcome, Tally};
-use crate::time::Clock;
-use crate::when::When;
-use capture::{Capture, Ending, Next, Record};
-use packet_fields::Form;
-use packet_fields::value::{Value, put_string};
-use rattle_std::io;
+use capture::{Capture, Ending, Next};
 use rattle_std::io::{BufReader, BufWriter, Read, Write};
 use reassembly::{Answer, Fragment, Reassembly, Whole};
 
@@ -66,16 +60,17 @@ pub fn dump<R: Read, W: Write>(
     output: &mut W,
     tally: &mut Tally,
 ) -> Result<Option<Ending>, Fault> {
-    match dump_readable(options, input, output, tally)? {
+    match dump_readable(options, None, input, output, tally)? {
         Stop::Ended(ending) => Ok(Some(ending)),
         Stop::Enough => Ok(None),
         Stop::Unread => Err(Fault::Read),
     }
 }
 
-/// Dumps as far as the input can be read, or as is asked for.
+/// Dumps as far as the input can be read, or as is asked for. Objects of JSON have the name of the file, if there is one.
 pub fn dump_readable<R: Read, W: Write>(
     options: &Options,
+    file: Option<&str>,
     input: R,
     output: &mut W,
     tally: &mut Tally,
@@ -83,7 +78,7 @@ pub fn dump_readable<R: Read, W: Write>(
     let Ok(mut input) = BufReader::with_capacity(BUFFER_LEN, input) else {
         return Err(Fault::Memory);
     };
-    let answer = show_packets(options, &mut input, output, tally);
+    let answer = show_capture(options, file, &mut input, output, tally);
     let flushed = output.flush();
     let stop = answer?;
     if stop != Stop::Unread {
@@ -94,23 +89,38 @@ pub fn dump_readable<R: Read, W: Write>(
 
 // What is kept from packet to packet of a capture.
 struct Kept {
-    clock: Clock,
     fragments: Reassembly,
+    session: Session,
+}
+
+// Prints the packets, and then what got no answer, and returns where the reading stops.
+fn show_capture<R: Read, W: Write>(
+    options: &Options,
+    file: Option<&str>,
+    input: &mut BufReader<R>,
+    output: &mut W,
+    tally: &mut Tally,
+) -> Result<Stop, Fault> {
+    let mut kept = Kept {
+        fragments: Reassembly::new(),
+        session: Session::new(),
+    };
+    let stop = show_packets(options, file, input, output, &mut kept, tally)?;
+    show_unanswered(output, options, file, &kept.session)?;
+    Ok(stop)
 }
 
 // Prints the packets, and returns where the reading stops. What is printed is written out before the input is waited
 // for.
 fn show_packets<R: Read, W: Write>(
     options: &Options,
+    file: Option<&str>,
     input: &mut BufReader<R>,
     output: &mut W,
+    kept: &mut Kept,
     tally: &mut Tally,
 ) -> Result<Stop, Fault> {
     let mut capture = Capture::new();
-    let mut kept = Kept {
-        clock: Clock::new(),
-        fragments: Reassembly::new(),
-    };
     let mut progress = Progress::new(options);
     for _ in 0..u64::MAX {
         if progress.is_enough() {
@@ -119,11 +129,15 @@ fn show_packets<R: Read, W: Write>(
         write_out_before_wait(&capture, input, output)?;
         match capture.next(input) {
             Ok(Next::Record(record)) => {
-                let octets = capture.octets();
-                let when = progress.when(record.time);
-                let counted = show_packet(options, output, &mut kept, when, &record, octets)?;
+                let arrival = Arrival {
+                    file,
+                    record: &record,
+                    octets: capture.octets(),
+                    when: progress.when(record.time),
+                };
+                let counted = show_packet(options, output, kept, &arrival)?;
                 progress.pass(record.time, counted.outcome);
-                tally.count(counted, record.link_type, octets.len() as u64);
+                tally.count(counted, record.link_type, arrival.octets.len() as u64);
             }
             Ok(Next::Ended(ending)) => return Ok(Stop::Ended(ending)),
             Err(capture::Fault::Read) => return Ok(Stop::Unread),
@@ -150,28 +164,16 @@ fn show_packet<W: Write>(
     options: &Options,
     output: &mut W,
     kept: &mut Kept,
-    when: Option<When>,
-    captured: &Record,
-    octets: &[u8],
+    arrival: &Arrival<'_>,
 ) -> Result<Counted, Fault> {
     // By reference: to move what was found costs a run of the program 3 % of its instructions.
-    match &look(captured, octets) {
+    match &look(&options.ports, arrival.record, arrival.octets) {
         Finding::Sight(sight) => {
-            let outcome = show_sight(
-                options,
-                output,
-                &mut kept.clock,
-                when,
-                captured,
-                octets,
-                sight,
-            )?;
+            let outcome = show_sight(options, output, &mut kept.session, arrival, sight)?;
             Ok(Counted::alone(outcome))
         }
         Finding::Fragment(path, fragment) => {
-            let counted = show_fragment(
-                options, output, kept, when, captured, octets, path, fragment,
-            )?;
+            let counted = show_fragment(options, output, kept, arrival, path, fragment)?;
             Ok(counted)
         }
     }
@@ -183,40 +185,51 @@ fn show_fragment<W: Write>(
     options: &Options,
     output: &mut W,
     kept: &mut Kept,
-    when: Option<When>,
-    captured: &Record,
-    octets: &[u8],
+    arrival: &Arrival<'_>,
     path: &Path<'_>,
     fragment: &Fragment<'_>,
 ) -> Result<Counted, Fault> {
-    let Ok(answer) = kept.fragments.add(captured.number, fragment) else {
+    let number = arrival.record.number;
+    let Ok(answer) = kept.fragments.add(number, fragment) else {
         return Err(Fault::Memory);
     };
-    let clock = &mut kept.clock;
+    let session = &mut kept.session;
     match &answer {
         Answer::Incomplete(_) => Ok(Counted::alone(Outcome::Kept(protocol_category(
             fragment.protocol,
         )))),
         Answer::Refused(refusal) => {
-            let sight = refused_fragment(path, fragment, Refusal::Fragment(*refusal));
-            let outcome = show_sight(options, output, clock, when, captured, octets, &sight)?;
+            let refusal = Refusal::Fragment(*refusal);
+            let outcome = show_refused(options, output, session, arrival, path, fragment, refusal)?;
             Ok(Counted::alone(outcome))
         }
         Answer::Whole(whole) => {
-            let counted = show_whole(options, output, clock, when, captured, octets, path, whole)?;
+            let counted = show_whole(options, output, session, arrival, path, whole)?;
             Ok(counted)
         }
     }
+}
+
+// Prints why a fragment is refused.
+fn show_refused<W: Write>(
+    options: &Options,
+    output: &mut W,
+    session: &mut Session,
+    arrival: &Arrival<'_>,
+    path: &Path<'_>,
+    fragment: &Fragment<'_>,
+    refusal: Refusal,
+) -> Result<Outcome, Fault> {
+    let sight = refused_fragment(&options.ports, path, fragment, refusal);
+    show_sight(options, output, session, arrival, &sight)
 }
 
 // Prints a datagram that was put together with a packet.
 fn show_whole<W: Write>(
     options: &Options,
     output: &mut W,
-    clock: &mut Clock,
-    when: Option<When>,
-    captured: &Record,
-    octets: &[u8],
+    session: &mut Session,
+    arrival: &Arrival<'_>,
     path: &Path<'_>,
     whole: &Whole,
 ) -> Result<Counted, Fault> {
@@ -225,8 +238,8 @@ fn show_whole<W: Write>(
         tunnels: path.tunnels,
         frames: whole.numbers.as_slice(),
     };
-    let sight = look_at_joined(captured, octets, &path, whole);
-    let outcome = show_sight(options, output, clock, when, captured, octets, &sight)?;
+    let sight = look_at_joined(&options.ports, arrival.record, arrival.octets, &path, whole);
+    let outcome = show_sight(options, output, session, arrival, &sight)?;
     Ok(Counted {
         outcome,
         joined: all_but_one(whole.numbers.as_slice()),
@@ -242,21 +255,15 @@ fn all_but_one(numbers: &[u64]) -> u64 {
 fn show_sight<W: Write>(
     options: &Options,
     output: &mut W,
-    clock: &mut Clock,
-    when: Option<When>,
-    captured: &Record,
-    octets: &[u8],
+    session: &mut Session,
+    arrival: &Arrival<'_>,
     sight: &Sight<'_>,
 ) -> Result<Outcome, Fault> {
     match sight {
         Sight::Unread => Ok(Outcome::Unread),
         Sight::Other(category) => Ok(Outcome::Other(*category)),
-        Sight::Control(headers) => {
-            show_control(options, output, clock, when, captured, octets, headers)
-        }
-        Sight::Segment(segment) => {
-            show_segment(options, output, clock, when, captured, octets, segment)
-        }
+        Sight::Control(headers) => show_control(options, output, session, arrival, headers),
+        Sight::Segment(segment) => show_segment(options, output, session, arrival, segment),
     }
 }
 
@@ -265,17 +272,15 @@ fn show_sight<W: Write>(
 fn show_segment<W: Write>(
     options: &Options,
     output: &mut W,
-    clock: &mut Clock,
-    when: Option<When>,
-    captured: &Record,
-    octets: &[u8],
+    session: &mut Session,
+    arrival: &Arrival<'_>,
     segment: &Segment<'_>,
 ) -> Result<Outcome, Fault> {
     let mut messages = segment.messages.messages();
     let mut outcome = Outcome::Passed;
     while let Some(message) = messages.next() {
         let headers = segment.headers(message);
-        let own = show_control(options, output, clock, when, captured, octets, &headers)?;
+        let own = show_control(options, output, session, arrival, &headers)?;
         outcome = joined_outcome(outcome, own);
     }
     Ok(outcome)
@@ -287,96 +292,5 @@ fn joined_outcome(so_far: Outcome, next: Outcome) -> Outcome {
         (Outcome::Passed, next) => next,
         (Outcome::Listed(_), Outcome::Refused(kind, reason)) => Outcome::Refused(kind, reason),
         (so_far, _) => so_far,
-    }
-}
-
-// Prints a control packet that has these headers. Never inlined: a part of `show_packet` it costs a run of the program
-// 0.7 % of its instructions.
-#[inline(never)]
-fn show_control<W: Write>(
-    options: &Options,
-    output: &mut W,
-    clock: &mut Clock,
-    when: Option<When>,
-    captured: &Record,
-    octets: &[u8],
-    headers: &Headers<'_>,
-) -> Result<Outcome, Fault> {
-    if !options.chooses(headers) {
-        return Ok(Outcome::Passed);
-    }
-    if !options.prints {
-        return count_alone(options, headers);
-    }
-    let why = show_chosen(options, output, clock, when, captured, octets, headers)?;
-    Ok(outcome(headers.content.kind(), why))
-}
-
-// Prints a control packet in the form that is asked for.
-fn show_chosen<W: Write>(
-    options: &Options,
-    output: &mut W,
-    clock: &mut Clock,
-    when: Option<When>,
-    captured: &Record,
-    octets: &[u8],
-    headers: &Headers<'_>,
-) -> Result<Option<Reason>, Fault> {
-    match options.form {
-        Form::Lines => show_lines(options, output, clock, when, captured, octets, headers),
-        Form::Json => show_object(options, output, clock, when, captured, octets, headers),
-    }
-}
-
-// Prints a control packet in lines.
-fn show_lines<W: Write>(
-    options: &Options,
-    output: &mut W,
-    clock: &mut Clock,
-    when: Option<When>,
-    captured: &Record,
-    octets: &[u8],
-    headers: &Headers<'_>,
-) -> Result<Option<Reason>, Fault> {
-    show_heading(output, clock, when, captured.number, headers)?;
-    show_listing(options, output, headers)
-}
-
-// Prints a control packet as an object of JSON, on a line.
-fn show_object<W: Write>(
-    options: &Options,
-    output: &mut W,
-    clock: &mut Clock,
-    when: Option<When>,
-    captured: &Record,
-    octets: &[u8],
-    headers: &Headers<'_>,
-) -> Result<Option<Reason>, Fault> {
-    open_object(output, captured.number)?;
-    show_members(output, clock, when, captured, octets, headers)?;
-    let why = show_listing(options, output, headers)?;
-    output.write_all(b"}\n")?;
-    Ok(why)
-}
-
-// Prints the front of an object, up to its first member, the packet's number.
-fn open_object<W: Write>(output: &mut W, number: u64) -> io::Result<()> {
-    output.write_all(b"{")?;
-    put_string(output, "number")?;
-    output.write_all(b":")?;
-    number.put(output, Form::Json)
-}
-
-// Reads a control packet that is only counted.
-fn count_alone(options: &Options, headers: &Headers<'_>) -> Result<Outcome, Fault> {
-    let why = show_listing(options, &mut io::sink(), headers)?;
-    Ok(outcome(headers.content.kind(), why))
-}
-
-// The outcome for a control packet.
-fn outcome(kind: Kind, why: Option<Reason>) -> Outcome {
-    match why {
-        Some(reason) => Outcome::Refused(kind, reason),
-        None => Outcome::Listed(kind),
     }
 }

@@ -21,7 +21,7 @@ impl Progress {
     /// Before the first packet.
     pub fn new(options: &Options) -> Progress {
         Progress {
-            form: options.time_form,
+            form: time_form(options),
             left: options.most,
             first: None,
             last: None,
@@ -41,7 +41,7 @@ impl Progress {
         let from = match self.form {
             TimeForm::Relative => self.first.unwrap_or(time),
             TimeForm::Delta => self.last.unwrap_or(time),
-            TimeForm::Utc | TimeForm::Epoch => time,
+            TimeForm::Utc | TimeForm::Clock | TimeForm::Epoch => time,
         };
         Some(When {
             form: self.form,
@@ -60,6 +60,16 @@ impl Progress {
             self.left = one_less(self.left);
         }
     }
+}
+
+// The form of times.
+fn time_form(options: &Options) -> TimeForm {
+    let usual = if options.is_brief {
+        TimeForm::Clock
+    } else {
+        TimeForm::Utc
+    };
+    options.time_form.unwrap_or(usual)
 }
 
 // The moment of a time.

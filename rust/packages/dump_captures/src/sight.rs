@@ -6,6 +6,7 @@ use crate::counts::Category;
 use crate::kind::{Kind, Reason};
 use crate::path::{Path, Tunnels};
 use crate::place::{Place, Step, Version, follow, packet_in};
+use crate::ports::Ports;
 use crate::refusal::Refusal;
 use capture::Record;
 use control_wire::frames::tcp::Prefixed;
@@ -46,6 +47,8 @@ pub struct Headers<'a> {
     pub addresses: Option<Addresses>,
     /// The ports of the source and the destination, where there are any.
     pub ports: Option<(u16, u16)>,
+    /// The hops that are left, where the datagram came whole.
+    pub hop_limit: Option<u8>,
     /// The hop-by-hop options, where there are any.
     pub hop_by_hop: Option<&'a [u8]>,
     /// Whether the checksum of the IPv4 header is wrong.
@@ -76,6 +79,7 @@ impl<'a> Segment<'a> {
             path: self.path,
             addresses: Some(datagram.addresses),
             ports: ports_of(datagram.protocol, datagram.payload),
+            hop_limit: hop_limit_of(&self.path, datagram),
             hop_by_hop: datagram.hop_by_hop,
             is_header_bad: self.is_header_bad,
             content: Content::Whole(message),
@@ -83,13 +87,13 @@ impl<'a> Segment<'a> {
     }
 }
 
-/// What a packet leads to, of which the capture has these octets.
-pub fn look<'a>(captured: &Record, octets: &'a [u8]) -> Finding<'a> {
+/// What a packet leads to, of which the capture has these octets, where these ports are given.
+pub fn look<'a>(given: &Ports, captured: &Record, octets: &'a [u8]) -> Finding<'a> {
     let Some(link) = Link::of(captured.link_type) else {
         return Finding::Sight(Sight::Unread);
     };
     match link.frame_or_refusal(octets) {
-        Ok(frame) => look_into(captured, octets, link, &frame),
+        Ok(frame) => look_into(given, captured, octets, link, &frame),
         Err(refusal) => {
             let refusal = Refusal::Frame(refusal);
             let reason = refusal.reason(is_cut(captured, octets));
@@ -106,7 +110,13 @@ const NO_PATH: Path<'static> = Path {
 };
 
 // What a frame leads to.
-fn look_into<'a>(captured: &Record, octets: &[u8], link: Link, frame: &Frame<'a>) -> Finding<'a> {
+fn look_into<'a>(
+    given: &Ports,
+    captured: &Record,
+    octets: &[u8],
+    link: Link,
+    frame: &Frame<'a>,
+) -> Finding<'a> {
     let path = Path {
         tags: frame.tags,
         tunnels: Tunnels::Zero,
@@ -114,27 +124,39 @@ fn look_into<'a>(captured: &Record, octets: &[u8], link: Link, frame: &Frame<'a>
     };
     match packet_in(path, frame.network, frame.payload) {
         Step::Other(number) => Finding::Sight(Sight::Other(network_category(link, number))),
-        Step::Datagram(place) => look_at_end(captured, octets, &follow(Step::Datagram(place))),
+        Step::Datagram(place) => {
+            look_at_end(given, captured, octets, &follow(Step::Datagram(place)))
+        }
     }
 }
 
 /// What there is where the tunnels end.
-pub fn look_at_end<'a>(captured: &Record, octets: &[u8], end: &Step<'a>) -> Finding<'a> {
+pub fn look_at_end<'a>(
+    given: &Ports,
+    captured: &Record,
+    octets: &[u8],
+    end: &Step<'a>,
+) -> Finding<'a> {
     match end {
         Step::Other(number) => Finding::Sight(Sight::Other(Category::EtherType(*number))),
         Step::Datagram(place) => match place.version {
-            Version::V4 => look_at_v4(captured, octets, place),
-            Version::V6 => look_at_v6(captured, octets, place),
+            Version::V4 => look_at_v4(given, captured, octets, place),
+            Version::V6 => look_at_v6(given, captured, octets, place),
         },
     }
 }
 
 // What an IPv4 datagram is.
-fn look_at_v4<'a>(captured: &Record, octets: &[u8], place: &Place<'a>) -> Finding<'a> {
+fn look_at_v4<'a>(
+    given: &Ports,
+    captured: &Record,
+    octets: &[u8],
+    place: &Place<'a>,
+) -> Finding<'a> {
     let refusal = match Datagram::parse_v4(place.octets) {
         Ok(datagram) => {
             let is_bad = is_header_bad(place.octets);
-            return Finding::Sight(whole(&place.path, is_bad, &datagram));
+            return Finding::Sight(whole(given, &place.path, is_bad, &datagram));
         }
         Err(refusal) => Refusal::Datagram(refusal),
     };
@@ -142,20 +164,37 @@ fn look_at_v4<'a>(captured: &Record, octets: &[u8], place: &Place<'a>) -> Findin
         return Finding::Fragment(place.path, fragment);
     }
     let reason = refusal.reason(is_cut(captured, octets));
-    Finding::Sight(refused_v4(&place.path, place.octets, reason, refusal))
+    Finding::Sight(refused_v4(
+        given,
+        &place.path,
+        place.octets,
+        reason,
+        refusal,
+    ))
 }
 
 // What an IPv6 datagram is.
-fn look_at_v6<'a>(captured: &Record, octets: &[u8], place: &Place<'a>) -> Finding<'a> {
+fn look_at_v6<'a>(
+    given: &Ports,
+    captured: &Record,
+    octets: &[u8],
+    place: &Place<'a>,
+) -> Finding<'a> {
     let refusal = match Datagram::parse_v6(place.octets) {
-        Ok(datagram) => return Finding::Sight(whole(&place.path, false, &datagram)),
+        Ok(datagram) => return Finding::Sight(whole(given, &place.path, false, &datagram)),
         Err(refusal) => Refusal::Datagram(refusal),
     };
     if let Some(fragment) = Fragment::parse_v6(place.octets) {
         return Finding::Fragment(place.path, fragment);
     }
     let reason = refusal.reason(is_cut(captured, octets));
-    Finding::Sight(refused_v6(&place.path, place.octets, reason, refusal))
+    Finding::Sight(refused_v6(
+        given,
+        &place.path,
+        place.octets,
+        reason,
+        refusal,
+    ))
 }
 
 // The bytes of an IPv4 header without options.
@@ -184,33 +223,52 @@ fn network_category(link: Link, number: u16) -> Category {
 }
 
 /// What a whole datagram tells, of which the checksum of the IPv4 header may be wrong.
-pub fn whole<'a>(path: &Path<'a>, is_header_bad: bool, datagram: &Datagram<'a>) -> Sight<'a> {
-    match messages_over_tcp(datagram) {
+pub fn whole<'a>(
+    given: &Ports,
+    path: &Path<'a>,
+    is_header_bad: bool,
+    datagram: &Datagram<'a>,
+) -> Sight<'a> {
+    match messages_over_tcp(given, datagram) {
         Some(messages) => Sight::Segment(Segment {
             path: *path,
             is_header_bad,
             datagram: *datagram,
             messages,
         }),
-        None => by_protocol(path, is_header_bad, datagram),
+        None => by_protocol(given, path, is_header_bad, datagram),
     }
 }
 
 // What a datagram tells by its protocol.
-fn by_protocol<'a>(path: &Path<'a>, is_header_bad: bool, datagram: &Datagram<'a>) -> Sight<'a> {
+fn by_protocol<'a>(
+    given: &Ports,
+    path: &Path<'a>,
+    is_header_bad: bool,
+    datagram: &Datagram<'a>,
+) -> Sight<'a> {
     let (protocol, payload) = (datagram.protocol, datagram.payload);
     let ports = ports_of(protocol, payload);
-    let Some(content) = content_by(&datagram.addresses, protocol, ports, payload) else {
+    let Some(content) = content_by(given, &datagram.addresses, protocol, ports, payload) else {
         return Sight::Other(protocol_category(protocol));
     };
     Sight::Control(Headers {
         path: *path,
         addresses: Some(datagram.addresses),
         ports,
+        hop_limit: hop_limit_of(path, datagram),
         hop_by_hop: datagram.hop_by_hop,
         is_header_bad,
         content,
     })
+}
+
+// The hops that are left of a datagram on this way. Fragments may differ in it.
+fn hop_limit_of(path: &Path<'_>, datagram: &Datagram<'_>) -> Option<u8> {
+    if path.frames.is_empty() {
+        return Some(datagram.hop_limit);
+    }
+    None
 }
 
 /// Whether the capture kept only a part of a packet.
@@ -224,6 +282,7 @@ fn untold(path: Path<'_>, reason: Reason, refusal: Refusal) -> Sight<'_> {
         path,
         addresses: None,
         ports: None,
+        hop_limit: None,
         hop_by_hop: None,
         is_header_bad: false,
         content: Content::Refused(Kind::Frame, reason, refusal),
@@ -232,6 +291,7 @@ fn untold(path: Path<'_>, reason: Reason, refusal: Refusal) -> Sight<'_> {
 
 /// A refused datagram, of which this is known.
 pub fn told<'a>(
+    given: &Ports,
     path: &Path<'a>,
     addresses: Addresses,
     protocol: IpProtocol,
@@ -239,13 +299,14 @@ pub fn told<'a>(
     reason: Reason,
     refusal: Refusal,
 ) -> Sight<'a> {
-    let Some(content) = content_by(&addresses, protocol, ports, &[]) else {
+    let Some(content) = content_by(given, &addresses, protocol, ports, &[]) else {
         return Sight::Other(protocol_category(protocol));
     };
     Sight::Control(Headers {
         path: *path,
         addresses: Some(addresses),
         ports,
+        hop_limit: None,
         hop_by_hop: None,
         is_header_bad: false,
         content: Content::Refused(content.kind(), reason, refusal),
@@ -254,6 +315,7 @@ pub fn told<'a>(
 
 // A refused datagram, of which the start is known: what is there of one that is cut.
 fn told_front<'a>(
+    given: &Ports,
     path: &Path<'a>,
     is_header_bad: bool,
     front: &Captured<'a>,
@@ -263,13 +325,14 @@ fn told_front<'a>(
     let datagram = &front.datagram;
     let (protocol, payload) = (datagram.protocol, datagram.payload);
     let ports = ports_of(protocol, payload);
-    let Some(content) = content_by(&datagram.addresses, protocol, ports, payload) else {
+    let Some(content) = content_by(given, &datagram.addresses, protocol, ports, payload) else {
         return Sight::Other(protocol_category(protocol));
     };
     Sight::Control(Headers {
         path: *path,
         addresses: Some(datagram.addresses),
         ports,
+        hop_limit: hop_limit_of(path, datagram),
         hop_by_hop: datagram.hop_by_hop,
         is_header_bad,
         content: front_content(front.extent, reason, refusal, content),
@@ -293,17 +356,26 @@ fn front_content(
 
 // What is known of a refused IPv4 datagram, as far as it was captured.
 fn refused_v4<'a>(
+    given: &Ports,
     path: &Path<'a>,
     octets: &'a [u8],
     reason: Reason,
     refusal: Refusal,
 ) -> Sight<'a> {
     match Captured::parse_v4(octets) {
-        Ok(front) => told_front(path, is_header_bad(octets), &front, reason, refusal),
+        Ok(front) => told_front(given, path, is_header_bad(octets), &front, reason, refusal),
         Err(other) => match head_of(other) {
             Some(head) => {
                 let ports = ports_behind(octets, &head);
-                told(path, head.addresses, head.protocol, ports, reason, refusal)
+                told(
+                    given,
+                    path,
+                    head.addresses,
+                    head.protocol,
+                    ports,
+                    reason,
+                    refusal,
+                )
             }
             None => untold(*path, reason, refusal),
         },
@@ -330,15 +402,24 @@ fn behind_header(octets: &[u8]) -> &[u8] {
 
 // What is known of a refused IPv6 datagram, as far as it was captured.
 fn refused_v6<'a>(
+    given: &Ports,
     path: &Path<'a>,
     octets: &'a [u8],
     reason: Reason,
     refusal: Refusal,
 ) -> Sight<'a> {
     match Captured::parse_v6(octets) {
-        Ok(front) => told_front(path, false, &front, reason, refusal),
+        Ok(front) => told_front(given, path, false, &front, reason, refusal),
         Err(other) => match head_of(other) {
-            Some(head) => told(path, head.addresses, head.protocol, None, reason, refusal),
+            Some(head) => told(
+                given,
+                path,
+                head.addresses,
+                head.protocol,
+                None,
+                reason,
+                refusal,
+            ),
             None => untold(*path, reason, refusal),
         },
     }

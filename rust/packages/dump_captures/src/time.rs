@@ -15,6 +15,9 @@ const DATE_LEN: usize = 10;
 
 const TIME_LEN: usize = 20;
 
+// The length of the text of a time of day with milliseconds.
+const CLOCK_LEN: usize = 12;
+
 /// Tells times, most of which are on the same day as the one before.
 pub struct Clock {
     // A day, counted from 1970-01-01.
@@ -59,6 +62,45 @@ impl Clock {
             date: date_octets(date),
         }
     }
+}
+
+/// The text of a time of day with milliseconds, as `12:34:56.789`.
+#[derive(Debug, Clone, Copy)]
+pub struct ClockText {
+    octets: [u8; CLOCK_LEN],
+}
+
+impl ClockText {
+    /// That of the time this many seconds and nanoseconds after 1970-01-01T00:00:00Z. Further digits are cut.
+    #[inline]
+    pub fn of(seconds: u64, nanoseconds: u32) -> ClockText {
+        ClockText {
+            octets: clock_octets(seconds, nanoseconds),
+        }
+    }
+}
+
+impl Text for ClockText {
+    fn put_into<O, S: Sink<O>>(self, output: &mut O) -> Result<(), S::Error> {
+        S::put(output, &self.octets)
+    }
+}
+
+// Hours, minutes and seconds, and three digits of milliseconds.
+fn clock_octets(seconds: u64, nanoseconds: u32) -> [u8; CLOCK_LEN] {
+    let [h1, h0] = two_digits(seconds / 60 / 60 % 24);
+    let [m1, m0] = two_digits(seconds / 60 % 60);
+    let [s1, s0] = two_digits(seconds % 60);
+    let [d2, d1, d0] = three_digits(u64::from(nanoseconds) / 1_000_000);
+    [h1, h0, b':', m1, m0, b':', s1, s0, b'.', d2, d1, d0]
+}
+
+fn three_digits(number: u64) -> [u8; 3] {
+    [
+        last_digit(number / 10 / 10),
+        last_digit(number / 10),
+        last_digit(number),
+    ]
 }
 
 /// The text of a time.

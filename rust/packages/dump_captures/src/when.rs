@@ -3,7 +3,7 @@
 
 use crate::moment::Moment;
 use crate::options::TimeForm;
-use crate::time::{Clock, TimeText};
+use crate::time::{Clock, ClockText, TimeText};
 use control_wire::inside::text::{Sink, nine_digits, put_number};
 use packet_fields::Form;
 use packet_fields::value::{Text, Value, put_text};
@@ -26,6 +26,8 @@ pub struct When {
 pub enum TimeWord {
     /// In UTC.
     Utc(TimeText),
+    /// Of the day.
+    Clock(ClockText),
     /// In seconds.
     Seconds(Span),
 }
@@ -44,6 +46,7 @@ impl When {
         let time = self.time;
         match self.form {
             TimeForm::Utc => TimeWord::Utc(clock.time(time.seconds, time.nanoseconds)),
+            TimeForm::Clock => TimeWord::Clock(ClockText::of(time.seconds, time.nanoseconds)),
             TimeForm::Epoch => TimeWord::Seconds(Span {
                 is_negative: false,
                 len: time,
@@ -71,6 +74,7 @@ impl Text for TimeWord {
     fn put_into<O, S: Sink<O>>(self, output: &mut O) -> Result<(), S::Error> {
         match self {
             TimeWord::Utc(text) => text.put_into::<O, S>(output),
+            TimeWord::Clock(text) => text.put_into::<O, S>(output),
             TimeWord::Seconds(span) => span.put_into::<O, S>(output),
         }
     }

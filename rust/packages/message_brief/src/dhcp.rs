@@ -69,9 +69,22 @@ pub(crate) fn put_dhcp<W: Write>(output: &mut W, octets: &[u8]) -> io::Result<bo
     Ok(are_whole(parts))
 }
 
-// Whether no option is cut.
+// Whether no option is cut, and none of those that are told has another length.
 fn are_whole(parts: Parts<'_>) -> bool {
-    first_cut(parts).is_none()
+    have_lengths(&parts) && first_cut(parts).is_none()
+}
+
+// Whether none of the options that are told has another length than such values have.
+fn have_lengths(parts: &Parts<'_>) -> bool {
+    is_len(1, parts.joined_len(MESSAGE_TYPE))
+        && is_len(4, parts.joined_len(REQUESTED_ADDRESS))
+        && is_len(4, parts.joined_len(SERVER_IDENTIFIER))
+        && is_len(4, parts.joined_len(LEASE_TIME))
+}
+
+// Whether an option of so many octets has this length, or has none or is not there.
+fn is_len(len: usize, octets: usize) -> bool {
+    octets == 0 || octets == len
 }
 
 // Whether there is room for options, and the magic cookie before them.

@@ -180,6 +180,11 @@ fn put_answer<O, S: Sink<O>>(
             put_data::<O, S>(output, &text.data)?;
             put_more::<O, S>(output, others(count))
         }
+        Answer::Empty(name, type_) => {
+            put_lead::<O, S>(output, kind, asked, name, *type_)?;
+            S::put_str(output, "-")?;
+            put_more::<O, S>(output, others(count))
+        }
         Answer::Node(name, type_, part) => {
             put_lead::<O, S>(output, kind, asked, name, *type_)?;
             part.put_into::<O, S>(output)?;

@@ -1,7 +1,7 @@
 // Made from crates/message_brief/src/groups.rt by rust/erase.
 //! Brief lines of IGMP (RFC 2236, RFC 3376) and of multicast listener discovery (RFC 2710, RFC 3810).
 
-use crate::icmp::put_head6;
+use crate::icmp::put_type6;
 use crate::words::{put_more, put_word};
 use control_wire::Octets;
 use control_wire::inside::text::{Sink, put_number};
@@ -135,7 +135,7 @@ pub(crate) fn put_mld<O, S: Sink<O>>(output: &mut O, octets: &[u8]) -> Result<()
     if octets.len() < place::HEAD_LEN {
         return Ok(());
     }
-    put_head6::<O, S>(output, octets[place::TYPE], octets[place::CODE])?;
+    put_type6::<O, S>(output, octets[place::TYPE])?;
     put_body6::<O, S>(output, octets)
 }
 

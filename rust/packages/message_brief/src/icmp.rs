@@ -128,6 +128,11 @@ pub(crate) fn is_whole6(octets: &[u8]) -> bool {
     !is_error6(octets[place::TYPE]) || quotes6(quoted)
 }
 
+/// Puts the name of a type of ICMPv6.
+pub(crate) fn put_type6<O, S: Sink<O>>(output: &mut O, type_: u8) -> Result<(), S::Error> {
+    put_type::<O, S>(output, icmp6_type_name(type_), type_)
+}
+
 /// Puts the names of a type and a code of ICMPv6.
 pub(crate) fn put_head6<O, S: Sink<O>>(
     output: &mut O,
@@ -183,13 +188,17 @@ fn put_head<O, S: Sink<O>>(
     code_name: Option<&str>,
     code: u8,
 ) -> Result<(), S::Error> {
+    put_type::<O, S>(output, type_name, type_)?;
+    put_code::<O, S>(output, code_name, code)
+}
+
+fn put_type<O, S: Sink<O>>(output: &mut O, name: Option<&str>, type_: u8) -> Result<(), S::Error> {
     let label = Label {
-        name: type_name,
+        name,
         kind: "type",
         number: type_,
     };
-    put_word::<O, S, Label<'_>>(output, label)?;
-    put_code::<O, S>(output, code_name, code)
+    put_word::<O, S, Label<'_>>(output, label)
 }
 
 fn put_code<O, S: Sink<O>>(output: &mut O, name: Option<&str>, code: u8) -> Result<(), S::Error> {

@@ -65,8 +65,7 @@ fn show_records<P: Part, W: Write>(
 ) -> io::Result<()> {
     show_parts::<P, W>(output, form, "records", count as usize, octets)?;
     show_lack(output, form, lack)?;
-    let behind = behind_parts::<P>(count as usize, octets);
-    show_additional(output, form, behind.octets)
+    show_additional(output, form, behind_parts::<P>(count as usize, octets))
 }
 
 // Whether fewer than `count` records are whole.

@@ -48,17 +48,8 @@ fn show_each<P: Part, W: Write>(
     Ok(())
 }
 
-/// What stands behind parts, and how many of them are missing.
-#[derive(Debug, PartialEq, Eq, Clone, Copy)]
-pub struct Behind<'a> {
-    /// The octets behind the parts.
-    pub octets: &'a [u8],
-    /// The number of parts that are missing.
-    pub missing: usize,
-}
-
-/// What stands behind `count` parts of some octets, and how many are missing.
-pub fn behind_parts<P: Part>(count: usize, octets: &[u8]) -> Behind<'_> {
+/// What stands behind `count` parts of some octets.
+pub fn behind_parts<P: Part>(count: usize, octets: &[u8]) -> &[u8] {
     let mut rest = octets;
     let mut left = count;
     while left > 0 && !rest.is_empty() {
@@ -66,8 +57,5 @@ pub fn behind_parts<P: Part>(count: usize, octets: &[u8]) -> Behind<'_> {
         rest = others;
         left -= 1;
     }
-    Behind {
-        octets: rest,
-        missing: left,
-    }
+    rest
 }

@@ -15,5 +15,5 @@ mod unanswered;
 pub use exchange::{Exchange, Role, exchange_of};
 pub use key::{EchoKey, Key, LeaseKey, NameKey, NeighborKey, NetbiosKey, Reply, Way};
 pub use pairs::{Answered, Asked, Fault, MOST_ANSWERED, MOST_WAITING, Pairs};
-pub use show::show_answered;
+pub use show::{Nanoseconds, show_answered};
 pub use unanswered::show_asked;

@@ -25,9 +25,9 @@ fn show_after<W: Write>(output: &mut W, form: Form, after: Option<u64>) -> io::R
     }
 }
 
-// A time in nanoseconds, which prints in milliseconds.
+/// A time in nanoseconds, which prints in milliseconds with three digits behind the point, as `46.200ms`.
 #[derive(Debug, PartialEq, Eq, Clone, Copy)]
-struct Nanoseconds(u64);
+pub struct Nanoseconds(pub u64);
 
 impl Text for Nanoseconds {
     fn put_into<O, S: Sink<O>>(self, output: &mut O) -> Result<(), S::Error> {

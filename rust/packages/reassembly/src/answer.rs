@@ -29,6 +29,9 @@ pub struct Whole {
     /// The protocol of the payload, as the fragment at offset 0 names it. In IPv6 this may be a header that extends
     /// IPv6, with which the payload then begins.
     pub protocol: IpProtocol,
+    /// The hop-by-hop options before the fragment at offset 0, as it has them: they stay with the datagram, and those
+    /// before the other fragments do not (RFC 8200 section 4.5). None in IPv4.
+    pub hop_by_hop: Option<Vec<u8>>,
     /// The payload: the bytes of the fragments in the order of their offsets, at most 65,535.
     pub payload: Vec<u8>,
     /// The numbers of the packets that the fragments came in, in the order of their offsets.
@@ -48,6 +51,9 @@ pub enum Refusal {
     Length,
     /// It goes on past the 65,535 bytes that a datagram may have. The fragments that are kept stay.
     TooLong,
+    /// Its hop-by-hop options have more than `MOST_OPTIONS_LEN` bytes, which no header has. The fragments that are kept
+    /// stay.
+    Options,
     /// It is of a datagram that was discarded before for one of the reasons below.
     Discarded,
     /// It has bytes in common with another fragment of its datagram without being the same fragment again. The datagram

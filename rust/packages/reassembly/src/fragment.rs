@@ -3,11 +3,11 @@
 
 use crate::answer::Refusal;
 use crate::key::Key;
-use crate::piece::MOST_LEN;
+use crate::piece::{MOST_LEN, MOST_OPTIONS_LEN};
 use control_wire::frames::{Addresses, Datagram, Head, Refusal as HeaderRefusal};
 use control_wire::{IpProtocol, Ipv4Packet, Ipv6Packet, Octets};
 
-/// A fragment of a datagram, which borrows its payload from the octets of the packet.
+/// A fragment of a datagram, which borrows its options and its payload from the octets of the packet.
 ///
 /// ```
 /// use control_wire::IpProtocol;
@@ -36,6 +36,10 @@ pub struct Fragment<'a> {
     pub frag_offset: u16,
     /// Whether more fragments follow.
     pub more_frags: bool,
+    /// The options of the hop-by-hop header before that of the fragment: its octets after the first two, up to its end.
+    /// It may only follow directly after the header of IPv6 (RFC 8200 section 4.1): None where it does not, and in
+    /// IPv4.
+    pub hop_by_hop: Option<&'a [u8]>,
     /// The bytes of the datagram's payload that this fragment has.
     pub payload: &'a [u8],
 }
@@ -50,7 +54,7 @@ impl<'a> Fragment<'a> {
     pub fn parse_v4(octets: &'a [u8]) -> Option<Fragment<'a>> {
         match Datagram::parse_v4(octets) {
             Err(HeaderRefusal::Fragment(head)) => {
-                Fragment::of(head, Ipv4Packet::new_unchecked(octets).payload())
+                Fragment::of(head, None, Ipv4Packet::new_unchecked(octets).payload())
             }
             Err(_) => None,
             Ok(_) => None,
@@ -58,9 +62,10 @@ impl<'a> Fragment<'a> {
     }
 
     /// The fragment of an IPv6 datagram (RFC 8200 section 4.5) at the start of the octets, by its payload length; what
-    /// follows it is ignored. Its hop-by-hop, destination and routing headers before that of the fragment are passed.
-    /// None where they are no fragment or an atomic one (RFC 6946), where `Datagram::parse_v6` refuses them for another
-    /// reason, and where they end before the fragment does.
+    /// follows it is ignored. Its hop-by-hop, destination and routing headers before that of the fragment are passed,
+    /// and the options of a hop-by-hop header directly after the fixed one are kept. None where they are no fragment or
+    /// an atomic one (RFC 6946), where `Datagram::parse_v6` refuses them for another reason, and where they end before
+    /// the fragment does.
     pub fn parse_v6(octets: &'a [u8]) -> Option<Fragment<'a>> {
         let refusal = match Datagram::parse_v6(octets) {
             Err(refusal) => refusal,
@@ -69,15 +74,18 @@ impl<'a> Fragment<'a> {
         match refusal {
             HeaderRefusal::Fragment(head) => {
                 let packet = Ipv6Packet::new_unchecked(octets);
-                let header = fragment_header(packet.next_header(), packet.payload())?;
-                Fragment::of(head, behind(header, FRAGMENT_HEADER_LEN))
+                let next_header = packet.next_header();
+                let payload = packet.payload();
+                let header = fragment_header(next_header, payload)?;
+                let options = options_of(next_header, payload);
+                Fragment::of(head, options, behind(header, FRAGMENT_HEADER_LEN))
             }
             _ => None,
         }
     }
 
-    // The fragment of a head with its payload; None where the head has no identification.
-    fn of(head: Head, payload: &'a [u8]) -> Option<Fragment<'a>> {
+    // The fragment of a head with its options and its payload; None where the head has no identification.
+    fn of(head: Head, hop_by_hop: Option<&'a [u8]>, payload: &'a [u8]) -> Option<Fragment<'a>> {
         match head.ident {
             Some(ident) => Some(Fragment {
                 addresses: head.addresses,
@@ -85,6 +93,7 @@ impl<'a> Fragment<'a> {
                 ident,
                 frag_offset: head.frag_offset,
                 more_frags: head.more_frags,
+                hop_by_hop,
                 payload,
             }),
             None => None,
@@ -120,13 +129,32 @@ impl<'a> Fragment<'a> {
         if len > MOST_LEN - self.frag_offset as usize {
             return Some(Refusal::TooLong);
         }
+        if self.options_len() > MOST_OPTIONS_LEN {
+            return Some(Refusal::Options);
+        }
         None
+    }
+
+    // The number of bytes of its hop-by-hop options.
+    fn options_len(&self) -> usize {
+        match self.hop_by_hop {
+            Some(options) => options.len(),
+            None => 0,
+        }
     }
 
     // The place after its last byte in the datagram's payload.
     pub(crate) fn end(&self) -> usize {
         self.frag_offset as usize + self.payload.len()
     }
+}
+
+// The options of a hop-by-hop header; other headers have none.
+fn options_of(protocol: IpProtocol, header: &[u8]) -> Option<&[u8]> {
+    if protocol == IpProtocol::HopByHop {
+        return Some(&header[2..8 * header[1] as usize + 8]);
+    }
+    None
 }
 
 // The header of a fragment that a protocol and the octets after it lead to, past those that extend IPv6 before it.

@@ -4,6 +4,7 @@
 mod answer;
 mod fragment;
 mod key;
+mod options;
 mod partial;
 mod piece;
 mod reassembly;
@@ -12,5 +13,5 @@ pub use answer::{Answer, Fault, Refusal, Whole};
 pub use fragment::Fragment;
 pub use key::Key;
 pub use partial::{MOST_PIECES, Partial};
-pub use piece::{MOST_LEN, Piece};
+pub use piece::{MOST_LEN, MOST_OPTIONS_LEN, Piece};
 pub use reassembly::{MOST_DATAGRAMS, Reassembly};

@@ -4,6 +4,7 @@
 use crate::answer::{Fault, Refusal, Whole};
 use crate::fragment::Fragment;
 use crate::key::Key;
+use crate::options::copied;
 use crate::piece::{Piece, Standing};
 use control_wire::IpProtocol;
 #[allow(unused_imports)]
@@ -111,6 +112,7 @@ impl Partial {
         Ok(Whole {
             addresses: self.key.addresses,
             protocol: first_protocol(pieces),
+            hop_by_hop: copied(first_options(pieces))?,
             payload: payload(pieces)?,
             numbers: numbers(pieces)?,
         })
@@ -157,6 +159,14 @@ fn first_protocol(pieces: &[Piece]) -> IpProtocol {
     match pieces.first() {
         Some(piece) => piece.protocol(),
         None => IpProtocol::Ipv6NoNxt,
+    }
+}
+
+// The hop-by-hop options that the first one has.
+fn first_options(pieces: &[Piece]) -> Option<&[u8]> {
+    match pieces.first() {
+        Some(piece) => piece.hop_by_hop(),
+        None => None,
     }
 }
 

@@ -3,12 +3,17 @@
 
 use crate::answer::Fault;
 use crate::fragment::Fragment;
+use crate::options::kept_options;
 use control_wire::IpProtocol;
 #[allow(unused_imports)]
 use rattle_std::prelude::*;
 
 /// The most bytes of a datagram's payload.
 pub const MOST_LEN: usize = 65_535;
+
+/// The most bytes of a datagram's hop-by-hop options: of the 2,048 bytes of the longest header those after the first
+/// two (RFC 8200 section 4.3).
+pub const MOST_OPTIONS_LEN: usize = 2_046;
 
 /// A fragment that is kept.
 #[derive(Debug)]
@@ -17,6 +22,8 @@ pub struct Piece {
     protocol: IpProtocol,
     offset: u16,
     more: bool,
+    // None where it is not at offset 0.
+    hop_by_hop: Option<Vec<u8>>,
     octets: Vec<u8>,
 }
 
@@ -36,6 +43,7 @@ pub(crate) enum Standing {
 impl Piece {
     // A fragment that came in the packet of this number.
     pub(crate) fn new(number: u64, fragment: &Fragment<'_>) -> Result<Piece, Fault> {
+        let hop_by_hop = kept_options(fragment)?;
         let mut octets = Vec::new();
         if octets.extend_from_slice(fragment.payload).is_err() {
             return Err(Fault::Memory);
@@ -45,6 +53,7 @@ impl Piece {
             protocol: fragment.protocol,
             offset: fragment.frag_offset,
             more: fragment.more_frags,
+            hop_by_hop,
             octets,
         })
     }
@@ -67,6 +76,15 @@ impl Piece {
     /// Whether more fragments follow.
     pub fn more_frags(&self) -> bool {
         self.more
+    }
+
+    /// The options of the hop-by-hop header in front of it, where it is at offset 0: those stay with the datagram (RFC
+    /// 8200 section 4.5). None of another.
+    pub fn hop_by_hop(&self) -> Option<&[u8]> {
+        match &self.hop_by_hop {
+            Some(options) => Some(options.as_slice()),
+            None => None,
+        }
     }
 
     /// Its bytes of the datagram's payload.

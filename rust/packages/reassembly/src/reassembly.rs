@@ -12,14 +12,15 @@ use rattle_std::prelude::*;
 pub const MOST_DATAGRAMS: usize = 64;
 
 /// The datagrams of which some fragments came, in the order in which they began: at most `MOST_DATAGRAMS`, of at most
-/// `MOST_PIECES` fragments each, whose bytes are those of their datagram, at most `MOST_LEN`. So less than 4 MiB of
-/// fragments are kept, and the work of one fragment is linear in its length and the number of those of its datagram; the
-/// last one takes the length of the whole datagram.
+/// `MOST_PIECES` fragments each, whose bytes are those of their datagram, at most `MOST_LEN`. Of the hop-by-hop options
+/// those before the fragment at offset 0 are kept, at most `MOST_OPTIONS_LEN` bytes. So less than 4 MiB of fragments
+/// are kept and less than 128 KiB of options, and the work of one fragment is linear in its length and the number of
+/// those of its datagram; the last one takes the length of the whole datagram.
 ///
 /// No time is kept. A datagram is forgotten where it is whole, or where it began first and there is no room for another
-/// one. A fragment that comes again, as where a packet is captured twice, is kept once, with the number of the first
-/// packet. Where a fragment contradicts another of its datagram, or is one too many, the whole datagram is discarded
-/// (RFC 5722 section 3), and its key stays in its place: other fragments of it are refused for as long.
+/// one. A fragment that comes again, as where a packet is captured twice, is kept once, with the number and the options
+/// of the first packet. Where a fragment contradicts another of its datagram, or is one too many, the whole datagram is
+/// discarded (RFC 5722 section 3), and its key stays in its place: other fragments of it are refused for as long.
 pub struct Reassembly {
     datagrams: Vec<Partial>,
 }

@@ -8,9 +8,7 @@ unfolding heading
 returns g c =
     gains_last _ _ _
     (c.in_ok-put.ensures.text then gained _ _ _ c.in_ok-write_all.ensures.bytes then c.in_ok-show_time.ensures
-    then c.in_ok-show_addresses.ensures then c.in_ok-show_tags.ensures then c.in_ok-show_tunnels.ensures
-    then c.in_ok-show_frames.ensures then c.in_ok-show_hop_by_hop.ensures
-    then (rw c.is_over_tcp.ensures at c.in_ok-show_transport.ensures)
+    then c.in_ok-show_addresses.ensures then c.in_ok-show_more.ensures then c.in_ok-show_way.ensures
     then gained _ _ _ c.in_ok-write_all-2.ensures.bytes
     then (rw (c.name.ensures, c.kind.ensures) at c.in_ok-put-2.ensures.text))
     (gained_on_ok _ _ _ _ c.write_all-3.ensures.bytes)

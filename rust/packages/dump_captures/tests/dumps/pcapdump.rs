@@ -2,6 +2,7 @@
 //! What captures print, what is counted of them, and what is said where reading or writing fails.
 
 mod arguments;
+mod brief;
 mod counts;
 mod faults;
 mod forms;
@@ -9,6 +10,7 @@ mod live;
 mod options;
 mod packets;
 mod refusal;
+mod services;
 mod time;
 
 use dump_captures::options::Options;

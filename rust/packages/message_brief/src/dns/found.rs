@@ -40,7 +40,9 @@ pub(crate) enum Answer<'a> {
     Unread,
     /// A record as a zone file has it.
     Zone(RecordText<'a>),
-    /// A record of the NetBIOS name service, with the first entry of its data.
+    /// A record of the NetBIOS name service that has no entries.
+    Empty(Name, Type),
+    /// One with the first entry of its data.
     Node(Name, Type, OnePart<'a>),
 }
 
@@ -49,7 +51,7 @@ impl Answer<'_> {
     pub(crate) fn is_read(&self) -> bool {
         match self {
             Answer::Unread => false,
-            Answer::Nothing | Answer::Zone(_) | Answer::Node(_, _, _) => true,
+            Answer::Nothing | Answer::Zone(_) | Answer::Empty(_, _) | Answer::Node(_, _, _) => true,
         }
     }
 }
@@ -125,6 +127,9 @@ fn told_by_node<'a>(packet: &Packet<&'a [u8]>, record: &Record<'a>) -> Answer<'a
 
 // A record with its name read, by the layout of its data.
 fn node_by<'a>(layout: Layout, name: Name, record: &Record<'a>) -> Answer<'a> {
+    if has_no_part(layout, record.data) {
+        return Answer::Empty(name, record.type_);
+    }
     match layout {
         Layout::Addresses => first_part(Part::Address, name, record.type_, record.data),
         Layout::Names => {
@@ -138,6 +143,15 @@ fn node_by<'a>(layout: Layout, name: Name, record: &Record<'a>) -> Answer<'a> {
             type_: record.type_,
             data: DataText::Other(record.data),
         }),
+    }
+}
+
+// Whether data have no addresses, or count no names.
+fn has_no_part(layout: Layout, octets: &[u8]) -> bool {
+    match layout {
+        Layout::Addresses => octets.is_empty(),
+        Layout::Names => !octets.is_empty() && octets[0] == 0,
+        Layout::Octets => false,
     }
 }
 

@@ -227,7 +227,9 @@ fn messages_of_captures() {
 }
 
 // The ping of mixed.pcap, up to its identifier and up to its data; a response of which the first answer is torn, and an
-// error whose quote is; a report that counts a record more than it has; a type without a name.
+// error whose quote is; a report that counts a record more than it has; a type without a name; the
+// answer of netbios-names.pcap without its address, a query of listeners of another code, and the lease of lease.pcap
+// whose time has three octets.
 const CUT: &[Row] = &[
     (Kind::Icmp4, b"\x08\0\xe2\xdf\x1a\x09", " echo_request ..."),
     (
@@ -252,6 +254,27 @@ const CUT: &[Row] = &[
         " membership_report_v3 allow_new_sources=239.1.2.3 ...",
     ),
     (Kind::Icmp4, b"\xc8\x01\0\0\0\0\0\0", " type_200 code=1"),
+    (
+        Kind::Udp(Service::Nbns),
+        b"\0\x89\xeb\x83\0@\0\0\x0bB\x85\x80\0\0\0\x01\0\0\0\0\x20EDFHCNEOEFEJEHEIECEPFFFCCACACAAA\0\0\
+            \x20\0\x01\0\x03\xf4\x80\0\0",
+        " 2882 NOERROR NB CW-NEIGHBOUR<00> = -",
+    ),
+    (
+        Kind::Icmp6,
+        b"\x82\x01W\x95'\x10\0\0\0\0\0\0\0\0\0\0\0\0\0\0\0\0\0\0\x02}\0\0",
+        " multicast_listener_query_v2 ::",
+    ),
+    (
+        Kind::Udp(Service::Dhcp),
+        b"\0C\0D\x01\x07\0\0\x02\x01\x06\0'\x80\xbd\x05\0\0\0\0\0\0\0\0\xc0\0\x022\xc0\0\x02\x01\0\0\0\0\x02\
+            \0\0\0\0\x07\0\0\0\0\0\0\0\0\0\0\0\0\0\0\0\0\0\0\0\0\0\0\0\0\0\0\0\0\0\0\0\0\0\0\0\0\0\0\0\0\0\0\
+            \0\0\0\0\0\0\0\0\0\0\0\0\0\0\0\0\0\0\0\0\0\0\0\0\0\0\0\0\0\0\0\0\0\0\0\0\0\0\0\0\0\0\0\0\0\0\0\0\
+            \0\0\0\0\0\0\0\0\0\0\0\0\0\0\0\0\0\0\0\0\0\0\0\0\0\0\0\0\0\0\0\0\0\0\0\0\0\0\0\0\0\0\0\0\0\0\0\0\
+            \0\0\0\0\0\0\0\0\0\0\0\0\0\0\0\0\0\0\0\0\0\0\0\0\0\0\0\0\0\0\0\0\0\0\0\0\0\0\0\0\0\0\0\0\0\0\0\0\
+            \0\0\0\0\0\0\0\0\0\0\0\0\0\0\0\0c\x82Sc5\x01\x056\x04\xc0\0\x02\x013\x03\0\x0e\x10\xff",
+        " ack 662748421 02:00:00:00:00:07 = 192.0.2.50 from 192.0.2.1 ...",
+    ),
 ];
 
 #[test]

@@ -12,6 +12,7 @@ impl fmt::Display for Refusal {
             Refusal::Unfragmented => write!(f, "a whole datagram"),
             Refusal::Length => write!(f, "a length that is no multiple of 8, and more fragments"),
             Refusal::TooLong => write!(f, "bytes past the 65535 of a datagram"),
+            Refusal::Options => write!(f, "hop-by-hop options longer than a header"),
             Refusal::Discarded => write!(f, "a datagram that was discarded"),
             Refusal::Overlap => write!(f, "bytes that another fragment has"),
             Refusal::End => write!(f, "bytes past the end of the datagram"),

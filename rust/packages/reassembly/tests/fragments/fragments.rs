@@ -2,6 +2,8 @@
 use crate::testing::same_of;
 use control_wire::frames::Addresses;
 use control_wire::{IpProtocol, Ipv4Address, Ipv6Address};
+#[allow(unused_imports)]
+use rattle_std::prelude::*;
 use reassembly::Fragment;
 
 // The last fragment of a datagram of IPv4, with a router alert option, five bytes of UDP, and padding of a frame.
@@ -33,6 +35,7 @@ fn a_fragment_of_ipv4() {
         ident: 0x1234,
         frag_offset: 16,
         more_frags: false,
+        hop_by_hop: None,
         payload: &[1, 2, 3, 4, 5],
     };
     for len in 0..V4.len() + 1 {
@@ -58,6 +61,7 @@ fn a_fragment_of_ipv6() {
         ident: 0xdead_beef,
         frag_offset: 8,
         more_frags: true,
+        hop_by_hop: Some(&[5, 2, 0, 0, 1, 0]),
         payload: &[1, 2, 3, 4, 5, 6, 7, 8],
     };
     for len in 0..V6.len() + 1 {
@@ -87,4 +91,31 @@ fn what_is_no_fragment() {
     same_of((), Fragment::parse_v4(&octets), None);
     octets[6] = 0x20;
     same_of((), Fragment::parse_v4(&octets).is_some(), true);
+}
+
+// Hop-by-hop options behind destination options, where they are not allowed, are passed; two headers of them, where the
+// first alone counts, of 16 bytes.
+#[test]
+fn options_stand_behind_the_fixed_header_alone() {
+    const FRAGMENT: &[u8] = &[17, 0, 0, 1, 0, 0, 0, 1, 1, 2, 3, 4, 5, 6, 7, 8];
+    const ROWS: &[(u8, &[u8], Option<&[u8]>)] = &[
+        (44, &[], None),
+        (60, &[0, 0, 1, 4, 0, 0, 0, 0, 44, 0, 5, 2, 0, 0, 1, 0], None),
+        (
+            0,
+            &[
+                0, 1, 1, 12, 0, 0, 0, 0, 0, 0, 0, 0, 0, 0, 0, 9, 44, 0, 5, 2, 0, 0, 1, 0,
+            ],
+            Some(&[1, 12, 0, 0, 0, 0, 0, 0, 0, 0, 0, 0, 0, 9]),
+        ),
+    ];
+    for (first, headers, want) in ROWS {
+        let mut octets = Vec::new();
+        let _ = octets.extend_from_slice(&[0x60, 0, 0, 0, 0, headers.len() as u8 + 16, *first, 64]);
+        let _ = octets.extend_from_slice(&[0; 32]);
+        let _ = octets.extend_from_slice(headers);
+        let _ = octets.extend_from_slice(FRAGMENT);
+        let options = Fragment::parse_v6(octets.as_slice()).map(|fragment| fragment.hop_by_hop);
+        same_of(first, options, Some(*want));
+    }
 }

@@ -1,6 +1,7 @@
 // Made from crates/tests_reassembly/src/reassembling.rt by rust/erase.
 mod captured;
 mod limits;
+mod options;
 
 use crate::testing::{prints, same_of};
 use control_wire::frames::Addresses;
@@ -50,6 +51,7 @@ fn fragment(ident: u32, frag_offset: u16, more_frags: bool, payload: &[u8]) -> F
         ident,
         frag_offset,
         more_frags,
+        hop_by_hop: None,
         payload,
     }
 }
@@ -324,6 +326,7 @@ fn refusals_and_faults_print() {
             "a length that is no multiple of 8, and more fragments",
         ),
         (Refusal::TooLong, "bytes past the 65535 of a datagram"),
+        (Refusal::Options, "hop-by-hop options longer than a header"),
         (Refusal::Discarded, "a datagram that was discarded"),
         (Refusal::Overlap, "bytes that another fragment has"),
         (Refusal::End, "bytes past the end of the datagram"),

@@ -223,6 +223,15 @@ fn times_in_each_form() {
             ],
         ),
         (
+            TimeForm::Clock,
+            [
+                "12:35:06.000",
+                "12:35:04.000",
+                "12:35:04.000",
+                "12:36:11.000",
+            ],
+        ),
+        (
             TimeForm::Relative,
             [
                 "0.000000000",
@@ -254,7 +263,7 @@ fn times_in_each_form() {
     }
     for (time_form, times) in ROWS {
         let options = Options {
-            time_form: *time_form,
+            time_form: Some(*time_form),
             ..PRINTED
         };
         check_times(capture.as_slice(), &options, times);
@@ -278,7 +287,7 @@ fn times_since_packets_that_are_printed_or_not() {
     for (time_form, times) in ROWS {
         let options = Options {
             host: Host::read("::/0"),
-            time_form: *time_form,
+            time_form: Some(*time_form),
             ..PRINTED
         };
         check_times(capture.as_slice(), &options, times);

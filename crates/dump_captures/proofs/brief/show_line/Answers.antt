@@ -1,0 +1,18 @@
+-- What stands before, what the packet says and answers, and the end of the line.
+use Rattle.std.proofs.Common.{refl}
+use Rattle.packet_fields.proofs.Printing.{◌then◌, gained}
+use Rattle.dump_captures.proofs.brief.show_line.Goals as goal
+
+pub returns : goal.returns
+returns g c =
+    let reason = c.in_ok-why.ensures in
+    let packet = c.in_ok-show_packet.ensures in (
+      _,
+      (
+        c.in_ok-answer.answer,
+        c.in_ok-answer.ensures,
+        record { items = reason.0; is = reason.1; told = packet.0; says = packet.1; text_is = refl },
+      ),
+      c.in_ok-show_front.ensures then packet.2 then c.in_ok-show_answer.ensures
+          then gained _ _ _ c.in_ok-write_all.ensures.bytes,
+    )

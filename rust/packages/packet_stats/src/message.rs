@@ -1,0 +1,65 @@
+// Made from crates/packet_stats/src/message.rt by rust/erase.
+//! What a message says.
+
+use crate::stats::Stats;
+use crate::subject::IpAddress;
+use crate::table::Fault;
+use control_wire::frames::{Addresses, CapturedUdp};
+use message_fields::{Message, Service};
+
+impl Stats {
+    /// Counts what a message says, as far as its octets are there. The addresses are those of its datagram, the source
+    /// first; messages of ICMPv6, and over UDP and TCP, have their own. Where the message answers a question, `after`
+    /// is the time from then on in nanoseconds, as `packet_pairs` tells it. No checksum is verified.
+    ///
+    /// - Of a query of DNS, multicast DNS or LLMNR each question, by its name in lower case and its type; and of a
+    ///   response the outcome and the server.
+    ///
+    /// Where there is no memory for a row or a time, what the message says is counted up to there.
+    pub fn count(
+        &mut self,
+        message: &Message<'_>,
+        addresses: &Addresses,
+        after: Option<u64>,
+    ) -> Result<(), Fault> {
+        match message {
+            Message::Icmp4(_) | Message::Igmp(_) | Message::Icmp6(..) => Ok(()),
+            Message::Udp(service, between, octets) => {
+                self.count_udp(*service, between, after, octets)
+            }
+            Message::Tcp(between, _, octets) => {
+                self.count_dns(IpAddress::source(between), after, octets)
+            }
+        }
+    }
+
+    // Counts what a datagram of UDP says.
+    fn count_udp(
+        &mut self,
+        service: Service,
+        between: &Addresses,
+        after: Option<u64>,
+        octets: &[u8],
+    ) -> Result<(), Fault> {
+        match CapturedUdp::parse(octets) {
+            Ok(datagram) => {
+                self.count_service(service, IpAddress::source(between), after, datagram.payload)
+            }
+            Err(_) => Ok(()),
+        }
+    }
+
+    // Counts what the payload of a datagram of a service says.
+    fn count_service(
+        &mut self,
+        service: Service,
+        source: IpAddress,
+        after: Option<u64>,
+        octets: &[u8],
+    ) -> Result<(), Fault> {
+        match service {
+            Service::Nbns | Service::Dhcp => Ok(()),
+            Service::Dns | Service::Mdns | Service::Llmnr => self.count_dns(source, after, octets),
+        }
+    }
+}
