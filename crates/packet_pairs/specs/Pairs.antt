@@ -4,7 +4,8 @@ use Rattle.std.specs.Prelude.{if◌then◌else◌}
 use Rattle.std.specs.Prelude.{length, map, min, nat_le, take, true, ℕ}
 use Rattle.packet_pairs.specs.Exchange.{ExchangeValue}
 use Rattle.packet_pairs.specs.Key.{KeyValue, echo, key_of, lease, name, neighbor, netbios}
-use Rattle.packet_pairs.specs.Types.{Answered, Asked, Key, Pairs, Role, Service}
+use Rattle.packet_pairs.specs.Types.{Answered, Asked, Key, Role, Service}
+use Rattle.packet_pairs.specs.declared.pairs.Pairs.{Pairs}
 
 -- a question by its content
 pub record AskedValue : Type 0 where

@@ -16,4 +16,3 @@ pub use Rattle.packet_pairs.specs.declared.exchange.Role.{Role}
 pub use Rattle.packet_pairs.specs.declared.pairs.Answered.{Answered}
 pub use Rattle.packet_pairs.specs.declared.pairs.Asked.{Asked}
 pub use Rattle.packet_pairs.specs.declared.pairs.Fault.{Fault}
-pub use Rattle.packet_pairs.specs.declared.pairs.Pairs.{Pairs}

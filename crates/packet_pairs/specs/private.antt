@@ -1,2 +1,3 @@
 pub mod Directions
 pub mod Places
+pub mod Sums

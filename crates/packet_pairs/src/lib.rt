@@ -3,13 +3,16 @@
 #![tactic(auto)]
 
 mod echo;
+mod elapsed;
 mod exchange;
 mod key;
 mod lease;
 mod names;
 mod neighbor;
 mod pairs;
+mod search;
 mod show;
+mod sum;
 mod unanswered;
 
 pub use exchange::{Exchange, Role, exchange_of};

@@ -1,19 +1,12 @@
 //! The questions that wait for an answer.
 
-ghost use Rattle.std.specs.Prelude.{◌≡◌, ◌<◌, ◌≤◌, ◌++◌, [], ◌∷◌, ℕ, IfOk, IfSome, IsNone, None, OnErr, OnOk, drop};
-ghost use Rattle.std.specs.Prelude.{map};
-ghost use Rattle.std.specs.VecDeque.{deque_capacity, deque_len};
-ghost use Rattle.packet_pairs.specs.Bounds.{IsWithinBounds};
-ghost use Rattle.packet_pairs.specs.Exchange.{answering, asking, exchange_of};
-ghost use Rattle.packet_pairs.specs.Key.{key_of};
-ghost use Rattle.packet_pairs.specs.Pairs.{IsUnknown, Sees, TakesMemory, answers, asked_again, asked_of, key_in};
-ghost use Rattle.packet_pairs.specs.Pairs.{nanoseconds_between};
-ghost use Rattle.packet_pairs.specs.Pairs.{one_more, remembered, state_of};
-ghost use Rattle.packet_pairs.specs.Runs.{PairsUp};
-ghost use Rattle.packet_pairs.specs.private.Places.{IsFoundAt};
+ghost use Rattle.std.specs.Prelude.{◌≡◌, map};
+ghost use Rattle.packet_pairs.specs.private.Sums.{sum_in};
 
+use crate::elapsed::nanoseconds_between;
 use crate::exchange::{Exchange, Role};
 use crate::key::Key;
+use crate::search::{find, place_of};
 use std::alloc::Global;
 use std::collections::VecDeque;
 
@@ -50,6 +43,8 @@ pub enum Fault {
 }
 
 impl Asked {
+    ghost use Rattle.packet_pairs.specs.Pairs.{answers, asked_again, asked_of, key_in};
+
     /// What it has in common with its answers.
     pub fn key(&self) -> &Key
         ensures { result.now ≡ key_in self.now }
@@ -96,16 +91,6 @@ impl Asked {
     }
 }
 
-// The nanoseconds from one time to another, where both are known and the other is not before the one.
-fn nanoseconds_between(before: Option<u64>, after: Option<u64>) -> Option<u64>
-    ensures { result ≡ nanoseconds_between before after }
-{
-    match (before, after) {
-        (Some(before), Some(after)) if before <= after => Some(after - before),
-        _ => None,
-    }
-}
-
 /// The questions that wait for an answer, in the order in which they were asked, at most `MOST_WAITING`: where there is
 /// no room for another, the one that was asked first is dropped. Each takes less than 400 bytes, so that all take less
 /// than 1 MB. To see a message takes time that is linear in their number.
@@ -118,12 +103,27 @@ fn nanoseconds_between(before: Option<u64>, after: Option<u64>) -> Option<u64>
 #[derive(Drop)]
 pub struct Pairs {
     waiting: VecDeque<Asked>,
+    // The sums of their keys, in the same order: a key is compared only where the sum is the same.
+    sums: VecDeque<u32>,
     // The latest first.
     answered: VecDeque<Asked>,
     dropped: u64,
+    ghost summed: { sums.items ≡ map sum_in waiting.items },
 }
 
 impl Pairs {
+    ghost use Rattle.std.specs.Prelude.{◌<◌, ◌≤◌, ◌++◌, [], ◌∷◌, ℕ, IfOk, IfSome, IsNone, IsOk, None, OnErr, OnOk};
+    ghost use Rattle.std.specs.Prelude.{drop};
+    ghost use Rattle.std.specs.VecDeque.{deque_capacity, deque_len};
+    ghost use Rattle.packet_pairs.specs.Bounds.{IsWithinBounds};
+    ghost use Rattle.packet_pairs.specs.Exchange.{answering, asking, exchange_of};
+    ghost use Rattle.packet_pairs.specs.Key.{key_of};
+    ghost use Rattle.packet_pairs.specs.Pairs.{IsUnknown, Sees, TakesMemory, asked_of, one_more, remembered};
+    ghost use Rattle.packet_pairs.specs.Pairs.{state_of};
+    ghost use Rattle.packet_pairs.specs.Runs.{PairsUp};
+    ghost use Rattle.packet_pairs.specs.private.Places.{IsFoundAt};
+    ghost use Rattle.packet_pairs.specs.private.Sums.{sum_of};
+
     /// No message was seen yet. A question that is new is paired with the next answer to it, unless `MOST_WAITING`
     /// other questions come in between.
     pub fn new(alloc: Global) -> Pairs
@@ -133,6 +133,7 @@ impl Pairs {
     {
         Pairs {
             waiting: VecDeque::new(alloc),
+            sums: VecDeque::new(alloc),
             answered: VecDeque::new(alloc),
             dropped: 0,
         }
@@ -189,6 +190,22 @@ impl Pairs {
         }
     }
 
+    // The place of the first question that waits with this key, whose sum this is.
+    fn find_waiting(&self, key: &Key, sum: u32) -> Option<usize>
+        requires { sum ≡ sum_of (key_of key.now) }
+        ensures some { IfSome result (IsFoundAt (key_of key.now) (state_of self.now).waiting) }
+        ensures none { IsNone result → IsUnknown (key_of key.now) (state_of self.now).waiting }
+    {
+        let Some(place) = place_of(&self.sums, sum) else {
+            return None;
+        };
+        if self.waiting[place].key.is(key) {
+            return Some(place);
+        }
+        // Another key has the same sum.
+        find(&self.waiting, key)
+    }
+
     // Sees a question.
     fn ask(&mut self, number: u64, time: Option<u64>, key: Key) -> Result<Option<Answered>, Fault>
         ensures sees { IfOk result (λ answer.
@@ -196,16 +213,24 @@ impl Pairs {
         ensures fault { OnErr result (state_of self.new ≡ state_of self.old) }
         ensures memory { OnErr result (TakesMemory (state_of self.old) (asking (key_of key))) }
     {
-        if let Some(place) = find(&self.waiting, &key) {
+        let sum = key.sum();
+        if let Some(place) = self.find_waiting(&key, sum) {
             self.waiting[place].ask_again();
             return Ok(None);
         }
-        self.begin(number, time, key)
+        self.begin(number, time, key, sum)
     }
 
     // Keeps a question behind the others, and drops the one that was asked first where there are too many.
-    fn begin(&mut self, number: u64, time: Option<u64>, key: Key) -> Result<Option<Answered>, Fault>
-        requires { IsUnknown (key_of key) (state_of self.old).waiting }
+    fn begin(
+        &mut self,
+        number: u64,
+        time: Option<u64>,
+        key: Key,
+        sum: u32,
+    ) -> Result<Option<Answered>, Fault>
+        requires sum { sum ≡ sum_of (key_of key) }
+        requires unknown { IsUnknown (key_of key) (state_of self.old).waiting }
         ensures sees { IfOk result (λ answer.
             Sees (state_of self.old) number time (asking (key_of key)) answer (state_of self.new)) }
         ensures fault { OnErr result (state_of self.new ≡ state_of self.old) }
@@ -218,24 +243,30 @@ impl Pairs {
             tries: 1,
         };
         if self.waiting.len() < MOST_WAITING {
-            return self.append(asked);
+            return self.append(asked, sum);
         }
         self.make_room();
-        self.append(asked)
+        self.append(asked, sum)
     }
 
     // Keeps a question behind the others.
-    fn append(&mut self, asked: Asked) -> Result<Option<Answered>, Fault>
+    fn append(&mut self, asked: Asked, sum: u32) -> Result<Option<Answered>, Fault>
+        requires { sum ≡ sum_in asked }
         ensures answer { IfOk result (λ answer. answer ≡ None) }
         ensures state { OnOk result (state_of self.new ≡ record (state_of self.old) {
           waiting = (state_of self.old).waiting ++ (asked_of asked ∷ []);
         }) }
         ensures fault { OnErr result (state_of self.new ≡ state_of self.old) }
-        ensures full { OnErr result (deque_capacity self.old.waiting ≤ deque_len self.old.waiting) }
+        ensures room { deque_len self.old.waiting < deque_capacity self.old.waiting
+            → deque_len self.old.sums < deque_capacity self.old.sums → IsOk result }
     {
+        if self.sums.try_reserve(1).is_err() {
+            return Err(Fault::Memory);
+        }
         if self.waiting.push_back(asked).is_err() {
             return Err(Fault::Memory);
         }
+        let _pushed = self.sums.push_back(sum);
         Ok(None)
     }
 
@@ -246,8 +277,11 @@ impl Pairs {
           dropped = one_more (state_of self.old).dropped;
         } }
         ensures room { 0 < deque_len self.old.waiting → deque_len self.new.waiting < deque_capacity self.new.waiting }
+        ensures room_of_sums { 0 < deque_len self.old.waiting
+            → deque_len self.new.sums < deque_capacity self.new.sums }
     {
         self.waiting.pop_front();
+        self.sums.pop_front();
         self.dropped = self.dropped.saturating_add(1);
     }
 
@@ -258,7 +292,7 @@ impl Pairs {
         ensures fault { OnErr result (state_of self.new ≡ state_of self.old) }
         ensures memory { OnErr result (TakesMemory (state_of self.old) (answering (key_of key.now))) }
     {
-        let place = match find(&self.waiting, key) {
+        let place = match self.find_waiting(key, key.sum()) {
             Some(place) => place,
             None => return Ok(self.answer_too(time, key)),
         };
@@ -267,6 +301,7 @@ impl Pairs {
         }
         match self.waiting.remove(place) {
             Some(asked) => {
+                self.sums.remove(place);
                 let answered = asked.answered(time);
                 self.remember(asked);
                 Ok(Some(answered))
@@ -299,17 +334,4 @@ impl Pairs {
             None => None,
         }
     }
-}
-
-// The place of the first question with this key.
-fn find(questions: &VecDeque<Asked>, key: &Key) -> Option<usize>
-    ensures some { IfSome result (IsFoundAt (key_of key.now) (map asked_of questions.now.items)) }
-    ensures none { IsNone result → IsUnknown (key_of key.now) (map asked_of questions.now.items) }
-{
-    for place in 0..questions.len() {
-        if questions[place].key.is(key) {
-            return Some(place);
-        }
-    }
-    None
 }

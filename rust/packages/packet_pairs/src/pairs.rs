@@ -1,8 +1,10 @@
 // Made from crates/packet_pairs/src/pairs.rt by rust/erase.
 //! The questions that wait for an answer.
 
+use crate::elapsed::nanoseconds_between;
 use crate::exchange::{Exchange, Role};
 use crate::key::Key;
+use crate::search::{find, place_of};
 use rattle_std::collections::VecDeque;
 
 /// The most questions that wait for an answer.
@@ -71,14 +73,6 @@ impl Asked {
     }
 }
 
-// The nanoseconds from one time to another, where both are known and the other is not before the one.
-fn nanoseconds_between(before: Option<u64>, after: Option<u64>) -> Option<u64> {
-    match (before, after) {
-        (Some(before), Some(after)) if before <= after => Some(after - before),
-        _ => None,
-    }
-}
-
 /// The questions that wait for an answer, in the order in which they were asked, at most `MOST_WAITING`: where there is
 /// no room for another, the one that was asked first is dropped. Each takes less than 400 bytes, so that all take less
 /// than 1 MB. To see a message takes time that is linear in their number.
@@ -90,6 +84,8 @@ fn nanoseconds_between(before: Option<u64>, after: Option<u64>) -> Option<u64> {
 /// any other question is one to none.
 pub struct Pairs {
     waiting: VecDeque<Asked>,
+    // The sums of their keys, in the same order: a key is compared only where the sum is the same.
+    sums: VecDeque<u32>,
     // The latest first.
     answered: VecDeque<Asked>,
     dropped: u64,
@@ -101,6 +97,7 @@ impl Pairs {
     pub fn new() -> Pairs {
         Pairs {
             waiting: VecDeque::new(),
+            sums: VecDeque::new(),
             answered: VecDeque::new(),
             dropped: 0,
         }
@@ -142,13 +139,26 @@ impl Pairs {
         }
     }
 
+    // The place of the first question that waits with this key, whose sum this is.
+    fn find_waiting(&self, key: &Key, sum: u32) -> Option<usize> {
+        let Some(place) = place_of(&self.sums, sum) else {
+            return None;
+        };
+        if self.waiting[place].key.is(key) {
+            return Some(place);
+        }
+        // Another key has the same sum.
+        find(&self.waiting, key)
+    }
+
     // Sees a question.
     fn ask(&mut self, number: u64, time: Option<u64>, key: Key) -> Result<Option<Answered>, Fault> {
-        if let Some(place) = find(&self.waiting, &key) {
+        let sum = key.sum();
+        if let Some(place) = self.find_waiting(&key, sum) {
             self.waiting[place].ask_again();
             return Ok(None);
         }
-        self.begin(number, time, key)
+        self.begin(number, time, key, sum)
     }
 
     // Keeps a question behind the others, and drops the one that was asked first where there are too many.
@@ -157,6 +167,7 @@ impl Pairs {
         number: u64,
         time: Option<u64>,
         key: Key,
+        sum: u32,
     ) -> Result<Option<Answered>, Fault> {
         let asked = Asked {
             key,
@@ -165,29 +176,34 @@ impl Pairs {
             tries: 1,
         };
         if self.waiting.len() < MOST_WAITING {
-            return self.append(asked);
+            return self.append(asked, sum);
         }
         self.make_room();
-        self.append(asked)
+        self.append(asked, sum)
     }
 
     // Keeps a question behind the others.
-    fn append(&mut self, asked: Asked) -> Result<Option<Answered>, Fault> {
+    fn append(&mut self, asked: Asked, sum: u32) -> Result<Option<Answered>, Fault> {
+        if self.sums.try_reserve(1).is_err() {
+            return Err(Fault::Memory);
+        }
         if self.waiting.push_back(asked).is_err() {
             return Err(Fault::Memory);
         }
+        let _pushed = self.sums.push_back(sum);
         Ok(None)
     }
 
     // Drops the question that was asked first.
     fn make_room(&mut self) {
         self.waiting.pop_front();
+        self.sums.pop_front();
         self.dropped = self.dropped.saturating_add(1);
     }
 
     // Sees an answer.
     fn answer(&mut self, time: Option<u64>, key: &Key) -> Result<Option<Answered>, Fault> {
-        let place = match find(&self.waiting, key) {
+        let place = match self.find_waiting(key, key.sum()) {
             Some(place) => place,
             None => return Ok(self.answer_too(time, key)),
         };
@@ -196,6 +212,7 @@ impl Pairs {
         }
         match self.waiting.remove(place) {
             Some(asked) => {
+                self.sums.remove(place);
                 let answered = asked.answered(time);
                 self.remember(asked);
                 Ok(Some(answered))
@@ -219,14 +236,4 @@ impl Pairs {
             None => None,
         }
     }
-}
-
-// The place of the first question with this key.
-fn find(questions: &VecDeque<Asked>, key: &Key) -> Option<usize> {
-    for place in 0..questions.len() {
-        if questions[place].key.is(key) {
-            return Some(place);
-        }
-    }
-    None
 }

@@ -1,9 +1,13 @@
 -- An answer takes its question out.
-use Rattle.std.proofs.Common.{◌∙◌, List, ap, map, refl}
+use Rattle.std.proofs.Common.{◌<◌, ◌∙◌, List, ap, arith, length, map, refl}
+use Rattle.std.proofs.lemmas.List.{length-map}
+use Rattle.std.specs.VecDeque.{deque_len}
 use Rattle.packet_pairs.specs.Key.{key_of}
 use Rattle.packet_pairs.specs.Pairs.{asked_of, remembered, state_of, takes_out}
 use Rattle.packet_pairs.specs.Types.{Asked}
+use Rattle.packet_pairs.specs.private.Sums.{sum_in}
 use Rattle.packet_pairs.proofs.Places.{answers_it, found_known}
+use Rattle.packet_pairs.proofs.Sums.{removed_sums}
 use Rattle.packet_pairs.proofs.pairs.Pairs.answer.Goals as goal
 
 pub returns-in-Some-remove-clause-sees : goal.returns-in-Some-remove-clause-sees
@@ -24,3 +28,23 @@ returns-then-is_err-clause-memory c =
     takes_out refl
     (found_known (key_of c.args.key.now) (map asked_of c.args.self.now.waiting.items) c.in-Some.place
     c.in-Some.ensures.some)
+
+pub invariant_of-self-in-Some-remove : goal.invariant_of-self-in-Some-remove
+invariant_of-self-in-Some-remove c =
+    let all = c.args.self.now in
+    let taken = c.remove-in-Some-remove in
+    let within : c.in-Some.place < deque_len all.sums =
+    omega (
+      arith,
+      c.in-Some-remove.ensures.variant.0 refl,
+      all.waiting.ok.0,
+      all.sums.ok.0,
+      ap length all.summed,
+      length-map all.waiting.items sum_in,
+    ) in
+    record {
+      summed =
+          removed_sums taken.result all.waiting.items c.remove.new.self.items all.sums.items taken.new.self.items
+          c.in-Some.place all.summed c.in-Some-remove.ensures.items (taken.ensures.variant.1 within)
+          taken.ensures.items;
+    }

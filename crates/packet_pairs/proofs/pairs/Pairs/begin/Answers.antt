@@ -17,5 +17,5 @@ returns-clause-sees c =
       c.if-len-lt-MOST_WAITING.false,
     ) in
     begins_with_drop c.append-2.result (state_of c.args.self.now) (state_of c.make_room.new.self)
-    (state_of c.append-2.new.self) c.args.number c.args.time (key_of c.args.key) c.requires many
+    (state_of c.append-2.new.self) c.args.number c.args.time (key_of c.args.key) c.requires.unknown many
     c.make_room.ensures.state c.append-2.ensures.answer c.append-2.ensures.state

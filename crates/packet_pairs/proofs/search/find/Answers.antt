@@ -2,7 +2,7 @@
 use Rattle.std.proofs.Common.{◌≡◌, ◌≢◌, ◌<◌, length, rules}
 use Rattle.packet_pairs.specs.Key.{key_of}
 use Rattle.packet_pairs.proofs.Places.{found_at, unknown_more}
-use Rattle.packet_pairs.proofs.pairs.find.Goals as goal
+use Rattle.packet_pairs.proofs.search.find.Goals as goal
 
 pub returns-then-is-clause-some : goal.returns-then-is-clause-some
 returns-then-is-clause-some c =
