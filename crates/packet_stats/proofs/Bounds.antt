@@ -54,4 +54,10 @@ bounds_of s = record {
   questions = is_within 1024 s.questions s.few_questions;
   rcodes = is_within 1024 s.rcodes s.few_rcodes;
   servers = is_within 256 s.servers s.few_servers;
+  clients = is_within 1024 s.clients s.few_clients;
+  leases = is_within 1024 s.leases s.few_leases;
+  members = is_within 1024 s.members s.few_members;
+  neighbors = is_within 1024 s.neighbors s.few_neighbors;
+  routers = is_within 1024 s.routers s.few_routers;
+  prefixes = is_within 1024 s.prefixes s.few_prefixes;
 }

@@ -2,7 +2,7 @@
 use Rattle.std.proofs.Common.{◌≡◌, ◌++◌, ◌∙◌, [], ◌∷◌, Err, List, Ok, OnErr, OnOk, Result, refl, subst, sym}
 use Rattle.std.proofs.Common.{ap, append_assoc}
 use Rattle.packet_stats.specs.Row.{MentionValue}
-use Rattle.packet_stats.specs.Stats.{CountsAll, CountsIn, CountsOne, CountsSome, State}
+use Rattle.packet_stats.specs.Stats.{CountsAll, CountsIn, CountsOne, CountsSome, CountsThat, State}
 use Rattle.packet_stats.specs.Subject.{SubjectValue}
 use Rattle.packet_stats.specs.Types.{Fault}
 
@@ -51,3 +51,31 @@ some_more a b ms ns some = record {
 pub on_err : {P : Type 0} (r : Result (Unit {0}) Fault) → P → OnErr r P
 on_err (Ok u) p = tt
 on_err (Err fault) p = p
+
+-- ---- what is said is counted, or where there is a fault the first of it
+
+pub one_counted : (r : Result (Unit {0}) Fault) (a b : State) (m : MentionValue) → OnOk r (CountsOne a m b)
+    → OnOk r (CountsAll a (m ∷ []) b)
+one_counted (Ok u) a b m one = counts_one a b m one
+one_counted (Err fault) a b m one = tt
+
+pub one_broken : (r : Result (Unit {0}) Fault) (a b : State) (m : MentionValue) → OnErr r (b ≡ a)
+    → OnErr r (CountsSome a (m ∷ []) b)
+one_broken (Ok u) a b m same = tt
+one_broken (Err fault) a b m same = none_counted a b m [] same
+
+pub then_counted : (r : Result (Unit {0}) Fault) (a b c : State) (ms ns : List MentionValue) → CountsAll a ms b
+    → OnOk r (CountsAll b ns c) → OnOk r (CountsAll a (ms ++ ns) c)
+then_counted (Ok u) a b c ms ns first second = counts_both a b c ms ns first second
+then_counted (Err fault) a b c ms ns first second = tt
+
+pub then_broken : (r : Result (Unit {0}) Fault) (a b c : State) (ms ns : List MentionValue) → CountsAll a ms b
+    → OnErr r (CountsSome b ns c) → OnErr r (CountsSome a (ms ++ ns) c)
+then_broken (Ok u) a b c ms ns first second = tt
+then_broken (Err fault) a b c ms ns first second = some_then a b c ms ns first second
+
+-- what a message says that is a list
+pub that_counted : (r : Result (Unit {0}) Fault) (a b : State) (all : List MentionValue) → OnOk r (CountsAll a all b)
+    → OnOk r (CountsThat (λ ms. ms ≡ all) a b)
+that_counted (Ok u) a b all counted = (all, refl, counted)
+that_counted (Err fault) a b all counted = tt

@@ -8,9 +8,9 @@ use Rattle.record_wire.specs.NameCase.{lower_labels}
 use Rattle.record_wire.specs.Names.{Names}
 use Rattle.record_wire.specs.Record.{QuestionValue}
 use Rattle.record_wire.proofs.NameReads.{names_one}
-use Rattle.packet_stats.specs.Dns.{AreQuestions, Asks, DnsSays, asks, named, responds, response_of, said_of, short}
+use Rattle.packet_stats.specs.Dns.{AreQuestions, Asks, DnsSays, asks, named, responds, response_of, short}
 use Rattle.packet_stats.specs.Dns.{unnamed}
-use Rattle.packet_stats.specs.Row.{MentionValue}
+use Rattle.packet_stats.specs.Row.{MentionValue, said_of}
 use Rattle.packet_stats.specs.Stats.{CountsAll, CountsOne, CountsPart, CountsSome, CountsThat, State}
 use Rattle.packet_stats.specs.Subject.{question}
 use Rattle.packet_stats.specs.Types.{Fault, IpAddress}

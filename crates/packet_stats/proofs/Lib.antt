@@ -2,9 +2,13 @@ pub mod Ascending
 pub mod AskedInTurn
 pub mod Bounds
 pub mod Counting
+pub mod DhcpSaid
 pub mod DnsSaid
 pub mod NameOctets
+pub mod Options
 pub mod Places
+pub mod Records
 pub mod RowEntries
 pub mod Said
 pub mod Sorting
+pub mod Turns

@@ -18,3 +18,9 @@ pub record IsWithinBounds (s : State) : Type 0 where
   pub questions : IsWithin most_rows s.questions
   pub rcodes : IsWithin most_rows s.rcodes
   pub servers : IsWithin most_servers s.servers
+  pub clients : IsWithin most_rows s.clients
+  pub leases : IsWithin most_rows s.leases
+  pub members : IsWithin most_rows s.members
+  pub neighbors : IsWithin most_rows s.neighbors
+  pub routers : IsWithin most_rows s.routers
+  pub prefixes : IsWithin most_rows s.prefixes

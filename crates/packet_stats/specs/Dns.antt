@@ -6,12 +6,9 @@ use Rattle.dns_fields.specs.Header.{word_in}
 use Rattle.record_wire.specs.NameCase.{lower_labels}
 use Rattle.record_wire.specs.Names.{Names}
 use Rattle.record_wire.specs.Record.{IsQuestion, QuestionValue}
-use Rattle.packet_stats.specs.Row.{MentionValue}
-use Rattle.packet_stats.specs.Subject.{SubjectValue, octets_in, outcome, question, server}
+use Rattle.packet_stats.specs.Row.{MentionValue, said_of}
+use Rattle.packet_stats.specs.Subject.{octets_in, outcome, question, server}
 use Rattle.packet_stats.specs.Types.{IpAddress}
-
-abbrev pub said_of : SubjectValue → MentionValue
-said_of subject = record { subject = subject; after = None }
 
 -- ---- queries
 

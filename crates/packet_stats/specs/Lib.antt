@@ -1,6 +1,9 @@
 pub mod Bounds
+pub mod Dhcp
 pub mod Dns
+pub mod Groups
 pub mod Message
+pub mod Neighbors
 pub mod Row
 pub mod Shown
 pub mod Stats

@@ -4,13 +4,16 @@ use Rattle.std.specs.Prelude.{min, nat_lt, slice_index, ℕ}
 use Rattle.std.specs.Cmp.Lexicographic.{slice_cmp}
 use Rattle.std.specs.Ordering.{flip_args, nat_cmp, on, then_cmp}
 use Rattle.std.specs.declared.cmp.Ordering.{Ordering}
-use Rattle.packet_stats.specs.Subject.{SubjectValue, place_of, subject_of}
+use Rattle.packet_stats.specs.Subject.{SubjectValue, place_of, rank_of, subject_of}
 use Rattle.packet_stats.specs.Types.{Row}
 
 -- a subject that a message speaks of, and where the message answers, the nanoseconds from the question on
 pub record MentionValue : Type 0 where
   pub subject : SubjectValue
   pub after : Option ℕ
+
+abbrev pub said_of : SubjectValue → MentionValue
+said_of subject = record { subject = subject; after = None }
 
 -- a row by its content: the times in ascending order, and how many more there were
 pub record RowValue : Type 0 where
@@ -63,7 +66,9 @@ first_row m = counted m.after (record { subject = m.subject; count = 0; times = 
 
 -- ---- order
 
--- The order of a page: the row with the higher count first, and of those with the same the one whose subject is first
--- by its octets.
+-- The order of a page: of subjects of DNS the row with the higher count first, and of those with the same, as of all
+-- others, the one whose subject is first by its octets.
 abbrev pub row_cmp : RowValue → RowValue → Ordering
-row_cmp = then_cmp (flip_args (on (λ r. r.count) nat_cmp)) (on (λ r. place_of r.subject) (slice_cmp nat_cmp))
+row_cmp =
+    then_cmp (flip_args (on (λ r. rank_of r.subject r.count) nat_cmp))
+    (on (λ r. place_of r.subject) (slice_cmp nat_cmp))

@@ -1,30 +1,27 @@
 -- What a page shows.
-use Rattle.std.specs.Prelude.{◌==◌, ◌/◌, ◌%◌, [], ◌∷◌, ◌++◌, List, None, Option, Some, codes, decimal, if◌then◌else◌}
-use Rattle.std.specs.Prelude.{length, map, ℕ}
+use Rattle.std.specs.Prelude.{◌==◌, ◌*◌, [], ◌∷◌, ◌++◌, List, None, Option, Some, codes, if◌then◌else◌, length, map, ℕ}
 use Rattle.dns_wire.specs.DnsDisplay.{type_display}
 use Rattle.dns_wire.specs.DnsPacket.{rcode_in}
 use Rattle.dns_fields.specs.Header.{rcode_rows}
 use Rattle.dns_fields.specs.declared.kind.Kind.{Kind}
 use Rattle.record_wire.specs.ZoneText.{whole_name}
-use Rattle.wirebase.specs.Duration.{three_digits}
+use Rattle.wirebase.specs.Hexadecimal.{hex_colons}
+use Rattle.neighbor_fields.specs.Ndisc.{prefix_text}
 use Rattle.packet_fields.specs.Entries.{keyed_value}
-use Rattle.packet_fields.specs.Fields.{Cell, Entry, Item, Leaf, entries, field, number, text}
+use Rattle.packet_fields.specs.Fields.{Cell, Entry, Item, Leaf, entries, field, number, text, time}
 use Rattle.packet_fields.specs.Labels.{label_text}
 use Rattle.packet_fields.specs.Names.{name_in}
 use Rattle.packet_fields.specs.Texts.{address_text}
 use Rattle.packet_fields.specs.declared.form.Form.{Form}
 use Rattle.packet_fields.specs.declared.form.Form.TheVariants.{Json, Lines}
+use Rattle.packet_pairs.specs.Shown.{milliseconds_text}
 use Rattle.packet_stats.specs.Row.{RowValue, percentile}
 use Rattle.packet_stats.specs.Stats.{State}
-use Rattle.packet_stats.specs.Subject.{SubjectValue, outcome, question, server}
+use Rattle.packet_stats.specs.Subject.{SubjectValue, client, lease, member, neighbor, outcome, prefix, question, router}
+use Rattle.packet_stats.specs.Subject.{server}
 use Rattle.packet_stats.specs.Table.{TableValue}
 
 -- ---- times
-
--- nanoseconds as milliseconds, with three digits behind the dot
-abbrev pub milliseconds_text : ℕ → List ℕ
-milliseconds_text nanoseconds =
-    decimal (nanoseconds / 1000000) ++ (codes "." ++ (three_digits (nanoseconds / 1000 % 1000) ++ codes "ms"))
 
 -- a time under its key; in JSON its nanoseconds under another
 abbrev pub time_cells : Form → List ℕ → List ℕ → Option ℕ → List Cell
@@ -58,12 +55,39 @@ kind_entry kind key value cells =
 abbrev pub row_cells : Form → RowValue → List Cell
 row_cells form r = keyed_value (codes "count") (number r.count) ++ times_cells form r
 
+-- an address under its key, and a link-layer address under another
+abbrev pub address_entry : List ℕ → List ℕ → List Cell → Entry
+address_entry kind address cells = kind_entry kind (codes "addr") (text (address_text address)) cells
+
+abbrev pub address_cells : List ℕ → List ℕ → List Cell
+address_cells key address = keyed_value key (text (address_text address))
+
+abbrev pub link_cells : List ℕ → List ℕ → List Cell
+link_cells key octets = keyed_value key (text (hex_colons octets))
+
+-- the time of a lease, where it is told
+abbrev pub lease_cells : Option ℕ → List Cell
+lease_cells None = []
+lease_cells (Some seconds) = keyed_value (codes "time") (time (1000 * seconds))
+
 abbrev pub subject_entry : SubjectValue → List Cell → Entry
 subject_entry (question labels kind) cells =
     kind_entry (codes "question") (codes "name") (text (whole_name labels))
     (keyed_value (codes "type") (text (type_display kind)) ++ cells)
 subject_entry (outcome n) cells = kind_entry (codes "rcode") (codes "rcode") (text (rcode_text n)) cells
-subject_entry (server octets) cells = kind_entry (codes "server") (codes "addr") (text (address_text octets)) cells
+subject_entry (server address) cells = address_entry (codes "server") address cells
+subject_entry (client hardware) cells =
+    kind_entry (codes "client") (codes "hardware") (text (hex_colons hardware)) cells
+subject_entry (lease address hardware seconds) cells =
+    address_entry (codes "lease") address (link_cells (codes "client") hardware ++ lease_cells seconds ++ cells)
+subject_entry (member group host) cells =
+    address_entry (codes "group") group (address_cells (codes "member") host ++ cells)
+subject_entry (neighbor address link) cells =
+    address_entry (codes "neighbor") address (link_cells (codes "link") link ++ cells)
+subject_entry (router address) cells = address_entry (codes "router") address cells
+subject_entry (prefix address len sender) cells =
+    kind_entry (codes "prefix") (codes "prefix") (text (prefix_text address len))
+    (address_cells (codes "router") sender ++ cells)
 
 abbrev pub row_entry : Form → RowValue → Entry
 row_entry form r = subject_entry r.subject (row_cells form r)
@@ -78,9 +102,30 @@ abbrev pub table_items : Form → List ℕ → List ℕ → TableValue → List 
 table_items form key overlooked_key t =
     (entries key (map (row_entry form) t.rows) ∷ []) ++ overlooked_items overlooked_key t.overlooked
 
--- a page
-abbrev pub page_items : Form → State → List Item
-page_items form s =
+-- names, outcomes and servers of DNS
+abbrev pub dns_items : Form → State → List Item
+dns_items form s =
     table_items form (codes "questions") (codes "questions_not_counted") s.questions
     ++ table_items form (codes "rcodes") (codes "rcodes_not_counted") s.rcodes
     ++ table_items form (codes "servers") (codes "servers_not_counted") s.servers
+
+-- clients of DHCP, and their leases
+abbrev pub dhcp_items : Form → State → List Item
+dhcp_items form s =
+    table_items form (codes "clients") (codes "clients_not_counted") s.clients
+    ++ table_items form (codes "leases") (codes "leases_not_counted") s.leases
+
+-- neighbors, and routers with their prefixes
+abbrev pub neighbor_items : Form → State → List Item
+neighbor_items form s =
+    table_items form (codes "neighbors") (codes "neighbors_not_counted") s.neighbors
+    ++ table_items form (codes "routers") (codes "routers_not_counted") s.routers
+    ++ table_items form (codes "prefixes") (codes "prefixes_not_counted") s.prefixes
+
+-- a page; the members of groups stand between
+abbrev pub page_items : Form → State → List Item
+page_items form s =
+    dns_items form s
+    ++ dhcp_items form s
+    ++ table_items form (codes "members") (codes "members_not_counted") s.members
+    ++ neighbor_items form s

@@ -1,7 +1,8 @@
 -- What is counted of all messages.
 use Rattle.std.specs.Prelude.{◌≡◌, [], ◌∷◌, ◌++◌, List, ℕ}
 use Rattle.packet_stats.specs.Row.{MentionValue}
-use Rattle.packet_stats.specs.Subject.{SubjectValue, outcome, question, server}
+use Rattle.packet_stats.specs.Subject.{SubjectValue, client, lease, member, neighbor, outcome, prefix, question, router}
+use Rattle.packet_stats.specs.Subject.{server}
 use Rattle.packet_stats.specs.Table.{Counts, Sorts, TableValue, table_of}
 use Rattle.packet_stats.specs.Types.{Stats}
 
@@ -10,17 +11,43 @@ pub record State : Type 0 where
   pub questions : TableValue
   pub rcodes : TableValue
   pub servers : TableValue
+  pub clients : TableValue
+  pub leases : TableValue
+  pub members : TableValue
+  pub neighbors : TableValue
+  pub routers : TableValue
+  pub prefixes : TableValue
 
 abbrev pub state_of : Stats → State
 state_of s = record {
   questions = table_of s.questions;
   rcodes = table_of s.rcodes;
   servers = table_of s.servers;
+  clients = table_of s.clients;
+  leases = table_of s.leases;
+  members = table_of s.members;
+  neighbors = table_of s.neighbors;
+  routers = table_of s.routers;
+  prefixes = table_of s.prefixes;
 }
 
 -- the table in which nothing is counted
 abbrev pub nothing : TableValue
 nothing = record { rows = []; overlooked = 0 }
+
+-- no message was counted yet
+abbrev pub no_messages : State
+no_messages = record {
+  questions = nothing;
+  rcodes = nothing;
+  servers = nothing;
+  clients = nothing;
+  leases = nothing;
+  members = nothing;
+  neighbors = nothing;
+  routers = nothing;
+  prefixes = nothing;
+}
 
 -- the most rows of a table, and of that of servers
 abbrev pub most_rows : ℕ
@@ -37,8 +64,20 @@ CountsIn (question labels kind) old m new =
     Counts most_rows old.questions m new.questions × (new ≡ record old { questions = new.questions })
 CountsIn (outcome n) old m new =
     Counts most_rows old.rcodes m new.rcodes × (new ≡ record old { rcodes = new.rcodes })
-CountsIn (server octets) old m new =
+CountsIn (server address) old m new =
     Counts most_servers old.servers m new.servers × (new ≡ record old { servers = new.servers })
+CountsIn (client hardware) old m new =
+    Counts most_rows old.clients m new.clients × (new ≡ record old { clients = new.clients })
+CountsIn (lease address hardware time) old m new =
+    Counts most_rows old.leases m new.leases × (new ≡ record old { leases = new.leases })
+CountsIn (member group host) old m new =
+    Counts most_rows old.members m new.members × (new ≡ record old { members = new.members })
+CountsIn (neighbor address link) old m new =
+    Counts most_rows old.neighbors m new.neighbors × (new ≡ record old { neighbors = new.neighbors })
+CountsIn (router address) old m new =
+    Counts most_rows old.routers m new.routers × (new ≡ record old { routers = new.routers })
+CountsIn (prefix address len sender) old m new =
+    Counts most_rows old.prefixes m new.prefixes × (new ≡ record old { prefixes = new.prefixes })
 
 abbrev pub CountsOne : State → MentionValue → State → Type 0
 CountsOne old m new = CountsIn m.subject old m new
@@ -70,3 +109,9 @@ pub record SortsAll (old new : State) : Type 0 where
   pub questions : Sorts old.questions new.questions
   pub rcodes : Sorts old.rcodes new.rcodes
   pub servers : Sorts old.servers new.servers
+  pub clients : Sorts old.clients new.clients
+  pub leases : Sorts old.leases new.leases
+  pub members : Sorts old.members new.members
+  pub neighbors : Sorts old.neighbors new.neighbors
+  pub routers : Sorts old.routers new.routers
+  pub prefixes : Sorts old.prefixes new.prefixes

@@ -1,2 +1,3 @@
 pub mod Mentions
 pub mod Places
+pub mod Widths

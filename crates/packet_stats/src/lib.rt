@@ -1,10 +1,15 @@
-//! What the control packets of a capture say, counted in bounded memory: names, outcomes and servers of DNS.
+//! What the control packets of a capture say, counted in bounded memory: names, outcomes and servers of
+//! DNS, clients of DHCP and their leases, groups and their members, and neighbors, routers and their prefixes.
 #![tactic(auto)]
 
+mod dhcp;
 mod dns;
+mod entries;
+mod groups;
+mod icmp6;
 mod message;
 mod names;
-mod nanoseconds;
+mod neighbors;
 mod row;
 mod show;
 mod stats;
@@ -16,5 +21,5 @@ mod words;
 pub use row::MOST_TIMES;
 pub use show::show_stats;
 pub use stats::Stats;
-pub use subject::{IpAddress, Subject};
+pub use subject::{IpAddress, MOST_HARDWARE, Subject};
 pub use table::{Fault, MOST_ROWS, MOST_SERVERS};

@@ -20,6 +20,13 @@ impl Stats {
     ///
     /// - Of a query of DNS, multicast DNS or LLMNR each question, by its name in lower case and its type; and of a
     ///   response the outcome and the server.
+    /// - Of DHCP the client of a request by its hardware address; and of an ACK the address that it leases, the client,
+    ///   and the time of the lease where that is told. Of options in several parts the first is read.
+    /// - Of a report of IGMP or of multicast listener discovery each group that the host is in, and the host: a record
+    ///   of IGMPv3 or MLDv2 says so where it excludes sources, or includes or allows some.
+    /// - Of neighbor discovery a neighbor's address and its link-layer address of 6 octets: those of the target of a
+    ///   neighbor advertisement, and of the source of a solicitation or a router advertisement; and of a router
+    ///   advertisement the router, and each prefix in its options.
     ///
     /// Where there is no memory for a row or a time, what the message says is counted up to there.
     pub fn count(
@@ -36,7 +43,11 @@ impl Stats {
         ensures bounds { IsWithinBounds (state_of self.new) }
     {
         match message {
-            Message::Icmp4(_) | Message::Igmp(_) | Message::Icmp6(..) => Ok(()),
+            Message::Icmp4(_) => Ok(()),
+            Message::Igmp(octets) => {
+                self.count_igmp(alloc, IpAddress::source(addresses), octets)
+            }
+            Message::Icmp6(source, _, octets) => self.count_icmp6(alloc, *source, octets),
             Message::Udp(service, between, octets) => {
                 self.count_udp(alloc, *service, between, after, octets)
             }
@@ -89,7 +100,8 @@ impl Stats {
             (state_of self.old) (state_of self.new)) }
     {
         match service {
-            Service::Nbns | Service::Dhcp => Ok(()),
+            Service::Nbns => Ok(()),
+            Service::Dhcp => self.count_dhcp(alloc, octets),
             Service::Dns | Service::Mdns | Service::Llmnr => self.count_dns(
                 alloc, source, after, octets,
             ),

@@ -33,6 +33,7 @@ impl Row {
     ghost use Rattle.std.specs.Prelude.{◌≡◌, ◌<◌, IfOk, OnErr, OnOk};
     ghost use Rattle.packet_stats.specs.Row.{counted, first_row, percentile, row_cmp, row_of, timed};
     ghost use Rattle.packet_stats.specs.Row.{with_time};
+    ghost use Rattle.packet_stats.specs.Subject.{rank_of};
     ghost use Rattle.packet_stats.specs.private.Mentions.{mention_of};
 
     // The row of the first message.
@@ -108,11 +109,18 @@ impl Row {
         Some(self.times[(percent * count + 99) / 100 - 1])
     }
 
+    // How many messages there were, where that is the order of a page.
+    fn rank(&self) -> u64
+        ensures { result ≡ rank_of (row_of self.now).subject (row_of self.now).count }
+    {
+        self.subject.rank(self.count)
+    }
+
     // The order of rows on a page.
     pub(crate) fn order(&self, other: &Row) -> Ordering
         ensures { result ≡ row_cmp (row_of self.now) (row_of other.now) }
     {
-        let by_count = other.count.cmp(&self.count);
+        let by_count = other.rank().cmp(&self.rank());
         by_count.then_with(|| {
             self.subject
                 .place()

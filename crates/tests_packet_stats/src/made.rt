@@ -8,7 +8,7 @@ use packet_fields::Form;
 use packet_stats::{Stats, show_stats};
 use std::alloc::Global;
 use std::process::Abort;
-use wirebase::Ipv4Address;
+use wirebase::{Ipv4Address, Ipv6Address};
 
 // From the host of the captures, 192.0.2.50, to their server, 192.0.2.1, and back.
 pub(crate) fn to_server() -> Addresses {
@@ -25,6 +25,15 @@ pub(crate) fn to_host() -> Addresses {
     )
 }
 
+// The same host and its router, by their link-local addresses.
+pub(crate) fn host6() -> Ipv6Address {
+    Ipv6Address::new(0xfe80, 0, 0, 0, 0, 0xff, 0xfe00, 7)
+}
+
+pub(crate) fn router6() -> Ipv6Address {
+    Ipv6Address::new(0xfe80, 0, 0, 0, 0, 0xff, 0xfe00, 1)
+}
+
 // A datagram of UDP of a service.
 pub(crate) fn udp(service: Service, addresses: Addresses, octets: &[u8]) -> Message<'_> {
     Message::Udp(service, addresses, octets)
@@ -38,6 +47,11 @@ pub(crate) fn query(letter: u8, type_: u16) -> [u8; 63] {
     octets[21] = letter;
     put(&mut octets, 36, &[high, low]);
     octets
+}
+
+// The first bytes, this many or all.
+pub(crate) fn front(octets: &[u8], len: usize) -> &[u8] {
+    &octets[..octets.len().min(len)]
 }
 
 // Writes bytes at a place.

@@ -81,9 +81,14 @@ impl Row {
         Some(self.times[(percent * count + 99) / 100 - 1])
     }
 
+    // How many messages there were, where that is the order of a page.
+    fn rank(&self) -> u64 {
+        self.subject.rank(self.count)
+    }
+
     // The order of rows on a page.
     pub(crate) fn order(&self, other: &Row) -> Ordering {
-        let by_count = other.count.cmp(&self.count);
+        let by_count = other.rank().cmp(&self.rank());
         by_count.then_with(|| {
             self.subject
                 .place()

@@ -11,6 +11,12 @@ pub struct Stats {
     pub(crate) questions: Table,
     pub(crate) rcodes: Table,
     pub(crate) servers: Table,
+    pub(crate) clients: Table,
+    pub(crate) leases: Table,
+    pub(crate) members: Table,
+    pub(crate) neighbors: Table,
+    pub(crate) routers: Table,
+    pub(crate) prefixes: Table,
 }
 
 impl Stats {
@@ -20,6 +26,12 @@ impl Stats {
             questions: Table::new(),
             rcodes: Table::new(),
             servers: Table::new(),
+            clients: Table::new(),
+            leases: Table::new(),
+            members: Table::new(),
+            neighbors: Table::new(),
+            routers: Table::new(),
+            prefixes: Table::new(),
         }
     }
 
@@ -29,7 +41,21 @@ impl Stats {
             Subject::Question(..) => self.questions.count(MOST_ROWS, mention),
             Subject::Rcode(_) => self.rcodes.count(MOST_ROWS, mention),
             Subject::Server(_) => self.servers.count(MOST_SERVERS, mention),
+            Subject::Client(_) => self.clients.count(MOST_ROWS, mention),
+            Subject::Lease(..) => self.leases.count(MOST_ROWS, mention),
+            Subject::Member(..) => self.members.count(MOST_ROWS, mention),
+            Subject::Neighbor(..) => self.neighbors.count(MOST_ROWS, mention),
+            Subject::Router(_) => self.routers.count(MOST_ROWS, mention),
+            Subject::Prefix(..) => self.prefixes.count(MOST_ROWS, mention),
         }
+    }
+
+    // Counts a subject that a message speaks of.
+    pub(crate) fn count_subject(&mut self, subject: Subject) -> Result<(), Fault> {
+        self.mention(Mention {
+            subject,
+            after: None,
+        })
     }
 
     // Puts each table into the order of a page.
@@ -37,5 +63,11 @@ impl Stats {
         self.questions.sort();
         self.rcodes.sort();
         self.servers.sort();
+        self.clients.sort();
+        self.leases.sort();
+        self.members.sort();
+        self.neighbors.sort();
+        self.routers.sort();
+        self.prefixes.sort();
     }
 }

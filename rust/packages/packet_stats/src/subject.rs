@@ -7,6 +7,9 @@ use control_wire::frames::Addresses;
 use control_wire::record::Name;
 use control_wire::{Ipv4Address, Ipv6Address};
 
+/// The most octets of a client's hardware address (RFC 2131 section 2).
+pub const MOST_HARDWARE: usize = 16;
+
 /// What is counted. It has a fixed size, and borrows nothing.
 pub enum Subject {
     /// A name in lower case, and the type of the records that are asked for.
@@ -15,6 +18,19 @@ pub enum Subject {
     Rcode(u16),
     /// A host that responds to DNS.
     Server(IpAddress),
+    /// A client of DHCP, by its hardware address.
+    Client(ArrayVec<u8, MOST_HARDWARE>),
+    /// An address that a server of DHCP leases to a client of this hardware address, and for how many seconds, where
+    /// that is told.
+    Lease(Ipv4Address, ArrayVec<u8, MOST_HARDWARE>, Option<u32>),
+    /// A multicast group, and a host that reports to be in it.
+    Member(IpAddress, IpAddress),
+    /// An address of a neighbor, and its link-layer address.
+    Neighbor(Ipv6Address, [u8; 6]),
+    /// A router that advertises itself.
+    Router(Ipv6Address),
+    /// A prefix, its length in bits, and the router that advertises it.
+    Prefix(Ipv6Address, u8, Ipv6Address),
 }
 
 /// An address of IPv4 or IPv6.
@@ -38,7 +54,33 @@ impl Subject {
             }
             (Subject::Rcode(rcode), Subject::Rcode(other)) => rcode == other,
             (Subject::Server(server), Subject::Server(other)) => server.is(other),
+            (Subject::Client(client), Subject::Client(other)) => is_hardware(client, other),
+            (Subject::Lease(address, client, time), Subject::Lease(other, holder, other_time)) => {
+                address.octets() == other.octets()
+                    && is_hardware(client, holder)
+                    && time == other_time
+            }
+            (Subject::Member(group, host), Subject::Member(other, member)) => {
+                group.is(other) && host.is(member)
+            }
+            (Subject::Neighbor(address, link), Subject::Neighbor(other, other_link)) => {
+                address.octets() == other.octets() && link == other_link
+            }
+            (Subject::Router(router), Subject::Router(other)) => router.octets() == other.octets(),
+            (Subject::Prefix(prefix, len, router), Subject::Prefix(other, other_len, sender)) => {
+                prefix.octets() == other.octets()
+                    && len == other_len
+                    && router.octets() == sender.octets()
+            }
             _ => false,
+        }
+    }
+
+    // How many messages there were, of subjects of which the most frequent are first on a page; 0 of the others.
+    pub(crate) fn rank(&self, count: u64) -> u64 {
+        match self {
+            Subject::Question(..) | Subject::Rcode(_) | Subject::Server(_) => count,
+            _ => 0,
         }
     }
 
@@ -46,11 +88,24 @@ impl Subject {
     pub(crate) fn place(&self) -> ArrayVec<u8, MOST_OCTETS> {
         match self {
             Subject::Question(name, type_) => {
-                joined(name.octets(), &u16::from(*type_).to_be_bytes())
+                joined(name.octets(), &u16::from(*type_).to_be_bytes(), &[])
             }
-            Subject::Rcode(rcode) => joined(&rcode.to_be_bytes(), &[]),
-            Subject::Server(IpAddress::V4(address)) => joined(&address.octets(), &[]),
-            Subject::Server(IpAddress::V6(address)) => joined(&address.octets(), &[]),
+            Subject::Rcode(rcode) => joined(&rcode.to_be_bytes(), &[], &[]),
+            Subject::Server(address) => joined(address.octets().as_slice(), &[], &[]),
+            Subject::Client(client) => joined(client.as_slice(), &[], &[]),
+            Subject::Lease(address, client, time) => joined(
+                &address.octets(),
+                client.as_slice(),
+                time_octets(*time).as_slice(),
+            ),
+            Subject::Member(group, host) => {
+                joined(group.octets().as_slice(), host.octets().as_slice(), &[])
+            }
+            Subject::Neighbor(address, link) => joined(&address.octets(), link, &[]),
+            Subject::Router(router) => joined(&router.octets(), &[], &[]),
+            Subject::Prefix(prefix, len, router) => {
+                joined(&prefix.octets(), &[*len], &router.octets())
+            }
         }
     }
 }
@@ -60,10 +115,25 @@ fn is_name(name: &Name, other: &Name) -> bool {
     name.octets() == other.octets()
 }
 
-// Octets, and others behind them.
-fn joined(front: &[u8], back: &[u8]) -> ArrayVec<u8, MOST_OCTETS> {
+// Whether these are the octets of one hardware address.
+fn is_hardware(client: &ArrayVec<u8, MOST_HARDWARE>, other: &ArrayVec<u8, MOST_HARDWARE>) -> bool {
+    client.as_slice() == other.as_slice()
+}
+
+// The octets of seconds, where they are told.
+fn time_octets(time: Option<u32>) -> ArrayVec<u8, 4> {
+    let mut octets = ArrayVec::new();
+    if let Some(seconds) = time {
+        let _seconds = octets.try_extend_from_slice(&seconds.to_be_bytes());
+    }
+    octets
+}
+
+// Octets one behind another.
+fn joined(front: &[u8], middle: &[u8], back: &[u8]) -> ArrayVec<u8, MOST_OCTETS> {
     let mut octets = ArrayVec::new();
     let _front = octets.try_extend_from_slice(front);
+    let _middle = octets.try_extend_from_slice(middle);
     let _back = octets.try_extend_from_slice(back);
     octets
 }
@@ -75,6 +145,16 @@ impl IpAddress {
             Addresses::V4(source, _) => IpAddress::V4(*source),
             Addresses::V6(source, _) => IpAddress::V6(*source),
         }
+    }
+
+    // The octets, 4 of IPv4 and 16 of IPv6.
+    pub(crate) fn octets(&self) -> ArrayVec<u8, 16> {
+        let mut octets = ArrayVec::new();
+        let _all = match self {
+            IpAddress::V4(address) => octets.try_extend_from_slice(&address.octets()),
+            IpAddress::V6(address) => octets.try_extend_from_slice(&address.octets()),
+        };
+        octets
     }
 
     // Whether this is that address.

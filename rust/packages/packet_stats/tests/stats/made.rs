@@ -3,8 +3,8 @@
 
 use crate::captured::QUERY;
 use crate::testing::same_of;
-use control_wire::Ipv4Address;
 use control_wire::frames::Addresses;
+use control_wire::{Ipv4Address, Ipv6Address};
 use message_fields::{Message, Service};
 use packet_fields::Form;
 use packet_stats::{Stats, show_stats};
@@ -26,6 +26,15 @@ pub(crate) fn to_host() -> Addresses {
     )
 }
 
+// The same host and its router, by their link-local addresses.
+pub(crate) fn host6() -> Ipv6Address {
+    Ipv6Address::new(0xfe80, 0, 0, 0, 0, 0xff, 0xfe00, 7)
+}
+
+pub(crate) fn router6() -> Ipv6Address {
+    Ipv6Address::new(0xfe80, 0, 0, 0, 0, 0xff, 0xfe00, 1)
+}
+
 // A datagram of UDP of a service.
 pub(crate) fn udp(service: Service, addresses: Addresses, octets: &[u8]) -> Message<'_> {
     Message::Udp(service, addresses, octets)
@@ -39,6 +48,11 @@ pub(crate) fn query(letter: u8, type_: u16) -> [u8; 63] {
     octets[21] = letter;
     put(&mut octets, 36, &[high, low]);
     octets
+}
+
+// The first bytes, this many or all.
+pub(crate) fn front(octets: &[u8], len: usize) -> &[u8] {
+    &octets[..octets.len().min(len)]
 }
 
 // Writes bytes at a place.

@@ -2,7 +2,7 @@
 use Rattle.std.proofs.Common.{◌≡◌, ◌∙◌, [], ◌∷◌, ap, subst, ℕ}
 use Rattle.dns_wire.specs.DnsPacket.{rcode_in}
 use Rattle.dns_fields.specs.Header.{word_in}
-use Rattle.packet_stats.specs.Dns.{said_of}
+use Rattle.packet_stats.specs.Row.{said_of}
 use Rattle.packet_stats.specs.Stats.{CountsOne, state_of}
 use Rattle.packet_stats.specs.Subject.{octets_in, outcome, server}
 use Rattle.packet_stats.proofs.Counting.{none_counted, on_err}

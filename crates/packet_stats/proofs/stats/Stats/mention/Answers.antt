@@ -20,3 +20,33 @@ pub returns-in-Server-clause-counts : goal.returns-in-Server-clause-counts
 returns-in-Server-clause-counts c =
     in_table c.count-in-Server.result (state_of c.args.self.now) _ (mention_of c.args.mention) _ _
     (ap subject_of c.in-Server.is) (λ counted. (counted, refl)) c.count-in-Server.ensures.counts
+
+pub returns-in-Client-clause-counts : goal.returns-in-Client-clause-counts
+returns-in-Client-clause-counts c =
+    in_table c.count-in-Client.result (state_of c.args.self.now) _ (mention_of c.args.mention) _ _
+    (ap subject_of c.in-Client.is) (λ counted. (counted, refl)) c.count-in-Client.ensures.counts
+
+pub returns-in-Lease-clause-counts : goal.returns-in-Lease-clause-counts
+returns-in-Lease-clause-counts c =
+    in_table c.count-in-Lease.result (state_of c.args.self.now) _ (mention_of c.args.mention) _ _
+    (ap subject_of c.in-Lease.is) (λ counted. (counted, refl)) c.count-in-Lease.ensures.counts
+
+pub returns-in-Member-clause-counts : goal.returns-in-Member-clause-counts
+returns-in-Member-clause-counts c =
+    in_table c.count-in-Member.result (state_of c.args.self.now) _ (mention_of c.args.mention) _ _
+    (ap subject_of c.in-Member.is) (λ counted. (counted, refl)) c.count-in-Member.ensures.counts
+
+pub returns-in-Neighbor-clause-counts : goal.returns-in-Neighbor-clause-counts
+returns-in-Neighbor-clause-counts c =
+    in_table c.count-in-Neighbor.result (state_of c.args.self.now) _ (mention_of c.args.mention) _ _
+    (ap subject_of c.in-Neighbor.is) (λ counted. (counted, refl)) c.count-in-Neighbor.ensures.counts
+
+pub returns-in-Router-clause-counts : goal.returns-in-Router-clause-counts
+returns-in-Router-clause-counts c =
+    in_table c.count-in-Router.result (state_of c.args.self.now) _ (mention_of c.args.mention) _ _
+    (ap subject_of c.in-Router.is) (λ counted. (counted, refl)) c.count-in-Router.ensures.counts
+
+pub returns-in-Prefix-clause-counts : goal.returns-in-Prefix-clause-counts
+returns-in-Prefix-clause-counts c =
+    in_table c.count-in-Prefix.result (state_of c.args.self.now) _ (mention_of c.args.mention) _ _
+    (ap subject_of c.in-Prefix.is) (λ counted. (counted, refl)) c.count-in-Prefix.ensures.counts

@@ -1,0 +1,9 @@
+-- What the entry begins with, the prefix, the router, the other values and the end.
+use Rattle.packet_fields.proofs.EntryChains.{entry_printed}
+use Rattle.packet_fields.proofs.Fields.{cells_both}
+use Rattle.packet_stats.proofs.entries.show_prefix.Goals as goal
+
+pub returns : goal.returns
+returns g c =
+    entry_printed _ _ _ _ _ _ _ _ _ tt c.in_ok-open_entry.ensures c.in_ok-first_cell.ensures
+    (cells_both _ _ _ _ _ _ c.in_ok-show_keyed_address.ensures c.in_ok-show_cells.ensures) c.close_entry.ensures

@@ -1,0 +1,84 @@
+// Made from crates/tests_packet_stats/src/groups.rt by rust/erase.
+// Groups and their members.
+
+use crate::captured::{
+    LEAVE_V2, LEAVE_V3, LISTENER_BLOCKS, LISTENER_V1, LISTENER_V2, REPORT_V2, REPORT_V3,
+    ROUTER_GROUPS,
+};
+use crate::made::{counts, front, host6, put, router6, shows, to_host, to_server};
+use control_wire::{IPV6_LINK_LOCAL_ALL_NODES, Ipv6Address};
+use message_fields::Message;
+use packet_fields::Form;
+use packet_stats::Stats;
+
+fn listener(source: Ipv6Address, octets: &[u8]) -> Message<'_> {
+    Message::Icmp6(source, IPV6_LINK_LOCAL_ALL_NODES, octets)
+}
+
+// Reports of each version; what leaves a group or blocks a source says nothing.
+#[test]
+fn captured_reports() {
+    let mut stats = Stats::new();
+    for octets in [REPORT_V3, LEAVE_V3, LEAVE_V2, REPORT_V2] {
+        let message = Message::Igmp(octets);
+        counts(&mut stats, &message, &to_server(), None);
+    }
+    let message = Message::Igmp(REPORT_V2);
+    counts(&mut stats, &message, &to_host(), None);
+    for octets in [LISTENER_V1, LISTENER_V2, LISTENER_BLOCKS] {
+        let message = listener(host6(), octets);
+        counts(&mut stats, &message, &to_server(), None);
+    }
+    shows(
+        Form::Lines,
+        &mut stats,
+        "  group=239.1.2.3 member=192.0.2.1 count=1\n  group=239.1.2.3 member=192.0.2.50 count=2\n  \
+        group=ff15::1:3 member=fe80::ff:fe00:7 count=2\n",
+    );
+}
+
+// Five records, of which the last is cut.
+#[test]
+fn record_that_is_cut() {
+    let mut stats = Stats::new();
+    let message = listener(router6(), &ROUTER_GROUPS[..107]);
+    counts(&mut stats, &message, &to_server(), None);
+    shows(
+        Form::Json,
+        &mut stats,
+        ",\"questions\":[],\"rcodes\":[],\"servers\":[],\"clients\":[],\"leases\":[],\"members\":[\
+        {\"kind\":\"group\",\"addr\":\"ff02::6a\",\"member\":\"fe80::ff:fe00:1\",\"count\":1},\
+        {\"kind\":\"group\",\"addr\":\"ff02::1:ff00:0\",\"member\":\"fe80::ff:fe00:1\",\"count\":1},\
+        {\"kind\":\"group\",\"addr\":\"ff02::1:ff00:1\",\"member\":\"fe80::ff:fe00:1\",\"count\":1},\
+        {\"kind\":\"group\",\"addr\":\"ff05::2\",\"member\":\"fe80::ff:fe00:1\",\"count\":1}],\
+        \"neighbors\":[],\"routers\":[],\"prefixes\":[]",
+    );
+}
+
+// Records by their type, with a source and without (RFC 3376 section 4.2.12).
+#[test]
+fn records_that_say_that_a_host_is_in_a_group() {
+    let mut stats = Stats::new();
+    for kind in 1..=6u8 {
+        for sources in 0..=1u8 {
+            let mut report = [0; 20];
+            put(&mut report, 0, REPORT_V3);
+            put(
+                &mut report,
+                8,
+                &[kind, 0, 0, sources, 239, 0, kind, sources],
+            );
+            let len = if sources == 0 { 16 } else { 20 };
+            let message = Message::Igmp(front(&report, len));
+            counts(&mut stats, &message, &to_server(), None);
+        }
+    }
+    shows(
+        Form::Lines,
+        &mut stats,
+        "  group=239.0.1.1 member=192.0.2.50 count=1\n  group=239.0.2.0 member=192.0.2.50 count=1\n  \
+        group=239.0.2.1 member=192.0.2.50 count=1\n  group=239.0.3.1 member=192.0.2.50 count=1\n  \
+        group=239.0.4.0 member=192.0.2.50 count=1\n  group=239.0.4.1 member=192.0.2.50 count=1\n  \
+        group=239.0.5.1 member=192.0.2.50 count=1\n",
+    );
+}
