@@ -55,6 +55,14 @@ def reader(file, i):
 
 
 @rule(RUNTIME)
+def stdout(file, i):
+    """So is standard output."""
+    if not file.texts(i, "rt", ".", "stdout", "("):
+        return None
+    return file.replace(i, i + 3, "std::io::stdout")
+
+
+@rule(RUNTIME)
 def files(file, i):
     """A function over any runtime that has files, `fn f<R: Files>(rt: &R, ..)`, is over std's: `R::File` is `fs::File`."""
     if file.text(i) != "fn" or not file.texts(i + 2, "<", "R", ":", "Files", ">"):

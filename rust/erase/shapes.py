@@ -52,6 +52,7 @@ SHAPES = {
     "takes_alloc": (r"to_string|concat|to_vec|repeat|clone|vec|in \w+( \. alloc \( \.\. \))? ;",
                     r"to_string_in|concat_in|to_vec_in|repeat_in|try_clone|(crate :: )?rattle_std :: vec|"),
     "reader": (r"rt \. reader", r"io :: reader"),
+    "stdout": (r"rt \. stdout", r"std :: io :: stdout"),
     "files": (r"< R : Files >|R :: File", r"(fs :: File)?"),
     "holder": (r"< 'a , R >|rt : & 'a R ,|rt|let rt = self \. rt ;|< R : \w+( \+ \w+)* >|< '_ , R >|R :: (Reader|File)",
                r"(io :: Stdin|fs :: File)?"),

@@ -11,9 +11,9 @@ pub mod Places
 pub mod Printing
 pub mod Running
 pub mod Summaries
+pub mod SummaryObjects
 pub mod Tallies
 pub mod Times
 pub mod TunnelEntries
-pub mod Unanswered
 pub mod Words
 pub mod Vlans

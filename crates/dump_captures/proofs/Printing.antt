@@ -1,6 +1,6 @@
 -- What an output gains where a packet is printed.
-use Rattle.std.proofs.Common.{◌≡◌, ◌∙◌, ◌<◌, ◌^◌, sym, ◌++◌, Err, IfOk, List, Ok, OnOk, Option, Result}
-use Rattle.std.proofs.Common.{append_assoc, codes, refl, subst, ℕ}
+use Rattle.std.proofs.Common.{◌≡◌, ◌∙◌, ◌<◌, ◌^◌, [], sym, ◌++◌, Bool, Err, IfOk, List, Ok, OnOk, Option, Result}
+use Rattle.std.proofs.Common.{append_assoc, codes, refl, subst, true, ℕ}
 use Rattle.std.proofs.lemmas.Grind.{flat_map-append}
 use Rattle.packet_fields.specs.Fields.{Item, number}
 unfoldable use Rattle.packet_fields.specs.Fields.{items_text}
@@ -13,7 +13,8 @@ use Rattle.packet_fields.proofs.Fields.{fit_both, prints_both}
 use Rattle.packet_fields.proofs.Printing.{◌then◌, gains_both}
 use Rattle.packet_pairs.specs.declared.pairs.Answered.{Answered}
 use Rattle.dump_captures.specs.Arrival.{ArrivalValue}
-use Rattle.dump_captures.specs.Dump.{LengthyPrints}
+use Rattle.dump_captures.specs.Color.{before_text, behind_text, painted}
+use Rattle.dump_captures.specs.Dump.{LengthyPrints, PrintsUnless}
 use Rattle.dump_captures.specs.Heading.{head_items, heading}
 use Rattle.dump_captures.specs.Messages.{ListingIs}
 use Rattle.dump_captures.specs.Pairing.{answer_items}
@@ -42,6 +43,20 @@ gains_some IsText IsOther a b c front (Ok x) first other (text, is, gains) =
     (front ++ text, other text is, gains_both a b c front text first gains)
 gains_some IsText IsOther a b c front (Err e) first other gains = tt
 
+line_is : (begin front told answer behind end : List ℕ)
+    → ((((begin ++ front) ++ told) ++ answer) ++ behind) ++ end ≡ (begin ++ (front ++ told ++ answer) ++ behind) ++ end
+line_is begin front told answer behind end = simp (append_assoc)
+
+-- a line of three parts, which may be colored, and its end
+pub colored_line : (is_colored : Bool) (begin front told answer end : List ℕ) (a b c d e f g : Option (List ℕ))
+    → Gains a b (before_text is_colored begin) → Gains b c front → Gains c d told → Gains d e answer
+    → Gains e f (behind_text is_colored) → Gains f g end
+    → Gains a g (painted is_colored begin (front ++ told ++ answer) ++ end)
+colored_line is_colored begin front told answer end a b c d e f g first second third fourth fifth last =
+    subst (Gains a g)
+    (line_is (before_text is_colored begin) front told answer (behind_text is_colored) end)
+    (first then second then third then fourth then fifth then last)
+
 -- items behind a front
 pub gains_items : {E : Type 0} (a b c : Option (List ℕ)) (front : List ℕ) (form : Form) (items : List Item)
     (r : Result (Unit {0}) E) → Gains a b front → OnOk r (Prints form b c items)
@@ -53,20 +68,20 @@ gains_items a b c front form items (Err e) first printed = tt
 module _ (options : Options) (a : ArrivalValue) (h : HeadersValue) (items : List Item) (why : Option Reason)
     (answer : Option Answered) (listed : ListingIs options h items why) where
   -- a packet in lines
-  pub lines_printed : (t u v w : Option (List ℕ)) → options.form ≡ Lines → Gains t u (heading options.is_verbose a h)
+  pub lines_printed : (t u v w : Option (List ℕ)) → options.form ≡ Lines → Gains t u (heading options a h)
       → Prints options.form u v items → Prints Lines v w (answer_items Lines answer)
       → GainsSome t w (LengthyPrints options a h why answer)
   lines_printed t u v w form first printed answered =
       let all = items ++ answer_items Lines answer in
       let both = prints_both Lines u v w items (answer_items Lines answer) (rw form at printed) answered in (
-        heading options.is_verbose a h ++ items_text Lines all,
+        heading options a h ++ items_text Lines all,
         record {
           items = items;
           is = listed;
           fits = λ json. absurd (cc (sym form ∙ json));
           text_is = rw form refl;
         },
-        gains_both t u w (heading options.is_verbose a h) (items_text Lines all) first both.gains,
+        gains_both t u w (heading options a h) (items_text Lines all) first both.gains,
       )
 
   object_is : (head more : List Item)
@@ -93,3 +108,7 @@ module _ (options : Options) (a : ArrivalValue) (h : HeadersValue) (items : List
         },
         subst (Gains t y) (object_is (head_items a h) more) all,
       )
+
+  -- a packet that is left out
+  pub left_out : (is_left_out : Bool) → is_left_out ≡ true → PrintsUnless is_left_out options a h why answer []
+  left_out is_left_out is = subst (λ left. PrintsUnless left options a h why answer []) (sym is) (items, listed, refl)

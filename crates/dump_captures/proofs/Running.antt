@@ -9,7 +9,7 @@ use Rattle.capture.specs.declared.capture.Stage.TheVariants.{Start}
 use Rattle.capture.specs.declared.capture.Record.{Record}
 use Rattle.capture.specs.declared.ending.Ending.{Ending}
 use Rattle.packet_fields.specs.Output.{Gains, GainsSome}
-use Rattle.packet_pairs.specs.Pairs.{State as Questions}
+use Rattle.dump_captures.specs.Session.{SessionValue}
 use Rattle.packet_fields.proofs.Printing.{gains_none, gains_both}
 use Rattle.dump_captures.specs.Arrival.{arrival}
 use Rattle.dump_captures.specs.Dump.{AreRead, InputPrints, IsFront, KeptValue, PacketPrints, PacketsPrint, ReadPrints}
@@ -67,8 +67,8 @@ pub record SoFar (options : Options) (file : Option (List ℕ)) (start left : Op
   pub reads : IfSome start (λ all. HasRead all left s seen)
   pub gains : Gains before now text
   pub goes_on : (packets : List PacketValue) (more : List ℕ) (new : TallyValue) (last : ProgressValue)
-      (waiting : Questions) → PacketsPrint options file n b kept tally packets more new last waiting
-      → PacketsPrint options file 0 (begin options) nothing_kept first (seen ++ packets) (text ++ more) new last waiting
+      (session : SessionValue) → PacketsPrint options file n b kept tally packets more new last session
+      → PacketsPrint options file 0 (begin options) nothing_kept first (seen ++ packets) (text ++ more) new last session
 
 pub so_far-init : (options : Options) (file : Option (List ℕ)) (start : Option (List ℕ)) (s : State) (n : ℕ) (b : ProgressValue)
     (kept : KeptValue) (tally : TallyValue) (before : Option (List ℕ)) → s ≡ state Start [] → n ≡ 0
@@ -79,7 +79,7 @@ so_far-init options file start s n b kept tally before begins none new empty =
       text = [];
       reads = read-none start s begins;
       gains = gains_none before;
-      goes_on = λ packets more last end waiting prints. rw (none, new, empty) at prints;
+      goes_on = λ packets more last end session prints. rw (none, new, empty) at prints;
     }
 
 module _ (options : Options) (file : Option (List ℕ)) (start left : Option (List ℕ)) (s : State) (n : ℕ) (b : ProgressValue)
@@ -88,7 +88,7 @@ module _ (options : Options) (file : Option (List ℕ)) (start left : Option (Li
   -- the packets that could be read, or were to be
   so_far-stop : (later : Option (List ℕ)) → Gains now later [] → (stop : Stop)
       → IfSome start (λ all. AreRead all so_far.seen stop) → StopsBy stop b
-      → GainsSome before later (λ text. ReadPrints options file start first text tally kept.questions stop)
+      → GainsSome before later (λ text. ReadPrints options file start first text tally kept.session stop)
   so_far-stop later wrote stop reads stops = (
     so_far.text,
     record {
@@ -96,19 +96,19 @@ module _ (options : Options) (file : Option (List ℕ)) (start left : Option (Li
       last = b;
       reads = reads;
       prints = rw (append-nil so_far.seen, append-nil so_far.text) at
-          (so_far.goes_on [] [] tally b kept.questions (refl, refl, refl, refl));
+          (so_far.goes_on [] [] tally b kept.session (refl, refl, refl, refl));
       stops = stops;
     },
     rw (append-nil so_far.text) at (gains_both before now later so_far.text [] so_far.gains wrote),
   )
 
   pub so_far-enough : is_enough b ≡ true
-      → GainsSome before now (λ text. ReadPrints options file start first text tally kept.questions Enough)
+      → GainsSome before now (λ text. ReadPrints options file start first text tally kept.session Enough)
   so_far-enough enough =
       so_far-stop now (gains_none now) Enough (read-front start left s so_far.seen so_far.reads) enough
 
   pub so_far-unread : (later : Option (List ℕ)) → Gains now later []
-      → GainsSome before later (λ text. ReadPrints options file start first text tally kept.questions Unread)
+      → GainsSome before later (λ text. ReadPrints options file start first text tally kept.session Unread)
   so_far-unread later wrote = so_far-stop later wrote Unread (read-front start left s so_far.seen so_far.reads) tt
 
   module _ (goes_on : is_enough b ≡ false) (flushed : Option (List ℕ)) (wrote : Gains now flushed []) where
@@ -132,9 +132,9 @@ module _ (options : Options) (file : Option (List ℕ)) (start left : Option (Li
           reads = read-more start left remaining s new so_far.seen r octets so_far.reads gives;
           gains = gains_both before now later so_far.text shows.0 so_far.gains
               (gains_both now flushed later [] shows.0 wrote shows.2);
-          goes_on = λ packets more last end waiting prints.
+          goes_on = λ packets more last end session prints.
               rw (append_assoc so_far.seen (p ∷ []) packets, append_assoc so_far.text shows.0 more)
-              (so_far.goes_on (p ∷ packets) (shows.0 ++ more) last end waiting (
+              (so_far.goes_on (p ∷ packets) (shows.0 ++ more) last end session (
                 shows.0,
                 more,
                 c,
@@ -148,7 +148,7 @@ module _ (options : Options) (file : Option (List ℕ)) (start left : Option (Li
 
     pub so_far-end : (remaining : Option (List ℕ)) (ending : Ending) (octets : List ℕ) (new : State)
         → IfSome left (λ bytes. GivesNext s bytes (next.Ended ending) octets new remaining)
-        → GainsSome before flushed (λ text. ReadPrints options file start first text tally kept.questions (Ended ending))
+        → GainsSome before flushed (λ text. ReadPrints options file start first text tally kept.session (Ended ending))
     so_far-end remaining ending octets new gives =
         so_far-stop flushed wrote (Ended ending)
         (read-all start left remaining s new so_far.seen ending octets so_far.reads gives) goes_on
@@ -161,7 +161,7 @@ known-input options file None bytes old new text stop gives prints =
     let read = prints.packets in
     record {
       packets_text = prints.packets_text;
-      waiting = prints.waiting;
+      session = prints.session;
       packets = record {
         packets = read.packets;
         last = read.last;

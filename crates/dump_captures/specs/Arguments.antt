@@ -9,13 +9,15 @@ use Rattle.dump_captures.specs.Kinds.{kinds, kind_place, kind_text}
 use Rattle.dump_captures.specs.Nearest.{nearest}
 use Rattle.dump_captures.specs.Numbers.{changed_at}
 use Rattle.dump_captures.specs.Ports.{no_ports, with_ports}
-use Rattle.dump_captures.specs.Settings.{count_in, option_in, setting_of, time_form_in, value_in}
+use Rattle.dump_captures.specs.Settings.{color_in, count_in, option_in, setting_of, time_form_in, value_in}
 use Rattle.dump_captures.specs.declared.arguments.Wrong.{Wrong}
 use Rattle.dump_captures.specs.declared.arguments.Wrong.TheVariants as wrong
 use Rattle.dump_captures.specs.declared.kind.Kind.{Kind}
 use Rattle.dump_captures.specs.declared.kind.Kind.TheVariants.{Icmp4, Icmp6}
 use Rattle.dump_captures.specs.declared.options.Only.{Only}
 use Rattle.dump_captures.specs.declared.options.Options.{Options}
+use Rattle.dump_captures.specs.declared.options.Color.{Color}
+use Rattle.dump_captures.specs.declared.options.Color.TheVariants.{Auto}
 use Rattle.dump_captures.specs.declared.options.TimeForm.{TimeForm}
 use Rattle.dump_captures.specs.declared.ports.Ports.{Ports}
 use Rattle.dump_captures.specs.declared.settings.Setting.{Setting}
@@ -115,9 +117,11 @@ nothing_read = record {
     form = Lines;
     is_brief = false;
     is_verbose = false;
+    color = Auto;
     time_form = None;
     is_strict = false;
     pairs = false;
+    stats = false;
     ports = no_ports;
   };
   host = None;
@@ -149,10 +153,13 @@ with_flag word r =
     then Some (more (record r { options = record r.options { is_verbose = true } }))
     else if bytes_eq word (codes "--pairs")
     then Some (more (record r { options = record r.options { pairs = true } }))
+    else if bytes_eq word (codes "--stats")
+    then Some (more (record r { options = record r.options { stats = true } }))
     else if bytes_eq word (codes "--strict")
     then Some (more (record r { options = record r.options { is_strict = true } }))
     else if bytes_eq word (codes "--") then Some (more (record r { wants_files = true }))
     else if bytes_eq word (codes "-n") || bytes_eq word (codes "-r") then Some (more r)
+    else if bytes_eq word (codes "-nn") || bytes_eq word (codes "-nr") then Some (more r)
     else if bytes_eq word (codes "--help") || bytes_eq word (codes "-h") then Some (ends help)
     else if bytes_eq word (codes "--version") || bytes_eq word (codes "-V") then Some (ends version)
     else None
@@ -162,9 +169,9 @@ with_flag word r =
 -- the known words, for one that is not known
 abbrev pub option_words : List (List ℕ)
 option_words =
-    codes "--only" ∷ codes "--host" ∷ codes "--name" ∷ codes "--time" ∷ codes "--port" ∷ codes "--count"
-    ∷ codes "--json" ∷ codes "--brief" ∷ codes "--pairs" ∷ codes "--verbose" ∷ codes "--strict"
-    ∷ codes "--help" ∷ codes "--version" ∷ []
+    codes "--only" ∷ codes "--host" ∷ codes "--name" ∷ codes "--time" ∷ codes "--port" ∷ codes "--color"
+    ∷ codes "--count" ∷ codes "--json" ∷ codes "--brief" ∷ codes "--pairs" ∷ codes "--stats" ∷ codes "--verbose"
+    ∷ codes "--strict" ∷ codes "--help" ∷ codes "--version" ∷ []
 
 abbrev pub kind_words : List (List ℕ)
 kind_words = map kind_text kinds ++ codes "icmp" ∷ codes "hbh" ∷ []
@@ -181,6 +188,10 @@ abbrev pub with_time_form : Option TimeForm → List ℕ → ReadingValue → Re
 with_time_form None text r = ends (unknown (bad_value setting.Time text))
 with_time_form (Some form) text r = more (record r { options = record r.options { time_form = Some form } })
 
+abbrev pub with_color : Option Color → List ℕ → ReadingValue → Reads
+with_color None text r = ends (unknown (bad_value setting.Color text))
+with_color (Some color) text r = more (record r { options = record r.options { color = color } })
+
 abbrev pub with_given : Option Ports → List ℕ → ReadingValue → Reads
 with_given None text r = ends (unknown (bad_value setting.Port text))
 with_given (Some ports) text r = more (record r { options = record r.options { ports = ports } })
@@ -192,6 +203,7 @@ with_value setting.Host text r = more (record r { host = Some text })
 with_value setting.Name text r = more (record r { name = Some text })
 with_value setting.Time text r = with_time_form (time_form_in text) text r
 with_value setting.Port text r = with_given (with_ports r.options.ports text) text r
+with_value setting.Color text r = with_color (color_in text) text r
 
 -- the value is in the same word, or is the next argument
 abbrev pub with_setting : Option Setting → Option (List ℕ) → List ℕ → ReadingValue → Reads

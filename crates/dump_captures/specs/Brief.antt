@@ -10,6 +10,7 @@ use Rattle.message_fields.specs.declared.refusal.Refusal.TheVariants as message_
 use Rattle.packet_fields.specs.Fields.{Item}
 use Rattle.packet_pairs.specs.declared.pairs.Answered.{Answered}
 use Rattle.dump_captures.specs.Arrival.{ArrivalValue}
+use Rattle.dump_captures.specs.Color.{is_red, painted, red}
 use Rattle.dump_captures.specs.Content.{ContentValue, kind_in}
 use Rattle.dump_captures.specs.Content as content
 use Rattle.dump_captures.specs.Heading.{addresses_text, time_word, verbose_words, way_words}
@@ -75,11 +76,13 @@ pub data PacketSays (is_strict : Bool) (h : HeadersValue) (told : List ℕ) : Ty
 
 -- ---- the line
 
--- A packet on a line, with what it answers. It is refused or read in part for the reason of its listing.
+-- A packet on a line, with what it answers, which may be red. It is refused or read in part for the reason of its
+-- listing.
 pub record BriefPrints (options : Options) (a : ArrivalValue) (h : HeadersValue) (why : Option Reason)
     (answer : Option Answered) (shown : List ℕ) : Type 0 where
   pub items : List Item
   pub is : ListingIs options h items why
   pub told : List ℕ
   pub says : PacketSays options.is_strict h told
-  pub text_is : shown ≡ brief_front options.is_verbose a h ++ told ++ answer_words answer ++ codes "\n"
+  pub text_is : shown
+      ≡ painted (is_red options why) red (brief_front options.is_verbose a h ++ told ++ answer_words answer) ++ codes "\n"

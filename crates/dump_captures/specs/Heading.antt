@@ -20,9 +20,11 @@ use Rattle.packet_fields.specs.Fields.{numbers, text}
 use Rattle.packet_fields.specs.declared.form.Form.TheVariants.{Lines}
 use Rattle.message_fields.specs.Checksums.{tcp}
 use Rattle.dump_captures.specs.Arrival.{ArrivalValue}
+use Rattle.dump_captures.specs.Color.{bold, is_colored, painted}
 use Rattle.dump_captures.specs.Content.{ContentValue, kind_in, whole}
 use Rattle.dump_captures.specs.Kinds.{kind_text}
 use Rattle.dump_captures.specs.Sight.{HeadersValue}
+use Rattle.dump_captures.specs.declared.options.Options.{Options}
 use Rattle.dump_captures.specs.declared.path.Passage.{Passage}
 
 -- the time of a packet, where it has one
@@ -127,11 +129,16 @@ way_words h =
     ++ transport_text (is_over_tcp h.content)
 
 -- the heading of a packet, with more words where these are asked for
-unfoldable pub heading : Bool → ArrivalValue → HeadersValue → List ℕ
-heading is_verbose a h =
+unfoldable pub heading_words : Bool → ArrivalValue → HeadersValue → List ℕ
+heading_words is_verbose a h =
     decimal a.number ++ codes " " ++ time_word a.time ++ addresses_text h.addresses h.ports
     ++ verbose_words is_verbose a.packet h ++ way_words h
-    ++ codes " " ++ kind_text (kind_in h.content) ++ codes "\n"
+    ++ codes " " ++ kind_text (kind_in h.content)
+
+-- as a line, which may be bold
+unfoldable pub heading : Options → ArrivalValue → HeadersValue → List ℕ
+heading options a h =
+    painted (is_colored options) bold (heading_words options.is_verbose a h) ++ codes "\n"
 
 -- ---- in JSON
 

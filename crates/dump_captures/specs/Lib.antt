@@ -1,9 +1,11 @@
 pub mod Arguments
 pub mod Arrival
 pub mod Brief
+pub mod Color
 pub mod Content
 pub mod Counts
 pub mod Dump
+pub mod End
 pub mod Fault
 pub mod Files
 pub mod Fragments
@@ -21,8 +23,10 @@ pub mod Place
 pub mod Ports
 pub mod Progress
 pub mod Refusals
+pub mod Session
 pub mod Settings
 pub mod Sight
+pub mod Statistics
 pub mod Summary
 pub mod Table
 pub mod Tally

@@ -39,10 +39,6 @@ abbrev pub is_checksum : Option Reason → Bool
 is_checksum (Some Checksum) = true
 is_checksum _ = false
 
--- whether answers are looked for, and the packet is not refused for a checksum
-abbrev pub is_paired : Options → Option Reason → Bool
-is_paired options why = options.pairs && not (options.is_strict && is_checksum why)
-
 -- A packet whose message, between these addresses, answers a question or asks one. Before it and behind it these
 -- questions wait.
 pub data MessageAnswers (a : ArrivalValue) (m : MessageValue) (between : Addresses) (old : State)
@@ -50,19 +46,6 @@ pub data MessageAnswers (a : ArrivalValue) (m : MessageValue) (between : Address
   other : Has m between None → answer ≡ None → new ≡ old → MessageAnswers a m between old answer new
   exchange : (e : ExchangeValue) → Has m between (Some e)
       → Sees old a.number (moment_in a.packet.time) e answer new → MessageAnswers a m between old answer new
-
--- a packet without a message, or without addresses, answers none
-abbrev pub ContentAnswers : ArrivalValue → Option MessageValue → Option Addresses → State → Option Answered → State
-    → Type 0
-ContentAnswers a (Some m) (Some between) old answer new = MessageAnswers a m between old answer new
-ContentAnswers a _ _ old answer new = (answer ≡ None) × (new ≡ old)
-
--- The question that a packet answers, where it answers one, and the questions that then wait.
-pub data IsAnswer (options : Options) (a : ArrivalValue) (h : HeadersValue) (why : Option Reason) (old : State)
-    (answer : Option Answered) (new : State) : Type 0 where
-  unpaired : is_paired options why ≡ false → answer ≡ None → new ≡ old → IsAnswer options a h why old answer new
-  paired : is_paired options why ≡ true → ContentAnswers a (message_in h.content) h.addresses old answer new
-      → IsAnswer options a h why old answer new
 
 -- ---- what is printed of it
 
@@ -82,8 +65,10 @@ answer_words (Some answered) = codes " answers=" ++ decimal answered.number ++ a
 
 -- ---- what got no answer
 
-abbrev pub waiting_key : List ℕ
-waiting_key = codes "summary"
+-- an object behind those of packets, with the name of the file where it is to be told
+abbrev pub summary_object : List ℕ → Option (List ℕ) → List Item → List ℕ
+summary_object word file items =
+    object_text (codes "summary") (text word) (file_items file ++ items) ++ codes "\n"
 
 abbrev pub waiting_text : List ℕ
 waiting_text = codes "unanswered"
@@ -99,11 +84,10 @@ abbrev pub unanswered_lines : Bool → List Item → List ℕ
 unanswered_lines false items = waiting_text ++ codes "\n" ++ items_text Lines items
 unanswered_lines true items = waiting_text ++ as_words true (items_text Lines items) ++ codes "\n"
 
--- in JSON an object, with the name of the file where it is to be told
+-- in JSON an object
 abbrev pub unanswered_text : Form → Bool → Option (List ℕ) → List Item → List ℕ
 unanswered_text Lines is_brief file items = unanswered_lines is_brief items
-unanswered_text Json is_brief file items =
-    object_text waiting_key (text waiting_text) (file_items file ++ items) ++ codes "\n"
+unanswered_text Json is_brief file items = summary_object waiting_text file items
 
 -- a question
 abbrev pub question_text : Options → Option (List ℕ) → Asked → List ℕ
@@ -123,11 +107,3 @@ pub record Unanswered (options : Options) (file : Option (List ℕ)) (s : State)
   pub questions : List Asked
   pub are : map asked_of questions ≡ s.waiting
   pub text_is : shown ≡ flat_map (question_text options file) questions ++ dropped_text options file s.dropped
-
--- only where answers are looked for, and packets are printed
-abbrev pub EndPrintsIf : Bool → Options → Option (List ℕ) → State → List ℕ → Type 0
-EndPrintsIf true options file s shown = Unanswered options file s shown
-EndPrintsIf false options file s shown = shown ≡ []
-
-abbrev pub EndPrints : Options → Option (List ℕ) → State → List ℕ → Type 0
-EndPrints options = EndPrintsIf (options.pairs && options.prints) options

@@ -5,10 +5,12 @@ use Rattle.std.specs.List.{after_first, before_first}
 use Rattle.std.specs.Option.{option_and_then}
 use Rattle.std.specs.Str.{all_ascii_digits}
 use Rattle.std.specs.Str.Parse.{digits_value}
+use Rattle.dump_captures.specs.declared.options.Color.{Color as AnyColor}
+use Rattle.dump_captures.specs.declared.options.Color.TheVariants.{Auto, Always, Never}
 use Rattle.dump_captures.specs.declared.options.TimeForm.{TimeForm}
 use Rattle.dump_captures.specs.declared.options.TimeForm.TheVariants.{Clock, Utc, Relative, Delta, Epoch}
 use Rattle.dump_captures.specs.declared.settings.Setting.{Setting}
-use Rattle.dump_captures.specs.declared.settings.Setting.TheVariants.{Only, Most, Host, Name, Time, Port}
+use Rattle.dump_captures.specs.declared.settings.Setting.TheVariants.{Only, Most, Host, Name, Time, Port, Color}
 
 -- ---- the options
 
@@ -20,6 +22,7 @@ setting_of option =
     else if bytes_eq option (codes "--name") then Some Name
     else if bytes_eq option (codes "--time") then Some Time
     else if bytes_eq option (codes "--port") then Some Port
+    else if bytes_eq option (codes "--color") then Some Color
     else None
 
 -- ---- two parts of a text
@@ -60,4 +63,11 @@ time_form_in text =
     else if bytes_eq text (codes "relative") then Some Relative
     else if bytes_eq text (codes "delta") then Some Delta
     else if bytes_eq text (codes "epoch") then Some Epoch
+    else None
+
+abbrev pub color_in : List ℕ → Option AnyColor
+color_in text =
+    if bytes_eq text (codes "auto") then Some Auto
+    else if bytes_eq text (codes "always") then Some Always
+    else if bytes_eq text (codes "never") then Some Never
     else None

@@ -4,12 +4,12 @@ ghost use Rattle.std.specs.Prelude.{◌≡◌, IfOk, IfErr, IfSome, IfNone, Matc
 ghost use Rattle.std.specs.Option.{option_map};
 ghost use Rattle.std.specs.Vec.Iter.{into_iter_items};
 ghost use Rattle.dump_captures.specs.Arguments.{kind_named, only_of, with_name, is_option};
-ghost use Rattle.dump_captures.specs.Arguments.{with_flag, with_given, with_only};
+ghost use Rattle.dump_captures.specs.Arguments.{with_color, with_flag, with_given, with_only};
 ghost use Rattle.dump_captures.specs.Arguments.{with_most, with_setting, with_time_form, with_value, with_word, more};
 ghost use Rattle.dump_captures.specs.Arguments.{at_end, nothing_read, task_of};
 ghost use Rattle.dump_captures.specs.Tasks.{HasHost, HasNameOf, IsNoHost, IsNoName, IsTask};
 ghost use Rattle.dump_captures.specs.Ports.{with_ports};
-ghost use Rattle.dump_captures.specs.Settings.{count_in, option_in, setting_of, time_form_in, value_in};
+ghost use Rattle.dump_captures.specs.Settings.{color_in, count_in, option_in, setting_of, time_form_in, value_in};
 ghost use Rattle.dump_captures.specs.private.Parts.{reading_of, reads_of};
 
 use crate::Fault;
@@ -17,7 +17,7 @@ use crate::host::Host;
 use crate::kind::Kind;
 use crate::nearest::nearest;
 use crate::options::{Only, Options};
-use crate::settings::{Setting, count_in, setting_of, split, time_form_in};
+use crate::settings::{Setting, color_in, count_in, setting_of, split, time_form_in};
 use packet_fields::Form;
 use record_wire::Name;
 use std::alloc::Global;
@@ -52,16 +52,18 @@ pub enum Wrong {
 }
 
 // The options, and the names of packets, for a word that is neither.
-const OPTIONS: [&str; 13] = [
+const OPTIONS: [&str; 15] = [
     "--only",
     "--host",
     "--name",
     "--time",
     "--port",
+    "--color",
     "--count",
     "--json",
     "--brief",
     "--pairs",
+    "--stats",
     "--verbose",
     "--strict",
     "--help",
@@ -206,6 +208,10 @@ impl Reading {
             self.options.pairs = true;
             return Some(Step::More);
         }
+        if word == "--stats" {
+            self.options.stats = true;
+            return Some(Step::More);
+        }
         if word == "--strict" {
             self.options.is_strict = true;
             return Some(Step::More);
@@ -215,6 +221,9 @@ impl Reading {
             return Some(Step::More);
         }
         if word == "-n" || word == "-r" {
+            return Some(Step::More);
+        }
+        if word == "-nn" || word == "-nr" {
             return Some(Step::More);
         }
         if word == "--help" || word == "-h" {
@@ -265,6 +274,7 @@ impl Reading {
             }
             Setting::Time => Ok(self.read_time_form(text)),
             Setting::Port => Ok(self.read_port(text)),
+            Setting::Color => Ok(self.read_color(text)),
         }
     }
 
@@ -307,6 +317,18 @@ impl Reading {
             return Step::Unknown(Wrong::BadValue(Setting::Time, text));
         };
         self.options.time_form = Some(time_form);
+        Step::More
+    }
+
+    // Reads where lines are colored, after `--color`.
+    fn read_color(&mut self, text: String) -> Step
+        ensures { reads_of result (reading_of self.new)
+            ≡ with_color (color_in (string_bytes text)) (string_bytes text) (reading_of self.old) }
+    {
+        let Some(color) = color_in(text.as_str()) else {
+            return Step::Unknown(Wrong::BadValue(Setting::Color, text));
+        };
+        self.options.color = color;
         Step::More
     }
 

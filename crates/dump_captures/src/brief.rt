@@ -13,18 +13,19 @@ ghost use Rattle.dump_captures.specs.Brief.{kind_word, refused_words};
 ghost use Rattle.dump_captures.specs.Content.{content_of, whole};
 ghost use Rattle.dump_captures.specs.Pairing.{after_word, answer_words};
 ghost use Rattle.dump_captures.specs.Sight.{headers_of};
-ghost use Rattle.dump_captures.specs.private.Kept.{questions_of};
+ghost use Rattle.dump_captures.specs.private.Kept.{session_of};
 ghost use Rattle.dump_captures.specs.private.Shown.{IsShownInBrief};
 
 use crate::Fault;
 use crate::arrival::Arrival;
+use crate::color::{RED, begin_color, end_color};
 use crate::content::Content;
 use crate::heading::{show_addresses, show_time, show_way};
 use crate::kind::Reason;
 use crate::options::Options;
-use crate::pairing::Session;
 use crate::printed::reason_alone;
 use crate::refusal::Refusal;
+use crate::session::Session;
 use crate::sight::Headers;
 use crate::time::Clock;
 use crate::verbose::show_more;
@@ -48,11 +49,13 @@ pub(crate) fn show_line<W: Write>(
     headers: &Headers<'_>,
 ) -> Result<Option<Reason>, Fault>
     ensures { IfOk result (λ why. GainsSome (W.contents output.old) (W.contents output.new)
-        (IsShownInBrief options.now (arrival_of arrival.now) (headers_of headers.now) (questions_of session.old) why
-        (questions_of session.new))) }
+        (IsShownInBrief options.now (arrival_of arrival.now) (headers_of headers.now) (session_of session.old) why
+        (session_of session.new))) }
 {
     let why = reason_alone(options, alloc, headers)?;
-    let answer = session.see(options, arrival, headers, why)?;
+    let answer = session.see(options, alloc, arrival, headers, why)?;
+    let is_red = options.is_red(why);
+    begin_color(output, is_red, RED)?;
     show_front(
         output,
         &mut session.clock,
@@ -62,6 +65,7 @@ pub(crate) fn show_line<W: Write>(
     )?;
     show_packet(output, alloc, options.is_strict, headers)?;
     show_answer(output, answer)?;
+    end_color(output, is_red)?;
     output.write_all(b"\n")?;
     Ok(why)
 }

@@ -7,7 +7,7 @@ ghost use Rattle.frame_wire.specs.Link.{vlan_in};
 ghost use Rattle.std.specs.Option.{option_map};
 ghost use Rattle.frame_wire.specs.declared.datagram.Addresses.TheVariants.{V4, V6};
 ghost use Rattle.packet_fields.specs.Output.{Gains};
-ghost use Rattle.dump_captures.specs.Heading.{heading, time_word, addresses_text, source_port as source_in};
+ghost use Rattle.dump_captures.specs.Heading.{heading, heading_words, time_word, addresses_text, source_port as source_in};
 ghost use Rattle.dump_captures.specs.Heading.{destination_port as destination_in, frames_text, tag_text, tags_text};
 ghost use Rattle.dump_captures.specs.Heading.{hop_by_hop_text};
 ghost use Rattle.dump_captures.specs.Arrival.{arrival_of};
@@ -16,7 +16,9 @@ ghost use Rattle.dump_captures.specs.Sight.{headers_of};
 ghost use Rattle.dump_captures.specs.Moments.{when_text};
 
 use crate::arrival::Arrival;
+use crate::color::{BOLD, begin_color, end_color};
 use crate::numbers::Numbers;
+use crate::options::Options;
 use crate::sight::Headers;
 use crate::time::Clock;
 use crate::tunnels::show_tunnels;
@@ -40,12 +42,30 @@ const VLAN: Field = 0..2;
 pub fn show_heading<W: Write>(
     output: &mut W,
     clock: &mut Clock,
+    options: &Options,
+    arrival: &Arrival<'_>,
+    headers: &Headers<'_>,
+) -> io::Result<()>
+    ensures { OnOk result (Gains (W.contents output.old) (W.contents output.new)
+        (heading options.now (arrival_of arrival.now) (headers_of headers.now))) }
+{
+    let is_colored = options.is_colored();
+    begin_color(output, is_colored, BOLD)?;
+    show_words(output, clock, options.is_verbose, arrival, headers)?;
+    end_color(output, is_colored)?;
+    output.write_all(b"\n")
+}
+
+// Prints the words of the heading.
+fn show_words<W: Write>(
+    output: &mut W,
+    clock: &mut Clock,
     is_verbose: bool,
     arrival: &Arrival<'_>,
     headers: &Headers<'_>,
 ) -> io::Result<()>
     ensures { OnOk result (Gains (W.contents output.old) (W.contents output.new)
-        (heading is_verbose (arrival_of arrival.now) (headers_of headers.now))) }
+        (heading_words is_verbose (arrival_of arrival.now) (headers_of headers.now))) }
 {
     arrival.record.number.put(output, Form::Lines)?;
     output.write_all(b" ")?;
@@ -54,8 +74,7 @@ pub fn show_heading<W: Write>(
     show_more(output, is_verbose, arrival, headers)?;
     show_way(output, headers)?;
     output.write_all(b" ")?;
-    headers.content.kind().name().put(output, Form::Lines)?;
-    output.write_all(b"\n")
+    headers.content.kind().name().put(output, Form::Lines)
 }
 
 /// Prints the words of the way to the datagram and to its message.

@@ -6,8 +6,8 @@ pub const VERSION: &str = "0.14.1";
 /// The usage, for a wrong argument.
 pub const USAGE: &str =
     "usage: pcapdump [--only KIND,..] [--host ADDRESS[/BITS]] [--name NAME] [-c N] [--time FORM]
-                [--port KIND=PORT] [--brief | --json] [--pairs] [-v] [--strict] [--count] [--help] [--version]
-                [FILE..]";
+                [--port KIND=PORT] [--brief | --json] [--pairs] [-v] [--color WHEN] [--strict]
+                [--stats | --count] [--help] [--version] [FILE..]";
 
 /// The names after `--only`, for a list with an unknown one.
 pub const KINDS: &str =
@@ -23,7 +23,7 @@ its kind, and below it what it holds, a field a line. Without a file, and for -,
                     prints those alone that are from or to this IPv4 or IPv6 address, or one with the same first BITS
   --name NAME       prints those messages of DNS, mDNS, LLMNR and the NetBIOS name service alone that have a question or
                     a record of this name or of one that ends in it
-  -c N              stops reading a file after the Nth packet that is printed
+  -c N              stops reading a file after the Nth packet that is chosen
   --time FORM       tells times as `utc`, by RFC 3339; as `clock`, the time of day in UTC; as `relative`, in seconds
                     since the first packet of the file; as `delta`, in seconds since the packet that was printed before;
                     or as `epoch`, in seconds since 1970
@@ -32,17 +32,22 @@ its kind, and below it what it holds, a field a line. Without a file, and for -,
   -1, --brief       prints each packet on a line
   -v, --verbose     adds to headings, and to lines of --brief, the addresses of Ethernet frames, the length of the packet
                     in bytes, and the TTL or the hop limit
+  --color WHEN      `always`, `never` or, as it is without this, `auto`: on a terminal, unless NO_COLOR is set; headings
+                    are bold then, and lines of --brief red where a packet is refused or read in part
   --json            prints each packet as an object of JSON, on a line
   --pairs           tells of an answer the packet with its question and the time between the two, and behind the last
                     packet the questions that got no answer
   --strict          refuses messages whose checksum is wrong; without it they are printed with checksum=bad
+  --stats           prints in the place of packets a page of what they say: the questions, outcomes and servers of DNS,
+                    with the median and the 99th percentile of the times of answers; the clients of DHCP and their
+                    leases; which host reported which group; neighbors, routers and their prefixes
   --count           prints no packets but a table at the end: of each kind how many were listed and how many were
                     refused for each reason, and their octets; on standard error it sums up the rest. The table comes
                     where the input ends, also by Ctrl-C before a pipe that the script ./pcapdump reads
   -h, --help        prints this
   -V, --version     prints the version
   -r FILE           reads the file, as FILE alone does
-  -n                has no effect: no name is looked up
+  -n                has no effect: no name is looked up; nor has -nn, and -nr FILE is -r FILE
 
 The value of an option is the next word, or is behind an equals sign, as in --only=dns. Of an option that comes several
 times the last one counts, of --port the last one of each kind.
@@ -81,6 +86,7 @@ Examples:
   pcapdump --only dns,mdns --count trace.pcap more.pcapng
   pcapdump --name example.com --time=delta -c 10 trace.pcap
   pcapdump --brief --pairs trace.pcap | grep NXDOMAIN
+  pcapdump --stats --only dhcp trace.pcap
   pcapdump --port dns=5300 --port mdns=5454 trace.pcap
   tcpdump --immediate-mode -U -w - | pcapdump --only icmp6
   pcapdump --json trace.pcap | jq -c 'select(.kind == \"dhcp\")'

@@ -59,6 +59,18 @@ pub enum TimeForm {
     Epoch,
 }
 
+/// Where lines are colored.
+#[derive(Debug, PartialEq, Eq, Clone, Copy)]
+pub enum Color {
+    /// On a terminal, unless the environment has a variable `NO_COLOR` that is not empty. The program finds out; what
+    /// is dumped by a function is not colored.
+    Auto,
+    /// Everywhere.
+    Always,
+    /// Nowhere.
+    Never,
+}
+
 /// What is printed of a capture.
 #[derive(Drop)]
 pub struct Options {
@@ -78,12 +90,16 @@ pub struct Options {
     pub is_brief: bool,
     /// Whether in lines each has its link addresses, its length, and the hops that are left.
     pub is_verbose: bool,
+    /// Where lines are colored: headings are bold, and of packets on a line those red that are refused or read in part.
+    pub color: Color,
     /// The form of their times; None for the usual one.
     pub time_form: Option<TimeForm>,
     /// Whether a message whose checksum is wrong is refused.
     pub is_strict: bool,
     /// Whether answers are told, and the questions that got none.
     pub pairs: bool,
+    /// Whether a page of what messages say is printed in the place of packets.
+    pub stats: bool,
     /// The ports that are given to services beside their own.
     pub ports: Ports,
 }
@@ -99,9 +115,11 @@ impl Options {
         form: Form::Lines,
         is_brief: false,
         is_verbose: false,
+        color: Color::Auto,
         time_form: None,
         is_strict: false,
         pairs: false,
+        stats: false,
         ports: Ports::NONE,
     };
 

@@ -15,17 +15,18 @@ ghost use Rattle.dump_captures.specs.Path.{path_of};
 ghost use Rattle.dump_captures.specs.Sight.{sight_of, stream_of};
 ghost use Rattle.dump_captures.specs.Tally.{tally_of, empty};
 ghost use Rattle.dump_captures.specs.declared.tally.Outcome.TheVariants.{Passed};
-ghost use Rattle.dump_captures.specs.private.Kept.{kept_of, questions_of};
+ghost use Rattle.dump_captures.specs.private.Kept.{kept_of, session_of};
 
 use crate::Fault;
 use crate::arrival::Arrival;
+use crate::end::show_end;
 use crate::fragments::{look_at_joined, refused_fragment};
 use crate::options::Options;
-use crate::pairing::{Session, show_unanswered};
 use crate::path::Path;
 use crate::printed::show_control;
 use crate::progress::Progress;
 use crate::refusal::Refusal;
+use crate::session::Session;
 use crate::sight::{Finding, Segment, Sight, look, protocol_category};
 use crate::stop::Stop;
 use crate::tally::{Counted, Outcome, Tally};
@@ -126,7 +127,7 @@ struct Kept {
     session: Session,
 }
 
-// Prints the packets, and then what got no answer, and returns where the reading stops.
+// Prints the packets, and then what stands behind them, and returns where the reading stops.
 fn show_capture<R: Read, W: Write>(
     alloc: Global,
     options: &Options,
@@ -144,7 +145,7 @@ fn show_capture<R: Read, W: Write>(
         session: Session::new(alloc),
     };
     let stop = show_packets(alloc, options, file, input, output, &mut kept, tally)?;
-    show_unanswered(output, alloc, options, file, &kept.session)?;
+    show_end(output, alloc, options, file, &mut kept.session)?;
     Ok(stop)
 }
 
@@ -162,7 +163,7 @@ fn show_packets<R: Read, W: Write>(
     requires { kept_of kept.old ≡ nothing_kept }
     ensures { IfOk result (λ stop. GainsSome (W.contents output.old) (W.contents output.new) (λ text.
         ReadPrints options.now (option_map (λ name. name.now) file.entry) (reader_remaining R.remaining input.old)
-        (tally_of tally.old) text (tally_of tally.new) (questions_of kept.new.session) stop)) }
+        (tally_of tally.old) text (tally_of tally.new) (session_of kept.new.session) stop)) }
 {
     let mut capture = Capture::new(alloc);
     let mut progress = Progress::new(options);
@@ -281,7 +282,7 @@ fn show_refused<W: Write>(
     ensures { IfOk result (λ outcome. GainsSome (W.contents output.old) (W.contents output.new) (λ text.
         SightPrints options.now (arrival_of arrival.now)
         (refused_fragment options.now.ports (path_of path.now) (value_of fragment.now) refusal)
-        (questions_of session.old) text outcome (questions_of session.new))) }
+        (session_of session.old) text outcome (session_of session.new))) }
 {
     let sight = refused_fragment(&options.ports, path, fragment, refusal);
     show_sight(options, output, alloc, session, arrival, &sight)
@@ -299,7 +300,7 @@ fn show_whole<W: Write>(
 ) -> Result<Counted, Fault>
     ensures { IfOk result (λ counted. GainsSome (W.contents output.old) (W.contents output.new) (λ text.
         WholePrints options.now (arrival_of arrival.now) (path_of path.now) (whole_of whole.now)
-        (questions_of session.old) text counted (questions_of session.new))) }
+        (session_of session.old) text counted (session_of session.new))) }
 {
     let path = Path {
         tags: path.tags,
@@ -331,8 +332,8 @@ fn show_sight<W: Write>(
     sight: &Sight<'_>,
 ) -> Result<Outcome, Fault>
     ensures { IfOk result (λ outcome. GainsSome (W.contents output.old) (W.contents output.new) (λ text.
-        SightPrints options.now (arrival_of arrival.now) (sight_of sight.now) (questions_of session.old) text outcome
-        (questions_of session.new))) }
+        SightPrints options.now (arrival_of arrival.now) (sight_of sight.now) (session_of session.old) text outcome
+        (session_of session.new))) }
 {
     match sight {
         Sight::Unread => Ok(Outcome::Unread),
@@ -353,8 +354,8 @@ fn show_segment<W: Write>(
     segment: &Segment<'_>,
 ) -> Result<Outcome, Fault>
     ensures { IfOk result (λ outcome. GainsSome (W.contents output.old) (W.contents output.new) (λ text.
-        EachPrints options.now (arrival_of arrival.now) (stream_of segment.now) Passed (questions_of session.old)
-        (messages_of segment.now.messages) text outcome (questions_of session.new))) }
+        EachPrints options.now (arrival_of arrival.now) (stream_of segment.now) Passed (session_of session.old)
+        (messages_of segment.now.messages) text outcome (session_of session.new))) }
 {
     let mut messages = segment.messages.messages();
     let mut outcome = Outcome::Passed;

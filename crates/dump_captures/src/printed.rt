@@ -1,6 +1,6 @@
 //! A control packet in the form that is asked for.
 
-ghost use Rattle.std.specs.Prelude.{◌≡◌, ◌<◌, ◌^◌, List, Option, IfOk};
+ghost use Rattle.std.specs.Prelude.{◌≡◌, ◌<◌, ◌^◌, [], List, Option, IfOk, true};
 ghost use Rattle.packet_fields.specs.Output.{GainsSome};
 ghost use Rattle.packet_fields.specs.Fields.{Item};
 ghost use Rattle.dump_captures.specs.Arrival.{arrival_of};
@@ -9,7 +9,7 @@ ghost use Rattle.dump_captures.specs.Dump.{HeadersPrint, outcome_of};
 ghost use Rattle.dump_captures.specs.Messages.{ListingIs};
 ghost use Rattle.dump_captures.specs.Sight.{headers_of};
 ghost use Rattle.dump_captures.specs.declared.kind.Reason.{Reason as AnyReason};
-ghost use Rattle.dump_captures.specs.private.Kept.{questions_of};
+ghost use Rattle.dump_captures.specs.private.Kept.{session_of};
 ghost use Rattle.dump_captures.specs.private.Shown.{IsShown, IsShownAtLength};
 
 use crate::Fault;
@@ -21,7 +21,8 @@ use crate::members::show_members;
 use crate::messages::show_listing;
 use crate::objects::{close_object, open_object};
 use crate::options::Options;
-use crate::pairing::{Session, show_answer};
+use crate::pairing::show_answer;
+use crate::session::Session;
 use crate::sight::Headers;
 use crate::tally::Outcome;
 use packet_fields::Form;
@@ -41,8 +42,8 @@ pub(crate) fn show_control<W: Write>(
     headers: &Headers<'_>,
 ) -> Result<Outcome, Fault>
     ensures { IfOk result (λ outcome. GainsSome (W.contents output.old) (W.contents output.new) (λ text.
-        HeadersPrint options.now (arrival_of arrival.now) (headers_of headers.now) (questions_of session.old) text
-        outcome (questions_of session.new))) }
+        HeadersPrint options.now (arrival_of arrival.now) (headers_of headers.now) (session_of session.old) text
+        outcome (session_of session.new))) }
 {
     if !options.chooses(headers) {
         return Ok(Outcome::Passed);
@@ -64,9 +65,12 @@ fn show_chosen<W: Write>(
     headers: &Headers<'_>,
 ) -> Result<Option<Reason>, Fault>
     ensures { IfOk result (λ why. GainsSome (W.contents output.old) (W.contents output.new)
-        (IsShown options.now (arrival_of arrival.now) (headers_of headers.now) (questions_of session.old) why
-        (questions_of session.new))) }
+        (IsShown options.now (arrival_of arrival.now) (headers_of headers.now) (session_of session.old) why
+        (session_of session.new))) }
 {
+    if options.stats {
+        return see_alone(options, alloc, session, arrival, headers);
+    }
     match options.form {
         Form::Json => show_object(options, output, alloc, session, arrival, headers),
         Form::Lines if options.is_brief => {
@@ -74,6 +78,23 @@ fn show_chosen<W: Write>(
         }
         Form::Lines => show_lines(options, output, alloc, session, arrival, headers),
     }
+}
+
+// Sees a control packet that is not printed, but counted in a page.
+fn see_alone(
+    options: &Options,
+    alloc: Global,
+    session: &mut Session,
+    arrival: &Arrival<'_>,
+    headers: &Headers<'_>,
+) -> Result<Option<Reason>, Fault>
+    requires { options.now.stats ≡ true }
+    ensures { IfOk result (λ why. IsShown options.now (arrival_of arrival.now) (headers_of headers.now)
+        (session_of session.old) why (session_of session.new) []) }
+{
+    let reason = reason_alone(options, alloc, headers)?;
+    session.see(options, alloc, arrival, headers, reason)?;
+    Ok(reason)
 }
 
 // Prints a control packet in lines.
@@ -87,18 +108,12 @@ fn show_lines<W: Write>(
 ) -> Result<Option<Reason>, Fault>
     requires { options.now.form ≡ Form.Lines }
     ensures { IfOk result (λ why. GainsSome (W.contents output.old) (W.contents output.new)
-        (IsShownAtLength options.now (arrival_of arrival.now) (headers_of headers.now) (questions_of session.old) why
-        (questions_of session.new))) }
+        (IsShownAtLength options.now (arrival_of arrival.now) (headers_of headers.now) (session_of session.old) why
+        (session_of session.new))) }
 {
-    show_heading(
-        output,
-        &mut session.clock,
-        options.is_verbose,
-        arrival,
-        headers,
-    )?;
+    show_heading(output, &mut session.clock, options, arrival, headers)?;
     let why = show_listing(options, output, alloc, headers)?;
-    let answer = session.see(options, arrival, headers, why)?;
+    let answer = session.see(options, alloc, arrival, headers, why)?;
     show_answer(output, Form::Lines, answer)?;
     Ok(why)
 }
@@ -114,14 +129,14 @@ fn show_object<W: Write>(
 ) -> Result<Option<Reason>, Fault>
     requires { options.now.form ≡ Form.Json }
     ensures { IfOk result (λ why. GainsSome (W.contents output.old) (W.contents output.new)
-        (IsShownAtLength options.now (arrival_of arrival.now) (headers_of headers.now) (questions_of session.old) why
-        (questions_of session.new))) }
+        (IsShownAtLength options.now (arrival_of arrival.now) (headers_of headers.now) (session_of session.old) why
+        (session_of session.new))) }
 {
     is_small(arrival.record.number);
     open_object(output, "number", arrival.record.number)?;
     show_members(output, &mut session.clock, arrival, headers)?;
     let why = show_listing(options, output, alloc, headers)?;
-    let answer = session.see(options, arrival, headers, why)?;
+    let answer = session.see(options, alloc, arrival, headers, why)?;
     show_answer(output, Form::Json, answer)?;
     close_object(output)?;
     Ok(why)

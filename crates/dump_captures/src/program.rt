@@ -4,10 +4,10 @@ ghost use Rattle.std.specs.Prelude.{None};
 
 use crate::arguments::{Task, Wrong, read_task};
 use crate::files::{Captures, FAILED, WHOLE, WRONG, dump_all};
-use crate::options::Options;
+use crate::options::{Color, Options};
 use crate::reports::{report_fault, report_wrong};
 use crate::{Fault, help};
-use std::env::Env;
+use std::env::{Env, VarError};
 use std::io::{BufWriter, Input, Write};
 use std::rt::Files;
 use std::{env, fs, io};
@@ -45,8 +45,12 @@ impl<R: Files + Input> Captures for Machine<'_, R> {
     }
 }
 
-/// The whole of `pcapdump`: prints what the files that the arguments name hold, and returns the program's status.
-pub fn run_program(rt: &(impl Env + Files + Input + Print + Eprint + AllocGlobal)) -> u8 {
+/// The whole of `pcapdump`: prints what the files that the arguments name hold, and returns the program's status. Is told
+/// whether standard output is a terminal.
+pub fn run_program(
+    rt: &(impl Env + Files + Input + Print + Eprint + AllocGlobal),
+    is_terminal: bool,
+) -> u8 {
     let task = match env::args(rt) {
         Ok(arguments) => read_task(rt.alloc(), arguments),
         Err(error) if error.kind() == io::ErrorKind::InvalidData => {
@@ -55,7 +59,10 @@ pub fn run_program(rt: &(impl Env + Files + Input + Print + Eprint + AllocGlobal
         Err(_) => Err(Fault::Memory),
     };
     match task {
-        Ok(Task::Dump(options, files)) => dump_files(rt, &options, files.as_slice()),
+        Ok(Task::Dump(options, files)) => {
+            let options = with_color(rt, options, is_terminal);
+            dump_files(rt, &options, files.as_slice())
+        }
         Ok(Task::Help) => print_help(rt),
         Ok(Task::Version) => print_version(rt),
         Ok(Task::Unknown(wrong)) => {
@@ -63,6 +70,24 @@ pub fn run_program(rt: &(impl Env + Files + Input + Print + Eprint + AllocGlobal
             WRONG
         }
         Err(fault) => end_by(rt, fault),
+    }
+}
+
+// The options with colors where the usual choice is to have them: on a terminal, unless NO_COLOR forbids them.
+fn with_color(rt: &(impl Env + AllocGlobal), options: Options, is_terminal: bool) -> Options {
+    let mut options = options;
+    if options.color == Color::Auto && is_terminal && !forbids_color(rt) {
+        options.color = Color::Always;
+    }
+    options
+}
+
+// Whether the environment has a variable NO_COLOR that is not empty (https://no-color.org).
+fn forbids_color(rt: &(impl Env + AllocGlobal)) -> bool {
+    match env::var(rt, "NO_COLOR") {
+        Ok(value) => !value.as_str().is_empty(),
+        Err(VarError::NotPresent) => false,
+        Err(_) => true,
     }
 }
 

@@ -3,9 +3,9 @@
 ghost use Rattle.std.specs.Prelude.{◌≡◌, ◌<◌};
 ghost use Rattle.std.specs.Option.{option_map};
 ghost use Rattle.std.specs.Str.{all_ascii_digits};
-ghost use Rattle.dump_captures.specs.Settings.{before, behind, count_in, number_in, setting_of, time_form_in};
+ghost use Rattle.dump_captures.specs.Settings.{before, behind, color_in, count_in, number_in, setting_of, time_form_in};
 
-use crate::options::TimeForm;
+use crate::options::{Color, TimeForm};
 
 /// An option that a value follows.
 #[derive(Debug, PartialEq, Eq, Clone, Copy)]
@@ -22,6 +22,8 @@ pub enum Setting {
     Time,
     /// `--port`: another port of a service.
     Port,
+    /// `--color`: where lines are colored.
+    Color,
 }
 
 impl Setting {
@@ -34,6 +36,7 @@ impl Setting {
             Setting::Name => "--name",
             Setting::Time => "--time",
             Setting::Port => "--port",
+            Setting::Color => "--color",
         }
     }
 
@@ -46,6 +49,7 @@ impl Setting {
             Setting::Name => "a DNS name",
             Setting::Time => "utc, clock, relative, delta or epoch",
             Setting::Port => "KIND=PORT of dns, mdns, llmnr, nbns or dhcp, as dns=5300",
+            Setting::Color => "auto, always or never",
         }
     }
 }
@@ -61,6 +65,7 @@ pub fn setting_of(option: &str) -> Option<Setting>
         "--name" => Some(Setting::Name),
         "--time" => Some(Setting::Time),
         "--port" => Some(Setting::Port),
+        "--color" => Some(Setting::Color),
         _ => None,
     }
 }
@@ -120,6 +125,18 @@ pub fn time_form_in(text: &str) -> Option<TimeForm>
         "relative" => Some(TimeForm::Relative),
         "delta" => Some(TimeForm::Delta),
         "epoch" => Some(TimeForm::Epoch),
+        _ => None,
+    }
+}
+
+/// Where lines are colored, by this name.
+pub fn color_in(text: &str) -> Option<Color>
+    ensures { result ≡ color_in text.now }
+{
+    match text {
+        "auto" => Some(Color::Auto),
+        "always" => Some(Color::Always),
+        "never" => Some(Color::Never),
         _ => None,
     }
 }

@@ -2,8 +2,10 @@
 #![tactic(auto)]
 
 use dump_captures::run_program;
+use std::io::IsTerminal;
 use std::process::ExitCode;
 
 fn main(rt: HostRuntime) -> ExitCode {
-    ExitCode::from(run_program(&rt))
+    let is_terminal = rt.stdout().is_terminal();
+    ExitCode::from(run_program(&rt, is_terminal))
 }

@@ -10,6 +10,7 @@ mod options;
 mod packets;
 mod refusal;
 mod services;
+mod statistics;
 mod time;
 
 use dump_captures::options::Options;

@@ -140,6 +140,8 @@ RUNTIME_ROWS = {
                    "fn f(a: Repr) -> u8 { match a { Repr::A => 1, Repr::B { .. } => 2, _ => unreachable!(), } }"),
     "reader": ("fn f(rt: &(impl A + B)) -> u8 { run(rt.alloc(), rt.reader(), io::writer(&rt)) }",
                "fn f() -> u8 { run(io::reader(), io::writer()) }"),
+    "stdout": ("fn main(rt: HostRuntime) -> u8 { let is_terminal = rt.stdout().is_terminal(); run(&rt, is_terminal) }",
+               "fn main() -> u8 { let is_terminal = std::io::stdout().is_terminal(); run(is_terminal) }"),
     "files": ("fn open<R: Files>(rt: &R, file: &str) -> io::Result<R::File> { fs::open(rt, file) }",
               "fn open(file: &str) -> io::Result<fs::File> { fs::open(file) }"),
     "holder": ("struct S<'a, R> { rt: &'a R, } impl<R: Files + Input> T for S<'_, R> { type A = R::Reader; type B = R::File; "

@@ -1,6 +1,7 @@
-//! The program's arguments.
+//! The program's arguments and its environment.
 
 use crate::text::String;
+pub use std::env::VarError;
 use std::ffi::OsString;
 use std::io;
 
@@ -16,4 +17,9 @@ pub fn args() -> io::Result<Args> {
         Ok(texts) => Ok(texts.into_iter()),
         Err(_) => Err(io::ErrorKind::InvalidData.into()),
     }
+}
+
+/// A variable of the environment.
+pub fn var(name: &str) -> Result<String, VarError> {
+    std::env::var(name).map(String::from)
 }

@@ -4,14 +4,14 @@ use Rattle.json.specs.Print.{quoted}
 use Rattle.packet_fields.specs.Fields.{Leaf, items_text, leaf_text, text}
 use Rattle.packet_fields.specs.declared.form.Form.TheVariants.{Json}
 use Rattle.dump_captures.specs.Heading.{file_items}
-use Rattle.dump_captures.specs.Pairing.{as_words, waiting_key, waiting_text}
+use Rattle.dump_captures.specs.Pairing.{as_words, waiting_text}
 
 abbrev pub object_front : List ℕ → Leaf → List ℕ
 object_front key value = (codes "{" ++ quoted key ++ codes ":") ++ leaf_text Json value
 
--- what stands before the members of something without an answer
-abbrev pub unanswered_front : Option (List ℕ) → List ℕ
-unanswered_front file = object_front waiting_key (text waiting_text) ++ items_text Json (file_items file)
+-- what stands before the members of an object behind those of packets
+abbrev pub summary_front : List ℕ → Option (List ℕ) → List ℕ
+summary_front word file = object_front (codes "summary") (text word) ++ items_text Json (file_items file)
 
 -- lines on one
 abbrev pub line_of : List ℕ → List ℕ

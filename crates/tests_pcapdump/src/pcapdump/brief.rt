@@ -26,7 +26,7 @@ const LINES: &str = "\
 13 12:35:08.000 192.0.2.1 > 192.0.2.53 dns 4660? A ...\n";
 
 // Questions and answers, and what each prints on a line.
-const PAIRS: &[(&str, &str)] = &[
+pub(super) const PAIRS: &[(&str, &str)] = &[
     // An echo request.
     (
         "45000020123440004001a472c0000201c0000235080021041234000161626364",
@@ -111,7 +111,13 @@ const UNANSWERED_IN_JSON: &str = "\
     \"dst_addr\":\"192.0.2.53\",\"ident\":4660,\"seq_no\":2,\"tries\":1}\n";
 
 // What a capture prints with these options.
-fn check(rt: &impl Abort, alloc: Global, options: &Options, packets: &[(&str, &str)], want: &[u8]) {
+pub(super) fn check(
+    rt: &impl Abort,
+    alloc: Global,
+    options: &Options,
+    packets: &[(&str, &str)],
+    want: &[u8],
+) {
     let capture = pcap(rt, alloc, packets);
     let mut output = Vec::new(alloc);
     let answer = run_onto(alloc, options, capture.as_slice(), &mut output);

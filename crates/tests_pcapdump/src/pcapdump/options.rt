@@ -7,9 +7,9 @@ use capture::{Ending, Time};
 use dump_captures::host::Host;
 use dump_captures::moment::Moment;
 use dump_captures::nearest::nearest;
-use dump_captures::options::{Options, TimeForm};
+use dump_captures::options::{Color, Options, TimeForm};
 use dump_captures::run_onto;
-use dump_captures::settings::{Setting, count_in, setting_of, split, time_form_in};
+use dump_captures::settings::{Setting, color_in, count_in, setting_of, split, time_form_in};
 use dump_captures::time::Clock;
 use dump_captures::when::When;
 use packet_fields::Form;
@@ -84,6 +84,15 @@ fn numbers_of_packets(rt: HostRuntime) {
     }
     same_of(&rt, "delta", time_form_in("delta"), Some(TimeForm::Delta));
     same_of(&rt, "UTC", time_form_in("UTC"), None);
+}
+
+#[test]
+fn names_of_colors(rt: HostRuntime) {
+    same_of(&rt, "auto", color_in("auto"), Some(Color::Auto));
+    same_of(&rt, "always", color_in("always"), Some(Color::Always));
+    same_of(&rt, "never", color_in("never"), Some(Color::Never));
+    same_of(&rt, "Always", color_in("Always"), None);
+    same_of(&rt, "empty", color_in(""), None);
 }
 
 #[test]

@@ -6,7 +6,7 @@ use crate::host::Host;
 use crate::kind::Kind;
 use crate::nearest::nearest;
 use crate::options::{Only, Options};
-use crate::settings::{Setting, count_in, setting_of, split, time_form_in};
+use crate::settings::{Setting, color_in, count_in, setting_of, split, time_form_in};
 use control_wire::record::Name;
 use packet_fields::Form;
 use rattle_std::env::Args;
@@ -40,16 +40,18 @@ pub enum Wrong {
 }
 
 // The options, and the names of packets, for a word that is neither.
-const OPTIONS: [&str; 13] = [
+const OPTIONS: [&str; 15] = [
     "--only",
     "--host",
     "--name",
     "--time",
     "--port",
+    "--color",
     "--count",
     "--json",
     "--brief",
     "--pairs",
+    "--stats",
     "--verbose",
     "--strict",
     "--help",
@@ -176,6 +178,10 @@ impl Reading {
             self.options.pairs = true;
             return Some(Step::More);
         }
+        if word == "--stats" {
+            self.options.stats = true;
+            return Some(Step::More);
+        }
         if word == "--strict" {
             self.options.is_strict = true;
             return Some(Step::More);
@@ -185,6 +191,9 @@ impl Reading {
             return Some(Step::More);
         }
         if word == "-n" || word == "-r" {
+            return Some(Step::More);
+        }
+        if word == "-nn" || word == "-nr" {
             return Some(Step::More);
         }
         if word == "--help" || word == "-h" {
@@ -226,6 +235,7 @@ impl Reading {
             }
             Setting::Time => Ok(self.read_time_form(text)),
             Setting::Port => Ok(self.read_port(text)),
+            Setting::Color => Ok(self.read_color(text)),
         }
     }
 
@@ -258,6 +268,15 @@ impl Reading {
             return Step::Unknown(Wrong::BadValue(Setting::Time, text));
         };
         self.options.time_form = Some(time_form);
+        Step::More
+    }
+
+    // Reads where lines are colored, after `--color`.
+    fn read_color(&mut self, text: String) -> Step {
+        let Some(color) = color_in(text.as_str()) else {
+            return Step::Unknown(Wrong::BadValue(Setting::Color, text));
+        };
+        self.options.color = color;
         Step::More
     }
 

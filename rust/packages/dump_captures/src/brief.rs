@@ -3,13 +3,14 @@
 
 use crate::Fault;
 use crate::arrival::Arrival;
+use crate::color::{RED, begin_color, end_color};
 use crate::content::Content;
 use crate::heading::{show_addresses, show_time, show_way};
 use crate::kind::Reason;
 use crate::options::Options;
-use crate::pairing::Session;
 use crate::printed::reason_alone;
 use crate::refusal::Refusal;
+use crate::session::Session;
 use crate::sight::Headers;
 use crate::time::Clock;
 use crate::verbose::show_more;
@@ -34,6 +35,8 @@ pub(crate) fn show_line<W: Write>(
 ) -> Result<Option<Reason>, Fault> {
     let why = reason_alone(options, headers)?;
     let answer = session.see(options, arrival, headers, why)?;
+    let is_red = options.is_red(why);
+    begin_color(output, is_red, RED)?;
     show_front(
         output,
         &mut session.clock,
@@ -43,6 +46,7 @@ pub(crate) fn show_line<W: Write>(
     )?;
     show_packet(output, options.is_strict, headers)?;
     show_answer(output, answer)?;
+    end_color(output, is_red)?;
     output.write_all(b"\n")?;
     Ok(why)
 }

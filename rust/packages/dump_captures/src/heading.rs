@@ -2,7 +2,9 @@
 //! The heading of a control packet.
 
 use crate::arrival::Arrival;
+use crate::color::{BOLD, begin_color, end_color};
 use crate::numbers::Numbers;
+use crate::options::Options;
 use crate::sight::Headers;
 use crate::time::Clock;
 use crate::tunnels::show_tunnels;
@@ -26,6 +28,21 @@ const VLAN: Field = 0..2;
 pub fn show_heading<W: Write>(
     output: &mut W,
     clock: &mut Clock,
+    options: &Options,
+    arrival: &Arrival<'_>,
+    headers: &Headers<'_>,
+) -> io::Result<()> {
+    let is_colored = options.is_colored();
+    begin_color(output, is_colored, BOLD)?;
+    show_words(output, clock, options.is_verbose, arrival, headers)?;
+    end_color(output, is_colored)?;
+    output.write_all(b"\n")
+}
+
+// Prints the words of the heading.
+fn show_words<W: Write>(
+    output: &mut W,
+    clock: &mut Clock,
     is_verbose: bool,
     arrival: &Arrival<'_>,
     headers: &Headers<'_>,
@@ -37,8 +54,7 @@ pub fn show_heading<W: Write>(
     show_more(output, is_verbose, arrival, headers)?;
     show_way(output, headers)?;
     output.write_all(b" ")?;
-    headers.content.kind().name().put(output, Form::Lines)?;
-    output.write_all(b"\n")
+    headers.content.kind().name().put(output, Form::Lines)
 }
 
 /// Prints the words of the way to the datagram and to its message.

@@ -3,13 +3,14 @@
 
 use crate::Fault;
 use crate::arrival::Arrival;
+use crate::end::show_end;
 use crate::fragments::{look_at_joined, refused_fragment};
 use crate::options::Options;
-use crate::pairing::{Session, show_unanswered};
 use crate::path::Path;
 use crate::printed::show_control;
 use crate::progress::Progress;
 use crate::refusal::Refusal;
+use crate::session::Session;
 use crate::sight::{Finding, Segment, Sight, look, protocol_category};
 use crate::stop::Stop;
 use crate::tally::{Counted, Outcome, Tally};
@@ -93,7 +94,7 @@ struct Kept {
     session: Session,
 }
 
-// Prints the packets, and then what got no answer, and returns where the reading stops.
+// Prints the packets, and then what stands behind them, and returns where the reading stops.
 fn show_capture<R: Read, W: Write>(
     options: &Options,
     file: Option<&str>,
@@ -106,7 +107,7 @@ fn show_capture<R: Read, W: Write>(
         session: Session::new(),
     };
     let stop = show_packets(options, file, input, output, &mut kept, tally)?;
-    show_unanswered(output, options, file, &kept.session)?;
+    show_end(output, options, file, &mut kept.session)?;
     Ok(stop)
 }
 

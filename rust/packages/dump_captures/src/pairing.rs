@@ -1,96 +1,15 @@
 // Made from crates/dump_captures/src/pairing.rt by rust/erase.
-//! Which packet answers which.
+//! What a packet answers, and what got no answer.
 
-use crate::Fault;
-use crate::arrival::Arrival;
-use crate::content::Content;
-use crate::kind::Reason;
-use crate::members::show_file;
-use crate::objects::{close_object, open_object};
+use crate::objects::{close_object, open_summary};
 use crate::options::Options;
-use crate::sight::Headers;
-use crate::time::Clock;
-use control_wire::frames::Addresses;
-use message_fields::Message;
 use packet_fields::Form;
 use packet_fields::field::field;
-use packet_pairs::{Answered, Asked, Pairs, exchange_of, show_answered, show_asked};
+use packet_pairs::{Answered, Asked, Pairs, show_answered, show_asked};
 use rattle_std::io;
 use rattle_std::io::Write;
 #[allow(unused_imports)]
 use rattle_std::prelude::*;
-
-/// What is kept from message to message: the clock, and the questions that wait for an answer.
-pub struct Session {
-    /// The clock.
-    pub clock: Clock,
-    /// The questions.
-    pub pairs: Pairs,
-}
-
-impl Session {
-    /// Before the first message.
-    pub(crate) fn new() -> Session {
-        Session {
-            clock: Clock::new(),
-            pairs: Pairs::new(),
-        }
-    }
-
-    /// Sees a packet that is refused or read in part for this reason, if it is, and returns the question that it
-    /// answers, where it answers one.
-    #[inline]
-    pub(crate) fn see(
-        &mut self,
-        options: &Options,
-        arrival: &Arrival<'_>,
-        headers: &Headers<'_>,
-        why: Option<Reason>,
-    ) -> Result<Option<Answered>, Fault> {
-        if !is_paired(options, why) {
-            return Ok(None);
-        }
-        match (message_in(&headers.content), &headers.addresses) {
-            (Some(message), Some(addresses)) => self.see_message(arrival, message, addresses),
-            _ => Ok(None),
-        }
-    }
-
-    // Sees a message between these addresses.
-    #[inline(never)]
-    fn see_message(
-        &mut self,
-        arrival: &Arrival<'_>,
-        message: &Message<'_>,
-        addresses: &Addresses,
-    ) -> Result<Option<Answered>, Fault> {
-        let Some(exchange) = exchange_of(message, addresses) else {
-            return Ok(None);
-        };
-        let time = arrival.nanoseconds();
-        match self.pairs.see(arrival.record.number, time, exchange) {
-            Ok(answer) => Ok(answer),
-            Err(_) => Err(Fault::Memory),
-        }
-    }
-}
-
-// The message of a packet, whole or in part, where it has one.
-fn message_in<'c, 'a>(content: &'c Content<'a>) -> Option<&'c Message<'a>> {
-    match content {
-        Content::Whole(message) | Content::Cut(message, _, _) => Some(message),
-        Content::Refused(_, _, _) => None,
-    }
-}
-
-// Whether answers are looked for, and a packet is not refused for a checksum.
-fn is_paired(options: &Options, why: Option<Reason>) -> bool {
-    options.pairs && !(options.is_strict && is_checksum(why))
-}
-
-fn is_checksum(why: Option<Reason>) -> bool {
-    matches!(why, Some(Reason::Checksum))
-}
 
 /// Prints what a packet answers.
 #[inline]
@@ -110,10 +29,10 @@ pub(crate) fn show_unanswered<W: Write>(
     output: &mut W,
     options: &Options,
     file: Option<&str>,
-    session: &Session,
+    pairs: &Pairs,
 ) -> io::Result<()> {
     if options.pairs && options.prints {
-        return show_waiting(output, options, file, &session.pairs);
+        return show_waiting(output, options, file, pairs);
     }
     Ok(())
 }
@@ -152,7 +71,7 @@ fn show_question<W: Write>(
 ) -> io::Result<()> {
     match options.form {
         Form::Json => {
-            open_unanswered(output, file)?;
+            open_summary(output, "unanswered", file)?;
             show_asked(output, Form::Json, question)?;
             close_object(output)
         }
@@ -192,7 +111,7 @@ fn show_count<W: Write>(
 ) -> io::Result<()> {
     match options.form {
         Form::Json => {
-            open_unanswered(output, file)?;
+            open_summary(output, "unanswered", file)?;
             field(output, Form::Json, "dropped", dropped)?;
             close_object(output)
         }
@@ -209,12 +128,6 @@ fn show_dropped_in_lines<W: Write>(output: &mut W, is_brief: bool, dropped: u64)
     }
     output.write_all(b"unanswered\n")?;
     field(output, Form::Lines, "dropped", dropped)
-}
-
-// Prints the front of an object of something without an answer.
-fn open_unanswered<W: Write>(output: &mut W, file: Option<&str>) -> io::Result<()> {
-    open_object(output, "summary", "unanswered")?;
-    show_file(output, file)
 }
 
 // Prints these lines on one that begins with what they are.

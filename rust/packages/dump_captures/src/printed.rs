@@ -10,7 +10,8 @@ use crate::members::show_members;
 use crate::messages::show_listing;
 use crate::objects::{close_object, open_object};
 use crate::options::Options;
-use crate::pairing::{Session, show_answer};
+use crate::pairing::show_answer;
+use crate::session::Session;
 use crate::sight::Headers;
 use crate::tally::Outcome;
 use packet_fields::Form;
@@ -45,11 +46,26 @@ fn show_chosen<W: Write>(
     arrival: &Arrival<'_>,
     headers: &Headers<'_>,
 ) -> Result<Option<Reason>, Fault> {
+    if options.stats {
+        return see_alone(options, session, arrival, headers);
+    }
     match options.form {
         Form::Json => show_object(options, output, session, arrival, headers),
         Form::Lines if options.is_brief => show_line(options, output, session, arrival, headers),
         Form::Lines => show_lines(options, output, session, arrival, headers),
     }
+}
+
+// Sees a control packet that is not printed, but counted in a page.
+fn see_alone(
+    options: &Options,
+    session: &mut Session,
+    arrival: &Arrival<'_>,
+    headers: &Headers<'_>,
+) -> Result<Option<Reason>, Fault> {
+    let reason = reason_alone(options, headers)?;
+    session.see(options, arrival, headers, reason)?;
+    Ok(reason)
 }
 
 // Prints a control packet in lines.
@@ -60,13 +76,7 @@ fn show_lines<W: Write>(
     arrival: &Arrival<'_>,
     headers: &Headers<'_>,
 ) -> Result<Option<Reason>, Fault> {
-    show_heading(
-        output,
-        &mut session.clock,
-        options.is_verbose,
-        arrival,
-        headers,
-    )?;
+    show_heading(output, &mut session.clock, options, arrival, headers)?;
     let why = show_listing(options, output, headers)?;
     let answer = session.see(options, arrival, headers, why)?;
     show_answer(output, Form::Lines, answer)?;

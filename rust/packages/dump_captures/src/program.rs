@@ -3,9 +3,10 @@
 
 use crate::arguments::{Task, Wrong, read_task};
 use crate::files::{Captures, FAILED, WHOLE, WRONG, dump_all};
-use crate::options::Options;
+use crate::options::{Color, Options};
 use crate::reports::{report_fault, report_wrong};
 use crate::{Fault, help};
+use rattle_std::env::VarError;
 use rattle_std::io::{BufWriter, Write};
 #[allow(unused_imports)]
 use rattle_std::prelude::*;
@@ -35,8 +36,9 @@ impl Captures for Machine {
     }
 }
 
-/// The whole of `pcapdump`: prints what the files that the arguments name hold, and returns the program's status.
-pub fn run_program() -> u8 {
+/// The whole of `pcapdump`: prints what the files that the arguments name hold, and returns the program's status. Is told
+/// whether standard output is a terminal.
+pub fn run_program(is_terminal: bool) -> u8 {
     let task = match env::args() {
         Ok(arguments) => read_task(arguments),
         Err(error) if error.kind() == io::ErrorKind::InvalidData => {
@@ -45,7 +47,10 @@ pub fn run_program() -> u8 {
         Err(_) => Err(Fault::Memory),
     };
     match task {
-        Ok(Task::Dump(options, files)) => dump_files(&options, files.as_slice()),
+        Ok(Task::Dump(options, files)) => {
+            let options = with_color(options, is_terminal);
+            dump_files(&options, files.as_slice())
+        }
         Ok(Task::Help) => print_help(),
         Ok(Task::Version) => print_version(),
         Ok(Task::Unknown(wrong)) => {
@@ -53,6 +58,24 @@ pub fn run_program() -> u8 {
             WRONG
         }
         Err(fault) => end_by(fault),
+    }
+}
+
+// The options with colors where the usual choice is to have them: on a terminal, unless NO_COLOR forbids them.
+fn with_color(options: Options, is_terminal: bool) -> Options {
+    let mut options = options;
+    if options.color == Color::Auto && is_terminal && !forbids_color() {
+        options.color = Color::Always;
+    }
+    options
+}
+
+// Whether the environment has a variable NO_COLOR that is not empty (https://no-color.org).
+fn forbids_color() -> bool {
+    match env::var("NO_COLOR") {
+        Ok(value) => !value.as_str().is_empty(),
+        Err(VarError::NotPresent) => false,
+        Err(_) => true,
     }
 }
 

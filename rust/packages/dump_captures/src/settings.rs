@@ -1,7 +1,7 @@
 // Made from crates/dump_captures/src/settings.rt by rust/erase.
 //! The options that a value follows, and their values.
 
-use crate::options::TimeForm;
+use crate::options::{Color, TimeForm};
 
 /// An option that a value follows.
 #[derive(Debug, PartialEq, Eq, Clone, Copy)]
@@ -18,6 +18,8 @@ pub enum Setting {
     Time,
     /// `--port`: another port of a service.
     Port,
+    /// `--color`: where lines are colored.
+    Color,
 }
 
 impl Setting {
@@ -30,6 +32,7 @@ impl Setting {
             Setting::Name => "--name",
             Setting::Time => "--time",
             Setting::Port => "--port",
+            Setting::Color => "--color",
         }
     }
 
@@ -42,6 +45,7 @@ impl Setting {
             Setting::Name => "a DNS name",
             Setting::Time => "utc, clock, relative, delta or epoch",
             Setting::Port => "KIND=PORT of dns, mdns, llmnr, nbns or dhcp, as dns=5300",
+            Setting::Color => "auto, always or never",
         }
     }
 }
@@ -55,6 +59,7 @@ pub fn setting_of(option: &str) -> Option<Setting> {
         "--name" => Some(Setting::Name),
         "--time" => Some(Setting::Time),
         "--port" => Some(Setting::Port),
+        "--color" => Some(Setting::Color),
         _ => None,
     }
 }
@@ -102,6 +107,16 @@ pub fn time_form_in(text: &str) -> Option<TimeForm> {
         "relative" => Some(TimeForm::Relative),
         "delta" => Some(TimeForm::Delta),
         "epoch" => Some(TimeForm::Epoch),
+        _ => None,
+    }
+}
+
+/// Where lines are colored, by this name.
+pub fn color_in(text: &str) -> Option<Color> {
+    match text {
+        "auto" => Some(Color::Auto),
+        "always" => Some(Color::Always),
+        "never" => Some(Color::Never),
         _ => None,
     }
 }

@@ -2,8 +2,10 @@
 //! Prints what the control packets of capture files hold.
 
 use dump_captures::run_program;
+use rattle_std::io::IsTerminal;
 use std::process::ExitCode;
 
 fn main() -> ExitCode {
-    ExitCode::from(run_program())
+    let is_terminal = std::io::stdout().is_terminal();
+    ExitCode::from(run_program(is_terminal))
 }

@@ -1,4 +1,4 @@
--- The packets first, and behind them what got no answer.
+-- The packets first, and then what stands behind them.
 use Rattle.std.proofs.Common.{refl}
 use Rattle.packet_fields.proofs.Printing.{gains_both}
 use Rattle.dump_captures.proofs.packets.show_capture.Goals as goal
@@ -6,11 +6,11 @@ use Rattle.dump_captures.proofs.packets.show_capture.Goals as goal
 pub returns : goal.returns
 returns g c =
     let shown = c.in_ok-stop.ensures in
-    let end = c.in_ok-show_unanswered.ensures in (
+    let end = c.in_ok-show_end.ensures in (
       _,
       record {
         packets_text = shown.0;
-        waiting = _;
+        session = _;
         packets = shown.1;
         end_text = end.0;
         ends = end.1;

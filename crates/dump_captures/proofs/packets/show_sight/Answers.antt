@@ -6,7 +6,7 @@ use Rattle.dump_captures.specs.Arrival.{arrival_of}
 use Rattle.dump_captures.specs.Dump.{EachPrints, HeadersPrint, SightPrints, of_control, of_other, of_stream, of_unread}
 use Rattle.dump_captures.specs.Sight.{headers_of, sight_of, stream_of}
 use Rattle.dump_captures.specs.declared.tally.Outcome.TheVariants.{Passed}
-use Rattle.dump_captures.specs.private.Kept.{questions_of}
+use Rattle.dump_captures.specs.private.Kept.{session_of}
 use Rattle.dump_captures.proofs.Printing.{if_ok}
 use Rattle.dump_captures.proofs.packets.show_sight.Goals as goal
 
@@ -21,8 +21,8 @@ returns-in-Control g c =
     let options = c.args.options.now in
     let a = arrival_of c.args.arrival.now in
     let h = headers_of c.in-Control.headers in
-    let old = questions_of c.args.session.now in
-    let new = questions_of c.show_control.new.session in
+    let old = session_of c.args.session.now in
+    let new = session_of c.show_control.new.session in
     let before = g.W.Write.contents c.args.output.now in
     let after = g.W.Write.contents c.show_control.new.output in
     if_ok (λ outcome. GainsSome before after (λ text. HeadersPrint options a h old text outcome new))
@@ -36,8 +36,8 @@ returns-in-Segment g c =
     let options = c.args.options.now in
     let a = arrival_of c.args.arrival.now in
     let t = stream_of c.in-Segment.segment in
-    let old = questions_of c.args.session.now in
-    let new = questions_of c.show_segment.new.session in
+    let old = session_of c.args.session.now in
+    let new = session_of c.show_segment.new.session in
     let before = g.W.Write.contents c.args.output.now in
     let after = g.W.Write.contents c.show_segment.new.output in
     if_ok (λ outcome. GainsSome before after (λ text. EachPrints options a t Passed old t.messages text outcome new))

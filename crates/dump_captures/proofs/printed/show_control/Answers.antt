@@ -8,7 +8,7 @@ use Rattle.dump_captures.specs.Messages.{ListingIs}
 use Rattle.dump_captures.specs.Content.{kind_in}
 use Rattle.dump_captures.specs.Sight.{headers_of}
 use Rattle.dump_captures.specs.Arrival.{arrival_of}
-use Rattle.dump_captures.specs.private.Kept.{questions_of}
+use Rattle.dump_captures.specs.private.Kept.{session_of}
 use Rattle.dump_captures.specs.declared.kind.Reason.{Reason}
 use Rattle.dump_captures.proofs.Printing.{if_ok}
 use Rattle.dump_captures.proofs.printed.show_control.Goals as goal
@@ -25,7 +25,7 @@ returns-then-not-options g c =
     let h = headers_of c.args.headers.now in
     let options = c.args.options.now in
     let a = arrival_of c.args.arrival.now in
-    let questions = questions_of c.args.session.now in
+    let questions = session_of c.args.session.now in
     let before = g.W.Write.contents c.args.output.now in
     if_ok (λ outcome. (items : List Item) × (why : Option Reason) × ListingIs options h items why
     × (outcome ≡ outcome_of (kind_in h.content) why))

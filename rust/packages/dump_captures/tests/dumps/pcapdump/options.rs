@@ -10,9 +10,9 @@ use control_wire::{Ipv4Address, Ipv6Address};
 use dump_captures::host::Host;
 use dump_captures::moment::Moment;
 use dump_captures::nearest::nearest;
-use dump_captures::options::{Options, TimeForm};
+use dump_captures::options::{Color, Options, TimeForm};
 use dump_captures::run_onto;
-use dump_captures::settings::{Setting, count_in, setting_of, split, time_form_in};
+use dump_captures::settings::{Setting, color_in, count_in, setting_of, split, time_form_in};
 use dump_captures::time::Clock;
 use dump_captures::when::When;
 use packet_fields::Form;
@@ -80,6 +80,15 @@ fn numbers_of_packets() {
     }
     same_of("delta", time_form_in("delta"), Some(TimeForm::Delta));
     same_of("UTC", time_form_in("UTC"), None);
+}
+
+#[test]
+fn names_of_colors() {
+    same_of("auto", color_in("auto"), Some(Color::Auto));
+    same_of("always", color_in("always"), Some(Color::Always));
+    same_of("never", color_in("never"), Some(Color::Never));
+    same_of("Always", color_in("Always"), None);
+    same_of("empty", color_in(""), None);
 }
 
 #[test]

@@ -1,0 +1,45 @@
+// Made from crates/dump_captures/src/color.rt by rust/erase.
+//! Colors, by the control sequences of ECMA-48 section 8.3.117 (SGR).
+
+use crate::kind::Reason;
+use crate::options::{Color, Options};
+use rattle_std::io;
+use rattle_std::io::Write;
+
+/// What begins bold text.
+pub(crate) const BOLD: &[u8] = b"\x1b[1m";
+
+/// What begins red text.
+pub(crate) const RED: &[u8] = b"\x1b[31m";
+
+/// Prints what begins a text, where it is colored.
+pub(crate) fn begin_color<W: Write>(
+    output: &mut W,
+    is_colored: bool,
+    begin: &[u8],
+) -> io::Result<()> {
+    if !is_colored {
+        return Ok(());
+    }
+    output.write_all(begin)
+}
+
+/// Prints what ends it.
+pub(crate) fn end_color<W: Write>(output: &mut W, is_colored: bool) -> io::Result<()> {
+    if !is_colored {
+        return Ok(());
+    }
+    output.write_all(b"\x1b[0m")
+}
+
+impl Options {
+    /// Whether lines are colored.
+    pub(crate) fn is_colored(&self) -> bool {
+        matches!(self.color, Color::Always)
+    }
+
+    /// Whether the line of a packet is red that is refused or read in part for this reason, if it is.
+    pub(crate) fn is_red(&self, why: Option<Reason>) -> bool {
+        self.is_colored() && why.is_some()
+    }
+}
