@@ -30,10 +30,12 @@ MOST_RECORDS = 3
 DAY = 86400 * 1000
 
 
-def text(shown, number, packet):
-    """A line of each message of a packet."""
+def text(shown, number, packet, answers=None):
+    """A line of each message of a packet, with what it answers, where that is told."""
     front = " ".join(heading(shown, number, packet))
-    return "".join("%s%s\n" % (front, message(shown, *of)) for of in zip(shown.messages, shown.octets))
+    behind = [answer.words() if answer else "" for answer in answers or [None] * len(shown.messages)]
+    return "".join("%s%s%s\n" % (front, message(shown, items, octets), words)
+                   for items, octets, words in zip(shown.messages, shown.octets, behind))
 
 
 def heading(shown, number, packet):

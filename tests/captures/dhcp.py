@@ -95,6 +95,14 @@ def parts(octets, overload):
     return found, refused
 
 
+def first_parts(message):
+    """The options of a message by their codes, and of one in several parts the first."""
+    if len(message) < 240 or message[236:240] != COOKIE:
+        return {}
+    found, _ = parts(message, overload_of(message[240:]))
+    return dict(reversed(found))
+
+
 def entries(found):
     """An entry for each code, in the order of their first parts, which are joined (RFC 3396)."""
     return [entry(code, [data for its, data in found if its == code]) for code in dict.fromkeys(c for c, _ in found)]

@@ -1,7 +1,7 @@
 #!/usr/bin/env python3
 """Prints the control packets of capture files as pcapdump does, written from its manual and from the RFCs:
 
-    plain.py [--only KIND,..] [--port KIND=PORT] [--count] [--json] [--brief] [--strict] [FILE..]
+    plain.py [--only KIND,..] [--port KIND=PORT] [--count | --stats] [--json] [--brief] [--pairs] [--strict] [FILE..]
 
 As a module: `dump(octets)` gives the text, the status and the counts of a capture."""
 import json
@@ -16,13 +16,16 @@ import brief  # noqa: E402
 import frames  # noqa: E402
 import items  # noqa: E402
 import messages  # noqa: E402
+import page  # noqa: E402
+import pairs  # noqa: E402
 import reading  # noqa: E402
 import tunnels  # noqa: E402
+from counts import Counts  # noqa: E402
 from fragments import Fragments  # noqa: E402
 from frames import Refused  # noqa: E402
 from ip import TCP, UDP  # noqa: E402
 from items import Cell, Entry, Field, Named  # noqa: E402
-from messages import KINDS, REASONS, kind_of  # noqa: E402
+from messages import KINDS, kind_of  # noqa: E402
 from neighbors import hop_by_hop  # noqa: E402
 from registries import LINKS  # noqa: E402
 from text import address, endpoint, time  # noqa: E402
@@ -43,14 +46,18 @@ ENDINGS = {
 
 class Options:
     """What is printed of captures: the kinds that are let through, or None for all; objects of JSON or brief lines;
-    messages whose checksum is wrong; and the ports that are given to kinds."""
+    messages whose checksum is wrong; the ports that are given to kinds; what answers what in brief lines, and a page of
+    statistics in the place of packets."""
 
-    def __init__(self, only=None, is_json=False, is_strict=False, given=None, is_brief=False):
+    def __init__(self, only=None, is_json=False, is_strict=False, given=None, is_brief=False, is_paired=False,
+                 is_page=False):
         self.only = only
         self.is_json = is_json
         self.is_strict = is_strict
         self.given = given or {}
         self.is_brief = is_brief
+        self.is_paired = is_paired
+        self.is_page = is_page
 
     def passes(self, shown):
         return self.only is None or shown.kind in self.only or shown.has_options and "hbh" in self.only
@@ -197,90 +204,6 @@ def show_messages(shown, found, segments, is_strict):
     return [found]
 
 
-class Names:
-    """How many packets there are of each name, in the order in which these came."""
-
-    # So many are told by their names.
-    MOST = 16
-
-    def __init__(self):
-        self.counts = {}
-
-    def add(self, name):
-        self.counts[name] = self.counts.get(name, 0) + 1
-
-    def total(self):
-        return sum(self.counts.values())
-
-    def told(self):
-        return list(self.counts.items())[:self.MOST]
-
-    def further(self):
-        return sum(list(self.counts.values())[self.MOST:])
-
-    def text(self):
-        """The names in brackets, where there are any."""
-        further = self.further()
-        words = ["%d %s" % (count, name) for name, count in self.told()] + (["%d further" % further] if further else [])
-        return " (%s)" % ", ".join(words) if words else ""
-
-
-class Counts:
-    """What was counted of packets: of each kind those listed, those refused by reason, and their octets; those of other
-    protocols, fragments that were kept, and the frames of each link that is not read."""
-
-    def __init__(self):
-        self.packets = 0
-        self.kinds = {kind: dict.fromkeys(("listed",) + REASONS + ("octets",), 0) for kind in KINDS}
-        self.others = Names()
-        self.fragments = Names()
-        self.joined = 0
-        self.passed = 0
-        self.links = Names()
-
-    def add(self, shown, octets, options):
-        self.packets += 1
-        if shown.numbers:
-            self.joined += len(shown.numbers) - 1
-        if shown.link is not None:
-            self.links.add(shown.link)
-        elif shown.fragment is not None:
-            self.fragments.add(shown.fragment)
-        elif shown.kind is None:
-            self.others.add(shown.other)
-        elif not options.passes(shown):
-            self.passed += 1
-        else:
-            row = self.kinds[shown.kind]
-            row[shown.reason or "listed"] += 1
-            row["octets"] += len(octets)
-
-    def total(self, column):
-        return sum(row[column] for row in self.kinds.values())
-
-    def summary(self):
-        """The packets of a capture in a line."""
-        reasons = ["%d %s" % (self.total(reason), reason) for reason in REASONS if self.total(reason)]
-        refused = "%d refused" % sum(self.total(reason) for reason in REASONS)
-        parts = ["%d packets" % self.packets, "%d listed" % self.total("listed")]
-        parts.append(refused + (" (%s)" % ", ".join(reasons) if reasons else ""))
-        parts.append("%d of other protocols%s" % (self.others.total(), self.others.text()))
-        parts += ["%d not chosen" % self.passed] if self.passed else []
-        parts += ["%d fragments%s" % (self.fragments.total(), self.fragments.text())] if self.fragments.total() else []
-        parts += ["%d of them put together" % self.joined] if self.joined else []
-        parts += ["%d of link %s" % (count, link) for link, count in self.links.told()]
-        parts += ["%d of other links" % self.links.further()] if self.links.further() else []
-        return ", ".join(parts)
-
-    def table(self, only=None):
-        columns = ("listed",) + REASONS + ("octets",)
-        rows = ["\t".join(("kind",) + columns)]
-        for kind in KINDS:
-            if only is None or kind in only or "hbh" in only:
-                rows.append("\t".join([kind] + [str(self.kinds[kind][column]) for column in columns]))
-        return "".join(row + "\n" for row in rows)
-
-
 class Dumped:
     """What a capture prints, its status, what was counted of its packets, and how it ended."""
 
@@ -305,23 +228,58 @@ def among_others(name, text, options):
     if not options.is_json:
         return name + ":\n" + text
     told = ',"file":' + json.dumps(name, ensure_ascii=False)
-    return re.sub(r'^\{"number":\d+', lambda front: front[0] + told, text, flags=re.MULTILINE)
+    return re.sub(r'^\{("number":\d+|"summary":"\w+")', lambda front: front[0] + told, text, flags=re.MULTILINE)
+
+
+class Texts:
+    """What is printed of the packets of a capture."""
+
+    def __init__(self, options):
+        self.options = options
+        self.texts = []
+        self.page = page.Page() if options.is_page else None
+        self.pairs = pairs.Pairs() if options.is_paired else None
+
+    def add(self, shown, number, packet):
+        if self.page:
+            self.page.add(shown, number, packet)
+        elif self.pairs:
+            self.texts.append(brief.text(shown, number, packet, self.pairs.answers(shown, number, packet)))
+        else:
+            form = shown.json if self.options.is_json else shown.brief if self.options.is_brief else shown.text
+            self.texts.append(form(number, packet))
+
+    def text(self):
+        if self.page:
+            return self.page.json() if self.options.is_json else self.page.text()
+        return "".join(self.texts) + (self.pairs.unanswered() if self.pairs else "")
+
+
+class Read:
+    """The packets of a capture, each with its number and what it prints, and how the capture ended."""
+
+    def __init__(self, octets, is_strict=False, given=None):
+        capture, fragments = reading.Capture(octets), Fragments()
+        self.packets = [(number, packet, show(packet, number, fragments, is_strict, given or {}))
+                        for number, packet in enumerate(capture, 1)]
+        self.ending = capture.ending
 
 
 def dump(octets, options=Options(), total=None):
     """What the octets of a capture print. `total` counts the packets of several captures."""
-    counts = Counts()
-    capture = reading.Capture(octets)
-    fragments, texts = Fragments(), []
-    for number, packet in enumerate(capture, 1):
-        shown = show(packet, number, fragments, options.is_strict, options.given)
+    return dumped(Read(octets, options.is_strict, options.given), options, total)
+
+
+def dumped(read, options=Options(), total=None):
+    """What a capture prints that was read."""
+    counts, texts = Counts(), Texts(options)
+    for number, packet, shown in read.packets:
         counts.add(shown, packet.octets, options)
         if total is not None:
             total.add(shown, packet.octets, options)
         if shown.kind is not None and options.passes(shown):
-            form = shown.json if options.is_json else shown.brief if options.is_brief else shown.text
-            texts.append(form(number, packet))
-    return Dumped("".join(texts), capture.ending, counts)
+            texts.add(shown, number, packet)
+    return Dumped(texts.text(), read.ending, counts)
 
 
 def arguments(words):
@@ -344,6 +302,10 @@ def arguments(words):
             options.is_brief = not options.is_json
         elif word == "--strict":
             options.is_strict = True
+        elif word == "--pairs":
+            options.is_paired = True
+        elif word == "--stats":
+            options.is_page = True
         elif word.startswith("-") and word not in HABITS + ("-",):
             return None
         elif word not in HABITS:
@@ -358,7 +320,7 @@ def chosen(words):
     return [kind for word in words.split(",") for kind in FAMILIES.get(word, (word,))]
 
 
-def read(name):
+def file_octets(name):
     if name == "-":
         return sys.stdin.buffer.read()
     with open(name, "rb") as file:
@@ -368,24 +330,24 @@ def read(name):
 def main(words):
     asked = arguments(words)
     if asked is None:
-        print("usage: plain.py [--only KIND,..] [--port KIND=PORT] [--count] [--json] [--brief] [--strict] [FILE..]",
-              file=sys.stderr)
+        print("usage: plain.py [--only KIND,..] [--port KIND=PORT] [--count | --stats] [--json] [--brief] [--pairs]\n"
+              "                [--strict] [FILE..]", file=sys.stderr)
         return 2
     options, count, files = asked
     status, total = 0, Counts()
     for name in files:
         try:
-            octets = read(name)
+            octets = file_octets(name)
         except OSError as error:
             print("pcapdump: %s: %s" % (name, error.strerror), file=sys.stderr)
             status = max(status, 2)
             continue
-        dumped = dump(octets, options, total)
-        status = max(status, dumped.status)
+        printed = dump(octets, options, total)
+        status = max(status, printed.status)
         if not count:
-            sys.stdout.write(among_others(name, dumped.text, options) if len(files) > 1 else dumped.text)
+            sys.stdout.write(among_others(name, printed.text, options) if len(files) > 1 else printed.text)
         sys.stdout.flush()
-        sys.stderr.write(dumped.said(name, count))
+        sys.stderr.write(printed.said(name, count))
     if count:
         sys.stdout.write(total.table(options.only))
         sys.stdout.flush()

@@ -11,6 +11,7 @@ from standards_fragments import FRAGMENTS, MOST
 from standards_messages import LONG_PARTS, MESSAGES, WHOLE_JUMBOGRAMS
 from standards_mixed import MIXED
 from standards_networks import NETWORKS
+from standards_pages import FULL, PAGES
 from standards_segments import SEGMENTS
 from standards_tunnels import TUNNELS
 
@@ -207,6 +208,16 @@ def many():
     return {**MOST, **MIXED}
 
 
+def pages():
+    """The captures by name of many messages that a page of statistics tells of."""
+    return dict(PAGES)
+
+
+def full_pages():
+    """The captures by name of more than a page has rows for."""
+    return dict(FULL)
+
+
 def every():
     """All captures by name."""
-    return {**captures(), **mixed(), **large(), **many()}
+    return {**captures(), **mixed(), **large(), **many(), **pages(), **full_pages()}
