@@ -21,6 +21,7 @@ mod refusal;
 mod repr;
 mod tables;
 
+pub use code::{code_of_duration, duration_of_code};
 pub use packet::Packet;
 pub use refusal::Refusal;
 pub use repr::{IgmpVersion, Repr};
