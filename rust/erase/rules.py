@@ -305,10 +305,12 @@ def formatter(file, i):
     close = file.close_angle(i + 2)
     for k in range(close, file.body(i)):
         if file.texts(k, "Formatter", "<", "W", ">"):
-            if not file.texts(i + 3, "W", ":", "fmt", "::", "Write", ">"):
-                file.refuse(i, "a Formatter in a function with other parameters")
             file.replace(k + 2, k + 3, "'_")
-            return file.remove(i + 2, close + 1, comment=False)
+            if file.texts(i + 3, "W", ":", "fmt", "::", "Write", ">"):
+                return file.remove(i + 2, close + 1, comment=False)
+            if not file.texts(close - 6, ",", "W", ":", "fmt", "::", "Write", ">"):
+                file.refuse(i, "a Formatter in a function whose last parameter is not its writer")
+            return file.remove(close - 6, close, comment=False)
     return None
 
 

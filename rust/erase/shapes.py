@@ -38,7 +38,7 @@ SHAPES = {
     "open_match": (r"", r"(, )?_ => unreachable ! \( \) ,"),
     "debug": (r"Debug ,", ""),
     "nothing": (ATTRIBUTES + r"fn \w+ [^{};]*\{ \.\. \}|(\w+ :: )*\w+ \( \.\. \) ;|, \w+|\w+ ,", ""),
-    "formatter": (r"W|< W : fmt :: Write >", r"('_)?"),
+    "formatter": (r"W|< W : fmt :: Write >|, W : fmt :: Write", r"('_)?"),
     "from_utf8": (r"str", r"core :: str"),
     "label": (r"'\w+ :", ""),
     "flag_set": (r"# \[ \.\. \] pub struct \w+ \( \.\. \) ;|impl [^{};]*\{ \.\. \}",

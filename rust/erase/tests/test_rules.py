@@ -97,8 +97,10 @@ ROWS = {
                 "fn f() -> Error { are_facts(1); R::are_facts(2); Error }",
                 "use crate::wirebase::{Error}; fn f() -> Error { Error }"),
     "formatter": ("fn fmt<W: fmt::Write>(&self, f: &mut fmt::Formatter<W>) -> fmt::Result { f.write_str(\"a\") } "
+                  "fn more<A: B, W: fmt::Write>(f: &mut fmt::Formatter<W>, a: A) -> fmt::Result { a.show(f) } "
                   "impl<W: fmt::Write> Sink<fmt::Formatter<W>> for A { fn put(o: &mut fmt::Formatter<W>) -> u8 { 1 } }",
                   "fn fmt(&self, f: &mut fmt::Formatter<'_>) -> fmt::Result { f.write_str(\"a\") } "
+                  "fn more<A: B>(f: &mut fmt::Formatter<'_>, a: A) -> fmt::Result { a.show(f) } "
                   "impl Sink<fmt::Formatter<'_>> for A { fn put(o: &mut fmt::Formatter<'_>) -> u8 { 1 } }"),
     "from_utf8": ("fn f() -> u8 { g(str::from_utf8(a)) }", "fn f() -> u8 { g(core::str::from_utf8(a)) }"),
     "label": ("fn f() -> u8 { 'a: loop { 'b: for i in c { continue 'b; } } }",
@@ -172,7 +174,7 @@ REFUSED = (
     ("fn f() -> u8 { a ≤ b }", "`≤` is left"),
     ("fn f() -> u8 { unsafe { 1 } }", "`unsafe` is left"),
     ("fn f(rt: HostRuntime) -> u8 { 1 }", "is left"),
-    ("fn f<V, W: fmt::Write>(f: &mut fmt::Formatter<W>) -> u8 { 1 }", "a Formatter in a function with other"),
+    ("fn f<W: fmt::Write, V>(f: &mut fmt::Formatter<W>) -> u8 { 1 }", "a Formatter in a function whose last"),
     ("fn are_facts() {} fn f() -> u8 { let a = are_facts; a }", "a function that does nothing, in another place"),
     ("impl Octets for [u8; 4] { fn octets(&self) -> &[u8] { self } }", "octets that are no slice"),
     ("impl Clone for S { fn clone(&self) -> S { S } }", "a Clone of S"),
