@@ -1,0 +1,5 @@
+use Rattle.std.proofs.Common.{ℕ, refl}
+use Rattle.group_wire.proofs.membership.reading.read_igmp.Goals as goal
+
+pub returns-clause-rewrites : goal.returns-clause-rewrites
+returns-clause-rewrites c = c.read.ensures.rewrites (λ (len : ℕ). 0) refl

@@ -1,0 +1,105 @@
+//! Messages written into octets.
+
+ghost use Rattle.std.specs.Prelude.{◌≡◌, ◌≤◌, ◌<◌, ◌+◌, ◌∷◌, [], ◌++◌, ℕ, length};
+ghost use Rattle.wirebase.specs.Bytes.{over};
+ghost use Rattle.wirebase.specs.ByteWriter.{free, Puts};
+ghost use Rattle.group_wire.specs.Family.{group_at, older_len};
+ghost use Rattle.group_wire.specs.Membership.{value_of, query_value, report, Emits, text};
+ghost use Rattle.group_wire.specs.Membership.{text_len, message_fields, header};
+ghost use Rattle.group_wire.specs.Records.{count_in, octets_in};
+
+use super::{Membership, Message, field};
+use crate::address::Address;
+use crate::family::{Family, Kind};
+use crate::query::{Query, S_FLAG};
+use crate::records::Records;
+use wirebase::{ByteWriter, checksum};
+
+// Writes the message over the front of the octets, with the checksum of all of them, where `extra` is the sum of the
+// pseudo header of as many bytes.
+pub(super) fn emit<A: Address>(message: &Membership<'_, A>, octets: &mut [u8], extra: u16)
+    requires { text_len A.family (value_of A.bytes message.now) ≤ length octets.old }
+    ensures { (sum : ℕ → ℕ) → sum (length octets.old) ≡ extra
+        → Emits A.family sum (value_of A.bytes message.now) octets.old octets.new }
+{
+    write(message, octets);
+    checksum::fill(octets, field::CHECKSUM, extra);
+}
+
+// Writes the fields of the message over the front of the octets, with a checksum of zero.
+#[tactic(auto, using(wirebase::proofs::Chains::chain))]
+fn write<A: Address>(message: &Membership<'_, A>, octets: &mut [u8])
+    requires { text_len A.family (value_of A.bytes message.now) ≤ length octets.old }
+    ensures { octets.new ≡ over octets.old (text A.family (value_of A.bytes message.now)) }
+{
+    let mut w = ByteWriter::new(octets);
+    match message {
+        Message::OlderQuery {
+            max_resp_code,
+            group,
+        } => put_group(&mut w, Kind::Query, *max_resp_code, group),
+        Message::Query(query) => put_query(&mut w, query),
+        Message::OldestReport { group } => put_group(&mut w, Kind::OldestReport, 0, group),
+        Message::OlderReport { group } => put_group(&mut w, Kind::OlderReport, 0, group),
+        Message::Leave { group } => put_group(&mut w, Kind::Leave, 0, group),
+        Message::Report { records } => put_report(&mut w, records),
+    }
+}
+
+// Writes what a message of one group begins with, and the group.
+fn put_group<A: Address>(w: &mut ByteWriter<'_>, kind: Kind, code: u16, group: &A)
+    requires room { older_len A.family ≤ length (free w.old) }
+    ensures puts { Puts w.old w.new (header A.family kind code ++ A.bytes group.now ∷ []) }
+    ensures room { length (free w.old) ≡ older_len A.family + length (free w.new) }
+{
+    put_header(w, A::family(), kind, code);
+    group.put(w);
+}
+
+// Writes what a message of one group begins with, before the group.
+fn put_header(w: &mut ByteWriter<'_>, family: Family, kind: Kind, code: u16)
+    requires room { group_at family ≤ length (free w.old) }
+    ensures puts { Puts w.old w.new (header family kind code) }
+    ensures room { length (free w.old) ≡ group_at family + length (free w.new) }
+{
+    w.put_u8(family.number(kind));
+    match family {
+        Family::Igmp => {
+            w.put_u8((code % 256) as u8);
+            w.put_u16(0);
+        }
+        Family::Mld => {
+            w.put_u8(0);
+            w.put_u16(0);
+            w.put_u16(code);
+            w.put_u16(0);
+        }
+    }
+}
+
+// Writes the fields of a query.
+fn put_query<A: Address>(w: &mut ByteWriter<'_>, query: &Query<'_, A>)
+    requires { text_len A.family (query_value A.bytes query.now) ≤ length (free w.old) }
+    ensures { Puts w.old w.new (message_fields A.family (query_value A.bytes query.now)) }
+{
+    put_group(w, Kind::Query, query.max_resp_code, &query.group);
+    let s_flag = if query.s_flag { S_FLAG } else { 0 };
+    w.put_u8(s_flag + query.qrv % S_FLAG);
+    w.put_u8(query.qqic);
+    w.put_u16((query.sources.len() % (1 << 16)) as u16);
+    w.put_bytes(query.sources.octets);
+}
+
+// Writes the fields of a report.
+fn put_report<A: Address>(w: &mut ByteWriter<'_>, records: &Records<'_, A>)
+    requires { 8 + length (octets_in records.now) ≤ length (free w.old) }
+    ensures { Puts w.old w.new
+        (message_fields A.family (report (count_in records.now) (octets_in records.now))) }
+{
+    w.put_u8(A::family().number(Kind::Report));
+    w.put_u8(0);
+    w.put_u16(0);
+    w.put_u16(0);
+    w.put_u16(records.count);
+    w.put_bytes(records.octets);
+}

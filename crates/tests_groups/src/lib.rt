@@ -1,0 +1,11 @@
+//! The tests of `group_wire`, over its public calls.
+#![tactic(auto)]
+
+#[cfg(test)]
+mod messages;
+#[cfg(test)]
+mod records;
+#[cfg(test)]
+mod testing;
+#[cfg(test)]
+mod times;
