@@ -1,0 +1,529 @@
+-- The format of options: what is read in their texts, and what was read.
+use Rattle.std.proofs.Common.{◌≡◌, ◌↔◌, ℕ, ◌+◌, ◌*◌, ◌/◌, ◌%◌, ◌-◌, ◌≤◌, ◌<◌, ◌^◌, Bool, true, false, IsTrue}
+use Rattle.std.proofs.Common.{List, [], ◌∷◌, ◌++◌, length, drop, refl, sym, ap, subst, ◌∙◌, arith}
+use Rattle.std.specs.Prelude.{◌==◌, if◌then◌else◌}
+use Rattle.std.proofs.lemmas.List.{take_all, length-drop}
+use Rattle.byteorder.specs.Endian.{big_bytes, big_number}
+use Rattle.byteorder.specs.Numbers.{big_number-reads_back}
+use Rattle.wirebase.specs.Bytes.{IsBytes, part, number_of}
+use Rattle.wirebase.specs.Checks.{Passes}
+use Rattle.wirebase.specs.Format.{Rewrites, RoundTrips, SameText}
+use Rattle.wirebase.proofs.ByteParts.{number_of-small}
+use Rattle.wirebase.proofs.Format.{IsFormat, rewrites, round_trips, same_text}
+use Rattle.wirebase.proofs.Pieces.{length-part}
+use Rattle.wirebase.proofs.WideParts.{number_of-small4}
+use Rattle.neighbor_wire.specs.declared.kind.Kind.{Kind}
+use Rattle.neighbor_wire.specs.declared.nat64.Nat64Length.{Nat64Length}
+use Rattle.neighbor_wire.specs.declared.preference.Preference.{Preference}
+use Rattle.neighbor_wire.specs.Kind.{kind_of}
+use Rattle.neighbor_wire.specs.Nat64.{length_code}
+use Rattle.neighbor_wire.specs.Preference.{preference_number, preference_in}
+use Rattle.neighbor_wire.specs.Option.{Value, source, target, prefix, mtu, nonce, route, servers, search_list, portal}
+use Rattle.neighbor_wire.specs.Option.{nat64, other, units, whole_len, filled, flags, text}
+use Rattle.neighbor_wire.specs.Option.{units_in, kind_in, lifetime_field, strip}
+use Rattle.neighbor_wire.specs.Option.{kind_checks, IsContent, IsOption}
+use Rattle.neighbor_wire.specs.OptionFormat.{IsCanonical}
+use Rattle.neighbor_wire.specs.OptionFormat.{norm, format}
+use Rattle.neighbor_wire.proofs.Zeros.{strip-zeros, strip-strip, length-strip, length-filled, filled-whole}
+use Rattle.neighbor_wire.proofs.Zeros.{filled-filled}
+use Rattle.neighbor_wire.proofs.Zeros.{units-filled}
+use Rattle.neighbor_wire.proofs.OptionTexts.{shape, data_shape, list_shape, text-shape, HasAddress, length-shape}
+
+-- ---- reading what was written
+
+not_true : IsTrue false → ⊥
+not_true holds = cc
+
+on_link_read : (on_link autonomous router : Bool) → IsTrue on_link ↔ (flags on_link autonomous router / 128 % 2 ≡ 1)
+on_link_read true true true = (λ yes. refl, λ yes. refl)
+on_link_read true true false = (λ yes. refl, λ yes. refl)
+on_link_read true false true = (λ yes. refl, λ yes. refl)
+on_link_read true false false = (λ yes. refl, λ yes. refl)
+on_link_read false true true = (λ no. absurd (not_true no), λ one. absurd (omega (arith, one)))
+on_link_read false true false = (λ no. absurd (not_true no), λ one. absurd (omega (arith, one)))
+on_link_read false false true = (λ no. absurd (not_true no), λ one. absurd (omega (arith, one)))
+on_link_read false false false = (λ no. absurd (not_true no), λ one. absurd (omega (arith, one)))
+
+autonomous_read : (on_link autonomous router : Bool)
+    → IsTrue autonomous ↔ (flags on_link autonomous router / 64 % 2 ≡ 1)
+autonomous_read true true true = (λ yes. refl, λ yes. refl)
+autonomous_read true true false = (λ yes. refl, λ yes. refl)
+autonomous_read true false true = (λ no. absurd (not_true no), λ one. absurd (omega (arith, one)))
+autonomous_read true false false = (λ no. absurd (not_true no), λ one. absurd (omega (arith, one)))
+autonomous_read false true true = (λ yes. refl, λ yes. refl)
+autonomous_read false true false = (λ yes. refl, λ yes. refl)
+autonomous_read false false true = (λ no. absurd (not_true no), λ one. absurd (omega (arith, one)))
+autonomous_read false false false = (λ no. absurd (not_true no), λ one. absurd (omega (arith, one)))
+
+router_read : (on_link autonomous router : Bool) → IsTrue router ↔ (flags on_link autonomous router / 32 % 2 ≡ 1)
+router_read true true true = (λ yes. refl, λ yes. refl)
+router_read true true false = (λ no. absurd (not_true no), λ one. absurd (omega (arith, one)))
+router_read true false true = (λ yes. refl, λ yes. refl)
+router_read true false false = (λ no. absurd (not_true no), λ one. absurd (omega (arith, one)))
+router_read false true true = (λ yes. refl, λ yes. refl)
+router_read false true false = (λ no. absurd (not_true no), λ one. absurd (omega (arith, one)))
+router_read false false true = (λ yes. refl, λ yes. refl)
+router_read false false false = (λ no. absurd (not_true no), λ one. absurd (omega (arith, one)))
+
+preference_read : (p : Preference) → p ≡ preference_in (preference_number p * 8)
+preference_read Preference.High = refl
+preference_read Preference.Medium = refl
+preference_read Preference.Low = refl
+preference_read Preference.Reserved = refl
+
+code_few : (l : Nat64Length) → length_code l < 6
+code_few Nat64Length.Bits96 = omega arith
+code_few Nat64Length.Bits64 = omega arith
+code_few Nat64Length.Bits56 = omega arith
+code_few Nat64Length.Bits48 = omega arith
+code_few Nat64Length.Bits40 = omega arith
+code_few Nat64Length.Bits32 = omega arith
+
+four_read : (n : ℕ) → n < 2 ^ 32 → n ≡ big_number 4 (big_bytes 4 n ++ [])
+four_read n small = sym (big_number-reads_back 4 n [] (omega (arith, small)))
+
+-- a value in normal form has the fields of an address where it has a prefix
+pub has_address : (v : Value) → IsCanonical v → HasAddress v
+has_address (prefix bits on_link autonomous router valid preferred octets) c = c.3
+has_address (source octets) c = tt
+has_address (target octets) c = tt
+has_address (mtu n) c = tt
+has_address (nonce octets) c = tt
+has_address (route bits preference lifetime octets) c = tt
+has_address (servers lifetime octets) c = tt
+has_address (search_list lifetime octets) c = tt
+has_address (portal octets) c = tt
+has_address (nat64 scaled bits octets) c = tt
+has_address (other t octets) c = tt
+
+-- the checks of the length of all options
+record IsWhole (bytes : List ℕ) : Type 0 where
+  fixed : 8 ≤ length bytes
+  some : 1 ≤ units_in bytes
+  counted : length bytes ≡ 8 * units_in bytes
+
+whole_by : (bytes : List ℕ) (n : ℕ) → 1 ≤ n → length bytes ≡ whole_len n → units_in bytes ≡ units n → IsWhole bytes
+whole_by bytes n some long count = record {
+  fixed = omega (arith, some, long);
+  some = omega (arith, some, count);
+  counted = omega (arith, long, count);
+}
+
+shape-whole : (v : Value) → IsCanonical v → IsWhole (shape v)
+shape-whole (source octets) c =
+    whole_by _ (2 + length octets) (omega arith) (length-shape (source octets) tt) refl
+shape-whole (target octets) c =
+    whole_by _ (2 + length octets) (omega arith) (length-shape (target octets) tt) refl
+shape-whole (prefix bits on_link autonomous router valid preferred octets) c =
+    whole_by _ 32 (omega arith) (length-shape (prefix bits on_link autonomous router valid preferred octets) c.3) refl
+shape-whole (mtu n) c = whole_by _ 8 (omega arith) (length-shape (mtu n) tt) refl
+shape-whole (nonce octets) c =
+    whole_by _ (2 + length octets) (omega arith) (length-shape (nonce octets) tt) refl
+shape-whole (route bits preference lifetime octets) c =
+    whole_by _ (8 + length octets) (omega arith) (length-shape (route bits preference lifetime octets) tt) refl
+shape-whole (servers lifetime octets) c =
+    whole_by _ (8 + length octets) (omega arith) (length-shape (servers lifetime octets) tt) refl
+shape-whole (search_list lifetime octets) c =
+    whole_by _ (8 + length octets) (omega arith) (length-shape (search_list lifetime octets) tt) refl
+shape-whole (portal octets) c =
+    whole_by _ (2 + length octets) (omega arith) (length-shape (portal octets) tt) refl
+shape-whole (nat64 scaled bits octets) c =
+    whole_by _ (4 + length octets) (omega arith) (length-shape (nat64 scaled bits octets) tt) refl
+shape-whole (other t octets) c =
+    whole_by _ (2 + length octets) (omega arith) (length-shape (other t octets) tt) refl
+
+-- the other checks, and what is said
+record Says (bytes : List ℕ) (v : Value) : Type 0 where
+  passes : Passes (kind_checks (kind_in bytes) bytes)
+  content : IsContent bytes v
+
+prefix_says : (bits : ℕ) (on_link autonomous router : Bool) (valid preferred : ℕ) (octets : List ℕ)
+    → IsCanonical (prefix bits on_link autonomous router valid preferred octets)
+    → Says (shape (prefix bits on_link autonomous router valid preferred octets))
+    (prefix bits on_link autonomous router valid preferred octets)
+unfolding part
+prefix_says bits on_link autonomous router valid preferred octets (few, first, second, whole) = record {
+  passes = (refl, (few, tt));
+  content = record {
+    kind = refl;
+    bits_are = refl;
+    on_link_is = on_link_read on_link autonomous router;
+    autonomous_is = autonomous_read on_link autonomous router;
+    router_is = router_read on_link autonomous router;
+    valid_is = four_read valid first;
+    preferred_is = four_read preferred second;
+    octets_are = sym (take_all 16 octets (omega (arith, whole)));
+  };
+}
+
+route_says : (bits : ℕ) (preference : Preference) (lifetime : ℕ) (octets : List ℕ)
+    → IsCanonical (route bits preference lifetime octets)
+    → Says (shape (route bits preference lifetime octets)) (route bits preference lifetime octets)
+unfolding part
+route_says bits preference lifetime octets (small, (count, long, few, fits)) = record {
+  passes = (omega (arith, long, few), (omega (arith, long, fits), tt));
+  content = record {
+    kind = refl;
+    bits_are = refl;
+    preference_is = preference_read preference;
+    lifetime_is = four_read lifetime small;
+    octets_are = sym (filled-whole 8 (1 + count) octets (omega (arith, long)));
+  };
+}
+
+nat64_says : (scaled : ℕ) (bits : Nat64Length) (octets : List ℕ) → IsCanonical (nat64 scaled bits octets)
+    → Says (shape (nat64 scaled bits octets)) (nat64 scaled bits octets)
+unfolding part
+nat64_says scaled bits octets (small, long) =
+    let both : ℕ = scaled * 8 + length_code bits in
+    let number : big_number 2 (big_bytes 2 both ++ []) ≡ both =
+    big_number-reads_back 2 both [] (omega (arith, small, code_few bits)) in
+    record {
+      passes = (omega (arith, long), (omega (arith, number, code_few bits), tt));
+      content = record {
+        kind = refl;
+        scaled_is = omega (arith, number, code_few bits);
+        bits_are = omega (arith, number, code_few bits);
+        octets_are = sym (filled-whole 4 2 octets (omega (arith, long)));
+      };
+    }
+
+servers_says : (lifetime : ℕ) (octets : List ℕ) → IsCanonical (servers lifetime octets)
+    → Says (shape (servers lifetime octets)) (servers lifetime octets)
+unfolding part
+servers_says lifetime octets (small, (count, long, some, few)) = record {
+  passes = ((omega (arith, long, some), omega (arith, long)), tt);
+  content = (
+    refl,
+    four_read lifetime small,
+    sym (filled-whole 8 (1 + 2 * count) octets (omega (arith, long))),
+  );
+}
+
+search_says : (lifetime : ℕ) (octets : List ℕ) → IsCanonical (search_list lifetime octets)
+    → Says (shape (search_list lifetime octets)) (search_list lifetime (filled 8 octets))
+unfolding part
+search_says lifetime octets (small, some, few) = record {
+  passes = (omega (arith, some), tt);
+  content = (refl, four_read lifetime small, refl);
+}
+
+mtu_says : (n : ℕ) → IsCanonical (mtu n) → Says (shape (mtu n)) (mtu n)
+unfolding part
+mtu_says n small = record { passes = (refl, tt); content = (refl, four_read n small) }
+
+other_says : (t : ℕ) (octets : List ℕ) → IsCanonical (other t octets)
+    → Says (shape (other t octets)) (other t (filled 2 octets))
+other_says t octets (small, kind, few) = record {
+  passes = subst (λ (k : Kind). Passes (kind_checks k (shape (other t octets)))) (sym kind) tt;
+  content = (kind, refl, refl);
+}
+
+says : (v : Value) → IsCanonical v → Says (shape v) (norm v)
+says (source octets) c = record { passes = tt; content = (refl, refl) }
+says (target octets) c = record { passes = tt; content = (refl, refl) }
+says (prefix bits on_link autonomous router valid preferred octets) c =
+    prefix_says bits on_link autonomous router valid preferred octets c
+says (mtu n) c = mtu_says n c
+says (nonce octets) c = record { passes = tt; content = (refl, refl) }
+says (route bits preference lifetime octets) c = route_says bits preference lifetime octets c
+says (servers lifetime octets) c = servers_says lifetime octets c
+says (search_list lifetime octets) c = search_says lifetime octets c
+says (portal octets) c = record { passes = tt; content = (refl, sym (strip-zeros octets _ ∙ c.1)) }
+says (nat64 scaled bits octets) c = nat64_says scaled bits octets c
+says (other t octets) c = other_says t octets c
+
+-- the text of a canonical value is read as its normal form
+pub option_read : (v : Value) → IsCanonical v → IsOption (text v) (norm v)
+option_read v c =
+    let whole = shape-whole v c in
+    let said = says v c in
+    let read : IsOption (shape v) (norm v) =
+    record {
+      passes = (whole.fixed, (whole.some, (whole.counted, said.passes)));
+      content = said.content;
+    } in
+    subst (λ (bytes : List ℕ). IsOption bytes (norm v)) (sym (text-shape v)) read
+
+-- ---- what was read
+
+kind_of_value : Value → Kind
+kind_of_value (source octets) = Kind.Source
+kind_of_value (target octets) = Kind.Target
+kind_of_value (prefix bits on_link autonomous router valid preferred octets) = Kind.Prefix
+kind_of_value (mtu n) = Kind.Mtu
+kind_of_value (nonce octets) = Kind.Nonce
+kind_of_value (route bits preference lifetime octets) = Kind.Route
+kind_of_value (servers lifetime octets) = Kind.DnsServers
+kind_of_value (search_list lifetime octets) = Kind.SearchList
+kind_of_value (portal octets) = Kind.CaptivePortal
+kind_of_value (nat64 scaled bits octets) = Kind.Nat64Prefix
+kind_of_value (other t octets) = Kind.Other
+
+content-kind : (bytes : List ℕ) (v : Value) → IsContent bytes v → kind_in bytes ≡ kind_of_value v
+unfolding kind_of_value
+content-kind bytes (source octets) m = m.0
+content-kind bytes (target octets) m = m.0
+content-kind bytes (prefix bits on_link autonomous router valid preferred octets) m = m.kind
+content-kind bytes (mtu n) m = m.0
+content-kind bytes (nonce octets) m = m.0
+content-kind bytes (route bits preference lifetime octets) m = m.kind
+content-kind bytes (servers lifetime octets) m = m.0
+content-kind bytes (search_list lifetime octets) m = m.0
+content-kind bytes (portal octets) m = m.0
+content-kind bytes (nat64 scaled bits octets) m = m.kind
+content-kind bytes (other t octets) m = m.0
+
+same_flag : (a b : Bool) (P : Type 0) → (IsTrue a ↔ P) → (IsTrue b ↔ P) → a ≡ b
+same_flag true true P f g = refl
+same_flag false false P f g = refl
+same_flag true false P f g = absurd (let no = g.1 (f.0 refl) in cc)
+same_flag false true P f g = absurd (let no = f.1 (g.0 refl) in cc)
+
+-- the length of a code
+abbrev of_code : ℕ → Nat64Length
+of_code n =
+    if n == 0 then Nat64Length.Bits96 else if n == 1 then Nat64Length.Bits64 else if n == 2 then Nat64Length.Bits56
+    else if n == 3 then Nat64Length.Bits48 else if n == 4 then Nat64Length.Bits40 else Nat64Length.Bits32
+
+code_back : (l : Nat64Length) → of_code (length_code l) ≡ l
+code_back Nat64Length.Bits96 = refl
+code_back Nat64Length.Bits64 = refl
+code_back Nat64Length.Bits56 = refl
+code_back Nat64Length.Bits48 = refl
+code_back Nat64Length.Bits40 = refl
+code_back Nat64Length.Bits32 = refl
+
+content-one : (bytes : List ℕ) (v w : Value) → IsContent bytes v → IsContent bytes w → v ≡ w
+unfolding kind_of_value
+content-one bytes (source octets) (source more) a b = let one = a.1 ∙ sym b.1 in cc
+content-one bytes (target octets) (target more) a b = let one = a.1 ∙ sym b.1 in cc
+content-one bytes (prefix bits l o r valid preferred octets) (prefix less m p s good better more) a b =
+    let one = a.bits_are ∙ sym b.bits_are in
+    let two = same_flag l m _ a.on_link_is b.on_link_is in
+    let three = same_flag o p _ a.autonomous_is b.autonomous_is in
+    let four = same_flag r s _ a.router_is b.router_is in
+    let five = a.valid_is ∙ sym b.valid_is in
+    let six = a.preferred_is ∙ sym b.preferred_is in
+    let seven = a.octets_are ∙ sym b.octets_are in
+    cc
+content-one bytes (mtu n) (mtu k) a b = let one = a.1 ∙ sym b.1 in cc
+content-one bytes (nonce octets) (nonce more) a b = let one = a.1 ∙ sym b.1 in cc
+content-one bytes (route bits preference lifetime octets) (route less other_one time more) a b =
+    let one = a.bits_are ∙ sym b.bits_are in
+    let two = a.preference_is ∙ sym b.preference_is in
+    let three = a.lifetime_is ∙ sym b.lifetime_is in
+    let four = a.octets_are ∙ sym b.octets_are in
+    cc
+content-one bytes (servers lifetime octets) (servers time more) a b =
+    let one = a.1 ∙ sym b.1 in
+    let two = a.2 ∙ sym b.2 in
+    cc
+content-one bytes (search_list lifetime octets) (search_list time more) a b =
+    let one = a.1 ∙ sym b.1 in
+    let two = a.2 ∙ sym b.2 in
+    cc
+content-one bytes (portal octets) (portal more) a b = let one = a.1 ∙ sym b.1 in cc
+content-one bytes (nat64 scaled bits octets) (nat64 time less more) a b =
+    let one = a.scaled_is ∙ sym b.scaled_is in
+    let two = sym (code_back bits) ∙ ap of_code (a.bits_are ∙ sym b.bits_are) ∙ code_back less in
+    let three = a.octets_are ∙ sym b.octets_are in
+    cc
+content-one bytes (other t octets) (other k more) a b =
+    let one = a.1 ∙ sym b.1 in
+    let two = a.2 ∙ sym b.2 in
+    cc
+content-one bytes v w a b =
+    let one = content-kind bytes v a in
+    let two = content-kind bytes w b in
+    absurd cc
+
+pub option-one : (bytes : List ℕ) (v w : Value) → IsOption bytes v → IsOption bytes w → v ≡ w
+option-one bytes v w a b = content-one bytes v w a.content b.content
+
+-- the checks of what has a kind
+passes_of : (bytes : List ℕ) (v : Value) → IsOption bytes v → Passes (kind_checks (kind_of_value v) bytes)
+passes_of bytes v m =
+    subst (λ (k : Kind). Passes (kind_checks k bytes)) (content-kind bytes v m.content) m.passes.1.1.1
+
+-- what is behind some bytes of an option
+behind_long : (bytes octets : List ℕ) (n : ℕ) (v : Value) → n ≤ 8 → IsOption bytes v → octets ≡ drop n bytes
+    → n + length octets ≡ 8 * units_in bytes
+behind_long bytes octets n v few m e =
+    omega (arith, few, ap (λ (l : List ℕ). length l) e, length-drop n bytes, m.passes.0, m.passes.1.1.0)
+
+data_few : (bytes octets : List ℕ) (v : Value) → IsBytes bytes → IsOption bytes v → octets ≡ drop 2 bytes
+    → units (2 + length octets) < 256
+data_few bytes octets v are m e = omega (arith, behind_long bytes octets 2 v (omega arith) m e, are 1)
+
+time_small : (bytes : List ℕ) (n : ℕ) → IsBytes bytes → n ≡ number_of lifetime_field bytes → n < 2 ^ 32
+time_small bytes n are e = omega (arith, e, number_of-small4 4 8 bytes refl are)
+
+content-canonical : (bytes : List ℕ) (v : Value) → IsBytes bytes → IsOption bytes v → IsCanonical v
+unfolding kind_of_value
+content-canonical bytes (source octets) are m = data_few bytes octets (source octets) are m m.content.1
+content-canonical bytes (target octets) are m = data_few bytes octets (target octets) are m m.content.1
+content-canonical bytes (prefix bits l a r valid preferred octets) are m =
+    let is = m.content in
+    let fits = passes_of bytes (prefix bits l a r valid preferred octets) m in (
+      omega (arith, is.bits_are, fits.1.0),
+      time_small bytes valid are is.valid_is,
+      omega (arith, is.preferred_is, number_of-small4 8 12 bytes refl are),
+      ap (λ (o : List ℕ). length o) is.octets_are
+          ∙ length-part bytes 16 32 (omega arith) (omega (arith, m.passes.1.1.0, fits.0)),
+    )
+content-canonical bytes (mtu n) are m = time_small bytes n are m.content.1
+content-canonical bytes (nonce octets) are m = data_few bytes octets (nonce octets) are m m.content.1
+content-canonical bytes (route bits preference lifetime octets) are m =
+    let is = m.content in
+    let fits = passes_of bytes (route bits preference lifetime octets) m in
+    let long = behind_long bytes octets 8 (route bits preference lifetime octets) (omega arith) m is.octets_are in (
+      time_small bytes lifetime are is.lifetime_is,
+      (
+        units_in bytes - 1,
+        omega (arith, long),
+        omega (arith, fits.0),
+        omega (arith, is.bits_are, fits.1.0),
+      ),
+    )
+content-canonical bytes (servers lifetime octets) are m =
+    let fits = passes_of bytes (servers lifetime octets) m in
+    let long = behind_long bytes octets 8 (servers lifetime octets) (omega arith) m m.content.2 in (
+      time_small bytes lifetime are m.content.1,
+      (
+        (units_in bytes - 1) / 2,
+        omega (arith, long, fits.0.0, fits.0.1),
+        omega (arith, fits.0.0),
+        omega (arith, are 1),
+      ),
+    )
+content-canonical bytes (search_list lifetime octets) are m =
+    let fits = passes_of bytes (search_list lifetime octets) m in
+    let long = behind_long bytes octets 8 (search_list lifetime octets) (omega arith) m m.content.2 in (
+      time_small bytes lifetime are m.content.1,
+      omega (arith, long, fits.0),
+      omega (arith, long, are 1),
+    )
+content-canonical bytes (portal octets) are m =
+    let e = m.content.1 in
+    let long = behind_long bytes (drop 2 bytes) 2 (portal octets) (omega arith) m refl in
+    let shorter : length octets ≤ length (drop 2 bytes) =
+    omega (arith, ap (λ (l : List ℕ). length l) e, length-strip (drop 2 bytes)) in (
+      omega (arith, long, shorter, are 1),
+      ap (λ (l : List ℕ). strip l) e ∙ strip-strip (drop 2 bytes) ∙ sym e,
+    )
+content-canonical bytes (nat64 scaled bits octets) are m =
+    let is = m.content in
+    let fits = passes_of bytes (nat64 scaled bits octets) m in
+    let long = behind_long bytes octets 4 (nat64 scaled bits octets) (omega arith) m is.octets_are in (
+      omega (arith, is.scaled_is, number_of-small 2 4 bytes refl are),
+      omega (arith, long, fits.0),
+    )
+content-canonical bytes (other t octets) are m = (
+  omega (arith, m.content.1, are 0),
+  ap kind_of m.content.1 ∙ m.content.0,
+  data_few bytes octets (other t octets) are m m.content.2,
+)
+
+-- ---- the format
+
+data_norm : (octets : List ℕ) → units (2 + length octets) < 256 → units (2 + length (filled 2 octets)) < 256
+data_norm octets few = omega (arith, few, units-filled 2 octets)
+
+norm-canonical : (v : Value) → IsCanonical v → IsCanonical (norm v)
+norm-canonical (source octets) c = data_norm octets c
+norm-canonical (target octets) c = data_norm octets c
+norm-canonical (nonce octets) c = data_norm octets c
+norm-canonical (search_list lifetime octets) c = (
+  c.0,
+  omega (arith, c.1, length-filled 8 octets),
+  omega (arith, c.2, units-filled 8 octets),
+)
+norm-canonical (other t octets) c = (c.0, c.1, data_norm octets c.2)
+norm-canonical (prefix bits on_link autonomous router valid preferred octets) c = c
+norm-canonical (mtu n) c = c
+norm-canonical (route bits preference lifetime octets) c = c
+norm-canonical (servers lifetime octets) c = c
+norm-canonical (portal octets) c = c
+norm-canonical (nat64 scaled bits octets) c = c
+
+norm-norm : (v : Value) → norm (norm v) ≡ norm v
+norm-norm (source octets) = ap source (filled-filled 2 octets)
+norm-norm (target octets) = ap target (filled-filled 2 octets)
+norm-norm (nonce octets) = ap nonce (filled-filled 2 octets)
+norm-norm (search_list lifetime octets) = ap (search_list lifetime) (filled-filled 8 octets)
+norm-norm (other t octets) = ap (other t) (filled-filled 2 octets)
+norm-norm (prefix bits on_link autonomous router valid preferred octets) = refl
+norm-norm (mtu n) = refl
+norm-norm (route bits preference lifetime octets) = refl
+norm-norm (servers lifetime octets) = refl
+norm-norm (portal octets) = refl
+norm-norm (nat64 scaled bits octets) = refl
+
+data_shape-norm : (t : ℕ) (octets : List ℕ) → data_shape t (filled 2 octets) ≡ data_shape t octets
+data_shape-norm t octets =
+    ap (λ (n : ℕ). t ∷ n ∷ filled 2 (filled 2 octets)) (units-filled 2 octets)
+    ∙ ap (λ (l : List ℕ). t ∷ units (2 + length octets) ∷ l) (filled-filled 2 octets)
+
+list_shape-norm : (t lifetime : ℕ) (octets : List ℕ)
+    → list_shape t lifetime (filled 8 octets) ≡ list_shape t lifetime octets
+list_shape-norm t lifetime octets =
+    ap (λ (n : ℕ). t ∷ n ∷ 0 ∷ 0 ∷ (big_bytes 4 lifetime ++ filled 8 (filled 8 octets))) (units-filled 8 octets)
+    ∙ ap (λ (l : List ℕ). t ∷ units (8 + length octets) ∷ 0 ∷ 0 ∷ (big_bytes 4 lifetime ++ l)) (filled-filled 8 octets)
+
+shape-norm : (v : Value) → shape (norm v) ≡ shape v
+shape-norm (source octets) = data_shape-norm 1 octets
+shape-norm (target octets) = data_shape-norm 2 octets
+shape-norm (nonce octets) = data_shape-norm 14 octets
+shape-norm (search_list lifetime octets) = list_shape-norm 31 lifetime octets
+shape-norm (other t octets) = data_shape-norm t octets
+shape-norm (prefix bits on_link autonomous router valid preferred octets) = refl
+shape-norm (mtu n) = refl
+shape-norm (route bits preference lifetime octets) = refl
+shape-norm (servers lifetime octets) = refl
+shape-norm (portal octets) = refl
+shape-norm (nat64 scaled bits octets) = refl
+
+-- octets that were read fill their units
+data_kept : (bytes octets : List ℕ) (v : Value) → IsOption bytes v → octets ≡ drop 2 bytes → filled 2 octets ≡ octets
+data_kept bytes octets v m e =
+    filled-whole 2 (units_in bytes) octets (behind_long bytes octets 2 v (omega arith) m e)
+
+norm-read : (bytes : List ℕ) (v : Value) → IsOption bytes v → norm v ≡ v
+norm-read bytes (source octets) m = ap source (data_kept bytes octets (source octets) m m.content.1)
+norm-read bytes (target octets) m = ap target (data_kept bytes octets (target octets) m m.content.1)
+norm-read bytes (nonce octets) m = ap nonce (data_kept bytes octets (nonce octets) m m.content.1)
+norm-read bytes (search_list lifetime octets) m =
+    ap (search_list lifetime)
+    (filled-whole 8 (units_in bytes) octets
+    (behind_long bytes octets 8 (search_list lifetime octets) (omega arith) m m.content.2))
+norm-read bytes (other t octets) m = ap (other t) (data_kept bytes octets (other t octets) m m.content.2)
+norm-read bytes (prefix bits on_link autonomous router valid preferred octets) m = refl
+norm-read bytes (mtu n) m = refl
+norm-read bytes (route bits preference lifetime octets) m = refl
+norm-read bytes (servers lifetime octets) m = refl
+norm-read bytes (portal octets) m = refl
+norm-read bytes (nat64 scaled bits octets) m = refl
+
+pub option_format : IsFormat format
+option_format = record {
+  one_value = option-one;
+  reads_back = λ v fills c. option_read v c;
+  norm_canonical = norm-canonical;
+  norm_norm = norm-norm;
+  norm_text = λ v c regular. text-shape (norm v) ∙ shape-norm v ∙ sym (text-shape v);
+  accepted = λ bytes v are few m. content-canonical bytes v are m;
+  regular = λ bytes v m e. e;
+  kept = λ bytes v are c m uncut. norm-read bytes v m;
+}
+
+pub option_same_text : (a b : Value) → SameText format a b
+option_same_text a b = same_text format option_format tt a b
+
+-- an option that was read has 2,040 bytes at most
+pub option_rewrites : (bytes : List ℕ) (v : Value) → IsBytes bytes → IsOption bytes v → Rewrites format v
+option_rewrites bytes v are m =
+    rewrites format option_format bytes v are (omega (arith, m.passes.1.1.0, are 1)) m
+
+pub option_round_trips : (v : Value) → RoundTrips format v
+option_round_trips v = round_trips format option_format v

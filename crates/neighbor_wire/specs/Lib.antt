@@ -1,0 +1,15 @@
+pub mod Display
+pub mod Kind
+pub mod NameRefusal
+pub mod Names
+pub mod Nat64
+pub mod Option
+pub mod OptionFormat
+pub mod Options
+pub mod Preference
+pub mod Refusal
+pub mod Servers
+pub mod ServersDisplay
+pub mod Unwritten
+pub mod Writer
+pub mod private

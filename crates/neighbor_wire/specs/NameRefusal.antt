@@ -1,0 +1,8 @@
+-- Why octets don't begin with a domain name, in words.
+use Rattle.std.specs.Prelude.{ℕ, List, [], ◌∷◌, codes, decimal}
+use Rattle.wirebase.specs.Display.{pieces}
+use Rattle.neighbor_wire.specs.declared.names.NameRefusal.{NameRefusal}
+
+abbrev pub refusal_text : NameRefusal → List ℕ
+refusal_text NameRefusal.Cut = codes "the octets end before the name does"
+refusal_text (NameRefusal.Label n) = pieces (codes "a label of length " ∷ decimal n ∷ [])
