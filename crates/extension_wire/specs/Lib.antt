@@ -1,0 +1,10 @@
+pub mod ExtensionDisplay
+pub mod Interface
+pub mod InterfaceParts
+pub mod Mpls
+pub mod Object
+pub mod Objects
+pub mod Split
+pub mod Structure
+pub mod Writer
+pub mod private

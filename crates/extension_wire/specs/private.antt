@@ -1,0 +1,2 @@
+pub mod Mpls
+pub mod Objects

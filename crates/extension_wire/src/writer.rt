@@ -1,0 +1,153 @@
+//! What an error with extensions has behind its header, written (RFC 4884 sections 3 to 5, 7 and 8).
+
+ghost use Rattle.std.specs.Prelude.{◌≡◌, ◌≤◌, ◌<◌, ◌+◌, ◌^◌, ◌∷◌, [], map, length};
+ghost use Rattle.wirebase.specs.Bytes.{over};
+ghost use Rattle.wirebase.specs.ByteWriter.{fields, free, Puts};
+ghost use Rattle.extension_wire.specs.Object.{value_of as object_value, text as object_text, text_len as object_len};
+ghost use Rattle.extension_wire.specs.Writer.{value_of, objects_len, quoted_words, padded_len, quoted_fields};
+ghost use Rattle.extension_wire.specs.Writer.{structure_fields, structure_text, text_len, Emits, CanEmit};
+
+use crate::family::Family;
+use crate::object::Object;
+use crate::split::LEAST_QUOTE;
+use crate::structure;
+use wirebase::{ByteWriter, checksum};
+
+/// What an error with extensions has behind its header of 8 bytes: the original datagram, padded, and an extension
+/// structure with these objects. The error's own header has [`ErrorData::length`].
+#[derive(Debug, PartialEq, Eq, Clone, Copy)]
+pub struct ErrorData<'a> {
+    /// The version of ICMP.
+    pub family: Family,
+    /// The original datagram, as much of it as is quoted.
+    pub quoted: &'a [u8],
+    /// The objects. RFC 4884 asks for one at least, and for payloads of whole 32 bit words.
+    pub objects: &'a [Object<'a>],
+}
+
+impl<'a> ErrorData<'a> {
+    /// The length that the error's header has (byte 5 of ICMPv4, byte 4 of ICMPv6): the words of the padded quote, of 4
+    /// or of 8 bytes. Requires that it fits a byte: a quote of at most 1,020 bytes in ICMPv4, and 2,040 in ICMPv6.
+    pub fn length(&self) -> u8
+        requires { quoted_words self.now.family (length self.now.quoted.now) < 2 ^ 8 }
+        ensures { result ≡ quoted_words self.now.family (length self.now.quoted.now) }
+    {
+        quoted_words(self.family, self.quoted.len()) as u8
+    }
+
+    /// The bytes that are written. Requires that they are fewer than 65,536, as a datagram's are.
+    pub fn buffer_len(&self) -> usize
+        requires { text_len (value_of self.now) < 2 ^ 16 }
+        ensures { result ≡ text_len (value_of self.now) }
+    {
+        padded_len(self.family, self.quoted.len()) + structure_len(self.objects)
+    }
+
+    /// Writes the quote, padded with zeros to whole words and to 128 bytes at least, and the extension structure with
+    /// its checksum, over the front of the octets; the others are unchanged. Requires at least `buffer_len` bytes,
+    /// which are fewer than 65,536, and a [`ErrorData::length`] that fits a byte.
+    pub fn emit_into(&self, octets: &mut [u8])
+        requires { CanEmit (value_of self.now) octets.old }
+        ensures { Emits (value_of self.now) octets.old octets.new }
+    {
+        let mut w = ByteWriter::new(octets);
+        put_quoted(&mut w, self.family, self.quoted);
+        put_structure(&mut w, self.objects);
+    }
+}
+
+// The words of a quote of so many bytes with its padding.
+fn quoted_words(family: Family, len: usize) -> usize
+    requires { len < 2 ^ 63 }
+    ensures { result ≡ quoted_words family len }
+{
+    let least = if len < LEAST_QUOTE { LEAST_QUOTE } else { len };
+    (least + family.unit() - 1) / family.unit()
+}
+
+// The bytes of a quote with its padding.
+fn padded_len(family: Family, len: usize) -> usize
+    requires { len < 2 ^ 63 }
+    ensures { result ≡ padded_len family len }
+{
+    family.unit() * quoted_words(family, len)
+}
+
+// The bytes of a structure with these objects.
+fn structure_len(objects: &[Object<'_>]) -> usize
+    requires { objects_len (map object_value objects.now) < 2 ^ 16 }
+    ensures { result ≡ 4 + objects_len (map object_value objects.now) }
+{
+    let mut len = structure::HEADER_LEN;
+    for object in objects {
+        len += object.buffer_len();
+    }
+    len
+}
+
+// Writes a quote and its padding.
+fn put_quoted(w: &mut ByteWriter<'_>, family: Family, quoted: &[u8])
+    requires { padded_len family (length quoted.now) ≤ length (free w.old) }
+    ensures puts { Puts w.old w.new (quoted_fields family quoted.now) }
+    ensures room { length (free w.old)
+        ≡ padded_len family (length quoted.now) + length (free w.new) }
+{
+    w.put_bytes(quoted);
+    w.put_zeros(padded_len(family, quoted.len()) - quoted.len());
+}
+
+// Writes a structure.
+fn put_structure(w: &mut ByteWriter<'_>, objects: &[Object<'_>])
+    requires room { 4 + objects_len (map object_value objects.now) ≤ length (free w.old) }
+    requires fits { objects_len (map object_value objects.now) < 2 ^ 16 }
+    ensures { Puts w.old w.new (structure_text (map object_value objects.now) ∷ []) }
+{
+    write_structure(w.part(structure_len(objects)), objects);
+}
+
+// Writes a structure over the front of the octets, with the checksum of all of them.
+fn write_structure(octets: &mut [u8], objects: &[Object<'_>])
+    requires room { 4 + objects_len (map object_value objects.now) ≡ length octets.old }
+    requires fits { objects_len (map object_value objects.now) < 2 ^ 16 }
+    ensures { octets.new ≡ structure_text (map object_value objects.now) }
+{
+    write_fields(octets, objects);
+    checksum::fill(octets, structure::field::CHECKSUM, 0);
+}
+
+// Writes a structure over the octets, with a checksum of zero.
+#[tactic(auto, using(wirebase::proofs::Chains::chain))]
+fn write_fields(octets: &mut [u8], objects: &[Object<'_>])
+    requires room { 4 + objects_len (map object_value objects.now) ≤ length octets.old }
+    requires fits { objects_len (map object_value objects.now) < 2 ^ 16 }
+    ensures { octets.new ≡ over octets.old (fields (structure_fields (map object_value objects.now))) }
+{
+    let mut w = ByteWriter::new(octets);
+    w.put_u8(structure::VERSION * 16);
+    w.put_u8(0);
+    w.put_u16(0);
+    put_objects(&mut w, objects);
+}
+
+// Writes objects one after another.
+#[tactic(auto, using(std::proofs::lemmas::List::drop_all))]
+fn put_objects(w: &mut ByteWriter<'_>, objects: &[Object<'_>])
+    requires room { objects_len (map object_value objects.now) ≤ length (free w.old) }
+    requires fits { objects_len (map object_value objects.now) < 2 ^ 16 }
+    ensures { Puts w.old w.new (map object_text (map object_value objects.now)) }
+{
+    for object in objects {
+        put_object(w, object);
+    }
+}
+
+// Writes an object.
+fn put_object(w: &mut ByteWriter<'_>, object: &Object<'_>)
+    requires room { object_len (object_value object.now) ≤ length (free w.old) }
+    requires fits { object_len (object_value object.now) < 2 ^ 16 }
+    ensures puts { Puts w.old w.new (object_text (object_value object.now) ∷ []) }
+    ensures room { length (free w.old)
+        ≡ object_len (object_value object.now) + length (free w.new) }
+{
+    object.put(w);
+}
