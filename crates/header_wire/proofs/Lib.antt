@@ -1,0 +1,5 @@
+pub mod HeaderFormat
+pub mod HeaderTexts
+pub mod MessageFormat
+pub mod OptionTiles
+pub mod RoutersAhead

@@ -1,0 +1,15 @@
+//! The tests of `header_wire`, over its public calls.
+#![tactic(auto)]
+
+#[cfg(test)]
+mod headers;
+#[cfg(test)]
+mod messages;
+#[cfg(test)]
+mod options;
+#[cfg(test)]
+mod refused_messages;
+#[cfg(test)]
+mod routers;
+#[cfg(test)]
+mod testing;
