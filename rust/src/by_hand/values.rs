@@ -52,8 +52,8 @@
 
 use crate::{
     Error, EthernetAddress, Ipv4Address, Ipv6Address, Ipv6Refusal, RawHardwareAddress, dhcpv4, dns,
-    frames, icmpv4, icmpv6, igmp, ipv6ext_header, ipv6hbh, ipv6option, mld, ndisc, ndiscoption,
-    quotes, record,
+    extensions, frames, groups, headers, icmpv4, icmpv6, igmp, ipv6ext_header, ipv6hbh, ipv6option,
+    mld, ndisc, ndiscoption, neighbors, quotes, record,
 };
 use core::cmp::Ordering;
 use core::fmt;
@@ -70,9 +70,19 @@ errors! {
     dhcpv4::Refusal,
     dns::NameRefusal,
     dns::Refusal,
+    extensions::InterfaceRefusal,
+    extensions::LabelRefusal,
+    extensions::ObjectRefusal,
+    extensions::SplitRefusal,
+    extensions::StructureRefusal,
     frames::datagram::Refusal,
     frames::link::Refusal,
     frames::udp::Refusal,
+    groups::Full,
+    groups::Refusal,
+    headers::OptionRefusal,
+    headers::icmpv4::Refusal,
+    headers::ipv4::Refusal,
     icmpv4::Refusal,
     icmpv6::Refusal,
     igmp::Refusal,
@@ -83,6 +93,9 @@ errors! {
     mld::Refusal,
     ndisc::Refusal,
     ndiscoption::Refusal,
+    neighbors::NameRefusal,
+    neighbors::Refusal,
+    neighbors::Unwritten,
     quotes::icmpv4_error::Refusal,
     quotes::message::Icmpv4Refusal,
     quotes::message::Icmpv6Refusal,

@@ -5,12 +5,20 @@
 mod captures;
 mod dhcp;
 mod dns;
+#[cfg(feature = "later")]
+mod extensions;
 mod frames;
+#[cfg(feature = "later")]
+mod groups;
+#[cfg(feature = "later")]
+mod headers;
 mod icmpv4;
 mod icmpv6;
 mod measure;
 mod messages;
 mod names;
+#[cfg(feature = "later")]
+mod neighbors;
 mod options;
 mod quotes;
 mod random;
@@ -19,7 +27,7 @@ mod texts;
 /// A group of cases, and what runs it.
 type Group = (&'static str, fn());
 
-const GROUPS: [Group; 10] = [
+const GROUPS: &[Group] = &[
     ("icmpv4", icmpv4::cases),
     ("icmpv6", icmpv6::cases),
     ("quotes", quotes::cases),
@@ -30,6 +38,14 @@ const GROUPS: [Group; 10] = [
     ("frames", frames::cases),
     ("captures", captures::cases),
     ("texts", texts::cases),
+    #[cfg(feature = "later")]
+    ("groups", groups::cases),
+    #[cfg(feature = "later")]
+    ("neighbors", neighbors::cases),
+    #[cfg(feature = "later")]
+    ("extensions", extensions::cases),
+    #[cfg(feature = "later")]
+    ("headers", headers::cases),
 ];
 
 fn main() {

@@ -1,0 +1,11 @@
+// Made from crates/header_wire/src/lib.rt by rust/erase.
+//! Headers of IPv4 with their options (RFC 791, RFC 2113), and messages of ICMPv4 beside echoes and errors (RFC 792,
+//! RFC 950, RFC 1256, RFC 8335), read and written with their checksums.
+
+pub mod icmpv4;
+pub mod ipv4;
+pub mod options;
+
+pub use icmpv4::Message;
+pub use ipv4::Header;
+pub use options::{Ipv4Option, OptionRefusal, Options, ROUTER_ALERT, router_alert};

@@ -1,0 +1,71 @@
+// Made from crates/neighbor_wire/src/servers.rt by rust/erase.
+//! The addresses of recursive DNS servers, in turn (RFC 8106 section 5.1).
+
+use crate::wirebase::Ipv6Address;
+use core::fmt;
+
+// The bytes of an address.
+const WIDTH: usize = 16;
+
+/// Addresses, one after another.
+#[derive(Debug, PartialEq, Eq, Clone, Copy)]
+pub struct Servers<'a> {
+    pub(crate) octets: &'a [u8],
+}
+
+impl<'a> Servers<'a> {
+    /// The addresses in these octets, of 16 octets each; fewer octets at the end are ignored.
+    pub const fn new(octets: &'a [u8]) -> Servers<'a> {
+        Servers { octets }
+    }
+
+    /// How many they are.
+    pub fn len(&self) -> usize {
+        self.octets.len() / WIDTH
+    }
+
+    /// The addresses in turn.
+    pub fn iter(&self) -> ServersIterator<'a> {
+        ServersIterator { rest: self.octets }
+    }
+}
+
+/// The addresses of recursive DNS servers in turn.
+#[derive(Debug, Clone)]
+pub struct ServersIterator<'a> {
+    // The octets after the addresses that were given already.
+    rest: &'a [u8],
+}
+
+impl<'a> Iterator for ServersIterator<'a> {
+    type Item = Ipv6Address;
+
+    fn next(&mut self) -> Option<Ipv6Address> {
+        if self.rest.len() < WIDTH {
+            return None;
+        }
+        let (server, behind) = self.rest.split_at(WIDTH);
+        self.rest = behind;
+        Some(read_address(server))
+    }
+}
+
+// The address of these octets.
+fn read_address(octets: &[u8]) -> Ipv6Address {
+    Ipv6Address::from_octets(octets.try_into().unwrap())
+}
+
+/// Prints each address after a space.
+impl fmt::Display for Servers<'_> {
+    fn fmt(&self, f: &mut fmt::Formatter<'_>) -> fmt::Result {
+        fmt_servers(f, self.octets)
+    }
+}
+
+// Prints each address after a space.
+fn fmt_servers(f: &mut fmt::Formatter<'_>, octets: &[u8]) -> fmt::Result {
+    for server in (ServersIterator { rest: octets }) {
+        write!(f, " {server}")?;
+    }
+    Ok(())
+}

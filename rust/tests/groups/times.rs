@@ -1,0 +1,98 @@
+// Made from crates/tests_groups/src/times.rt by rust/erase.
+//! The times of queries and the versions of messages.
+
+use crate::testing::same_of;
+use control_wire::groups::{Membership, Message, Query, Sources};
+use control_wire::{Duration, Ipv4Address, Ipv6Address};
+
+// A query of version 3 with these codes.
+fn query_of(max_resp_code: u16, qqic: u8) -> Query<'static, Ipv4Address> {
+    Query {
+        max_resp_code,
+        group: Ipv4Address::UNSPECIFIED,
+        s_flag: false,
+        qrv: 2,
+        qqic,
+        sources: Sources::none(),
+    }
+}
+
+// Ten seconds of version 1 (RFC 2236 section 4), tenths of a second of version 2, and those with an exponent of version
+// 3 (RFC 3376 section 4.1.1).
+#[test]
+fn times_of_igmp() {
+    for (code, millis) in [
+        (0, 10_000),
+        (1, 100),
+        (100, 10_000),
+        (200, 20_000),
+        (255, 25_500),
+    ] {
+        let query: Membership<'_, Ipv4Address> = Message::OlderQuery {
+            max_resp_code: code,
+            group: Ipv4Address::UNSPECIFIED,
+        };
+        same_of(
+            code,
+            query.max_resp_time(),
+            Some(Duration::from_millis(millis)),
+        );
+        same_of(code, query.version(), if code == 0 { 1 } else { 2 });
+    }
+    for (code, millis) in [
+        (0, 0),
+        (127, 12_700),
+        (128, 12_800),
+        (0x89, 20_000),
+        (200, 307_200),
+        (255, 3_174_400),
+    ] {
+        let query: Membership<'_, Ipv4Address> = Message::Query(query_of(code, 0));
+        same_of(
+            code,
+            query.max_resp_time(),
+            Some(Duration::from_millis(millis)),
+        );
+    }
+    for (code, secs) in [(0, 0), (125, 125), (0x89, 200), (255, 31_744)] {
+        same_of(
+            code,
+            query_of(0, code).interval(),
+            Duration::from_secs(secs),
+        );
+    }
+}
+
+// Milliseconds of version 1 (RFC 2710 section 3.4), and those with an exponent of version 2 (RFC 3810 section 5.1.3).
+#[test]
+fn times_of_mld() {
+    let group = Ipv6Address::UNSPECIFIED;
+    for code in [0, 1, 10_000, 65_535] {
+        let query: Membership<'_, Ipv6Address> = Message::OlderQuery {
+            max_resp_code: code,
+            group,
+        };
+        same_of(
+            code,
+            query.max_resp_time(),
+            Some(Duration::from_millis(code as u64)),
+        );
+    }
+    for (code, millis) in [(10_000, 10_000), (0x8000, 32_768), (0xffff, 8_387_584)] {
+        let query: Membership<'_, Ipv6Address> = Message::Query(Query {
+            max_resp_code: code,
+            group,
+            s_flag: false,
+            qrv: 2,
+            qqic: 125,
+            sources: Sources::none(),
+        });
+        same_of(
+            code,
+            query.max_resp_time(),
+            Some(Duration::from_millis(millis)),
+        );
+    }
+    let leave: Membership<'_, Ipv6Address> = Message::Leave { group };
+    same_of("leave", leave.max_resp_time(), None);
+}
