@@ -1,5 +1,5 @@
 -- An object behind those of packets.
-use Rattle.std.proofs.Common.{◌≡◌, ◌++◌, Bool, Err, List, Ok, OnOk, Option, Result, append_assoc, codes, subst, ℕ}
+use Rattle.std.proofs.Common.{◌≡◌, ◌++◌, Err, List, Ok, OnOk, Option, Result, append_assoc, codes, subst, ℕ}
 use Rattle.std.proofs.lemmas.Grind.{flat_map-append}
 use Rattle.packet_fields.specs.Fields.{Item}
 unfoldable use Rattle.packet_fields.specs.Fields.{items_text}

@@ -1,7 +1,7 @@
 -- Which packet answers which, and what is printed of that.
-use Rattle.std.specs.Prelude.{◌≡◌, ◌==◌, [], ◌∷◌, ◌++◌, ◌&&◌, Bool, List, None, Option, Some, codes, decimal, false}
+use Rattle.std.specs.Prelude.{◌≡◌, ◌==◌, [], ◌∷◌, ◌++◌, Bool, List, None, Option, Some, codes, decimal, false}
 use Rattle.std.specs.Prelude.{flat_map}
-use Rattle.std.specs.Prelude.{if◌then◌else◌, map, not, true, ℕ}
+use Rattle.std.specs.Prelude.{if◌then◌else◌, map, true, ℕ}
 use Rattle.frame_wire.specs.declared.datagram.Addresses.{Addresses}
 use Rattle.message_fields.specs.Checksums.{MessageValue}
 use Rattle.packet_fields.specs.Fields.{Item, field, items_text, number, text}
@@ -18,7 +18,6 @@ use Rattle.dump_captures.specs.Arrival.{ArrivalValue, moment_in}
 use Rattle.dump_captures.specs.Content.{ContentValue}
 use Rattle.dump_captures.specs.Content as content
 use Rattle.dump_captures.specs.Heading.{file_items}
-use Rattle.dump_captures.specs.Sight.{HeadersValue}
 use Rattle.dump_captures.specs.declared.kind.Reason.{Reason}
 use Rattle.dump_captures.specs.declared.kind.Reason.TheVariants.{Checksum}
 use Rattle.dump_captures.specs.declared.options.Options.{Options}

@@ -1,5 +1,5 @@
 -- What is kept of the messages of a capture, and what a packet changes of it.
-use Rattle.std.specs.Prelude.{◌≡◌, ◌&&◌, ◌||◌, Bool, List, None, Option, Some, false, not, true, ℕ}
+use Rattle.std.specs.Prelude.{◌≡◌, ◌&&◌, ◌||◌, Bool, None, Option, Some, false, not, true, ℕ}
 use Rattle.std.specs.Option.{option_and_then}
 use Rattle.frame_wire.specs.declared.datagram.Addresses.{Addresses}
 use Rattle.message_fields.specs.Checksums.{MessageValue}

@@ -15,18 +15,13 @@ use Rattle.wirebase.proofs.Format.{IsFormat, round_trips}
 use Rattle.wirebase.proofs.Pieces.{part-whole, over-exact}
 use Rattle.wirebase.proofs.ByteParts.{IsBytes-drop, IsBytes-front}
 use Rattle.wirebase.proofs.WideParts.{number_of-small4}
+use Rattle.wirebase.proofs.Parses.{same_flag}
 use Rattle.extension_wire.specs.declared.mpls.LabelEntry.{LabelEntry}
 use Rattle.extension_wire.specs.Mpls.{IsCanonical, stack_text, EmitsAll, entry_number, text, IsEntry, Fits, format}
 use Rattle.extension_wire.specs.Mpls.{Emits, AreEntries}
 use Rattle.extension_wire.specs.private.Mpls.{entry_of, entries_ahead, entries_in}
 
 -- ---- one entry
-
-same_flag : (a b : Bool) (P : Type 0) → (IsTrue a ↔ P) → (IsTrue b ↔ P) → a ≡ b
-same_flag true true P f g = refl
-same_flag false false P f g = refl
-same_flag true false P f g = absurd (let no = g.1 (f.0 refl) in cc)
-same_flag false true P f g = absurd (let no = f.1 (g.0 refl) in cc)
 
 entry_with : ℕ → ℕ → Bool → ℕ → LabelEntry
 entry_with label class bottom ttl = record { label = label; traffic_class = class; bottom = bottom; ttl = ttl }

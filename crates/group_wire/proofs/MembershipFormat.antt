@@ -14,6 +14,7 @@ use Rattle.wirebase.proofs.ByteParts.{number_of-small}
 use Rattle.wirebase.proofs.ChecksumSeals.{IsGood-sealed, length-sealed}
 use Rattle.wirebase.proofs.Format.{IsFormat, same_text}
 use Rattle.wirebase.proofs.Pieces.{length-part}
+use Rattle.wirebase.proofs.Parses.{same_flag}
 use Rattle.group_wire.specs.declared.family.Family.{Family}
 use Rattle.group_wire.specs.declared.family.Kind.{Kind}
 use Rattle.group_wire.specs.Family.{width, group_at, older_len, kind_of}
@@ -214,12 +215,6 @@ content-kind f bytes (oldest_report group) m = m.0
 content-kind f bytes (older_report group) m = m.0
 content-kind f bytes (leave group) m = m.0
 content-kind f bytes (report count records) m = m.0
-
-same_flag : (a b : Bool) (P : Type 0) → (IsTrue a ↔ P) → (IsTrue b ↔ P) → a ≡ b
-same_flag true true P f g = refl
-same_flag false false P f g = refl
-same_flag true false P f g = absurd (let no = g.1 (f.0 refl) in cc)
-same_flag false true P f g = absurd (let no = f.1 (g.0 refl) in cc)
 
 content-one : (f : Family) (bytes : List ℕ) (v w : Value) → IsContent f bytes v → IsContent f bytes w → v ≡ w
 unfolding kind_of_value

@@ -12,13 +12,6 @@ use Rattle.group_wire.specs.Sources.{AreSources}
 use Rattle.group_wire.specs.Sources.{sources_ahead, sources_in}
 use Rattle.group_wire.proofs.Families.{div_more, div_none, div_fits}
 
--- an answer that is taken off leaves fewer
-pub first_off : {X A : Type 0} (old new : List X) (first : X) (given : A) → old ≡ first ∷ new
-    → MakesProgress {S = List X} {A = A} (λ _. Unit {0}) (λ answers. at_most (length answers)) old (Some given) new
-first_off old new first given e =
-    let fewer : length new < length old = omega (arith, ap length e) in
-    record { on = λ _. (tt, tt, fewer); keeps = tt; rests = λ _. tt }
-
 length-sources : (w n : ℕ) (bytes : List ℕ) → length (sources_ahead w n bytes) ≡ n
 unfolding sources_ahead
 length-sources w zero bytes = refl

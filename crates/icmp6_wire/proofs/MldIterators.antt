@@ -18,13 +18,6 @@ use Rattle.icmp6_wire.specs.MldRefusal.{RefusesRecord}
 use Rattle.icmp6_wire.specs.MldIterators.{Answer, AreRecords, ends, goes_on, breaks, AreSources}
 use Rattle.icmp6_wire.specs.private.MldIterators.{first_refusal, after_record, records_ahead, sources_ahead, sources_in}
 
--- an answer that is taken off leaves fewer
-pub first_off : {X A : Type 0} (old new : List X) (first : X) (given : A) → old ≡ first ∷ new
-    → MakesProgress {S = List X} {A = A} (λ _. Unit {0}) (λ answers. at_most (length answers)) old (Some given) new
-first_off old new first given e =
-    let fewer : length new < length old = omega (arith, ap length e) in
-    record { on = λ _. (tt, tt, fewer); keeps = tt; rests = λ _. tt }
-
 -- ---- records
 
 -- a front with all fields of a record tells how many bytes it has

@@ -5,6 +5,7 @@ use Rattle.std.proofs.lemmas.List.{append-nil, length-map}
 use Rattle.byteorder.specs.Endian.{big_bytes}
 use Rattle.icmp6_wire.specs.Words.{be8, be16, fields, octets_of, Ipv6Address}
 use Rattle.wirebase.proofs.Ipv6Header.{same_address}
+use Rattle.wirebase.proofs.Parses.{same_flag}
 use Rattle.icmp6_wire.specs.Mld.{MldValue, query, report, records, sqrv, query_fields, report_fields}
 use Rattle.icmp6_wire.specs.Mld.{record_texts, text, text_len, IsContent, IsMessage}
 use Rattle.icmp6_wire.specs.MldRecord.{RecordValue, text as record_text}
@@ -51,12 +52,6 @@ text_some v = grind arith
 pub ruleset counts = (length-map, length-text)
 
 -- ---- one message at most
-
-same_flag : (a b : Bool) (P : Type 0) → (IsTrue a ↔ P) → (IsTrue b ↔ P) → a ≡ b
-same_flag true true P f g = refl
-same_flag false false P f g = refl
-same_flag true false P f g = absurd (let no = g.1 (f.0 refl) in cc)
-same_flag false true P f g = absurd (let no = f.1 (g.0 refl) in cc)
 
 content-one : (bytes : List ℕ) (v w : MldValue) → IsContent bytes v → IsContent bytes w → v ≡ w
 content-one bytes (query code group flag qrv qqic sources d) (query other another other_flag more many few e) a b =

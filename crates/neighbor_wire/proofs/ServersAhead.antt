@@ -8,13 +8,6 @@ use Rattle.std.proofs.lemmas.List.{length-take-le, length-drop}
 use Rattle.neighbor_wire.specs.Servers.{AreServers}
 use Rattle.neighbor_wire.specs.Servers.{servers_ahead, servers_in}
 
--- an answer that is taken off leaves fewer
-pub first_off : {X A : Type 0} (old new : List X) (first : X) (given : A) → old ≡ first ∷ new
-    → MakesProgress {S = List X} {A = A} (λ _. Unit {0}) (λ answers. at_most (length answers)) old (Some given) new
-first_off old new first given e =
-    let fewer : length new < length old = omega (arith, ap length e) in
-    record { on = λ _. (tt, tt, fewer); keeps = tt; rests = λ _. tt }
-
 length-servers : (n : ℕ) (bytes : List ℕ) → length (servers_ahead n bytes) ≡ n
 unfolding servers_ahead
 length-servers zero bytes = refl

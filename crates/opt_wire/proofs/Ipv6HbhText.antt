@@ -1,6 +1,6 @@
 -- The texts of options one after another.
 use Rattle.opt_wire.proofs.Words.{[], ◌++◌, ◌+◌, ◌∙◌, ◌∷◌, ◌≡◌, List, OptionValue, ℕ, ap, arith, fields, length}
-use Rattle.opt_wire.proofs.Words.{length-append, refl, sum_by-cons, sym, take}
+use Rattle.opt_wire.proofs.Words.{length-append, refl, sum_by-cons, sym}
 use Rattle.opt_wire.specs.Ipv6Option as option
 use Rattle.opt_wire.specs.Ipv6Hbh.{text, text_len, HaveData, norm}
 use Rattle.opt_wire.proofs.Ipv6OptionText as texts

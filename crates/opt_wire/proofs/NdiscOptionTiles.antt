@@ -175,10 +175,3 @@ pub gives : (result : Result Repr Refusal) (bytes : List ℕ) (old new : List An
     → IfErr result (λ refusal. Refuses bytes refusal) → old ≡ Ok bytes ∷ new → GivesOption old (Some result) new
 gives (Ok r) bytes old new sound unread told e = (bytes, sound, e)
 gives (Err refusal) bytes old new sound unread told e = inr (bytes, unread refl, told, e)
-
--- an answer that is taken off leaves fewer
-pub first_off : {A : Type 0} (old new : List Answer) (first : Answer) (given : A) → old ≡ first ∷ new
-    → MakesProgress {S = List Answer} {A = A} (λ _. Unit {0}) (λ answers. at_most (length answers)) old (Some given) new
-first_off old new first given e =
-    let fewer : length new < length old = omega (arith, ap length e) in
-    record { on = λ _. (tt, tt, fewer); keeps = tt; rests = λ _. tt }

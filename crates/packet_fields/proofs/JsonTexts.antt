@@ -7,7 +7,7 @@ use Rattle.json.specs.Tree.{HasNumbers, ItemsHaveNumbers, MembersHaveNumbers}
 use Rattle.json.specs.Tree as tree
 use Rattle.json.proofs.Printed.Decimals.{IsNumber-decimal}
 use Rattle.json.proofs.Printed.Trees.{document-print}
-use Rattle.serde_json.specs.Data.{Items, Members}
+use Rattle.serde_json.specs.Data.{Members}
 use Rattle.serde_json.specs.Data as values
 use Rattle.serde_json.specs.Written.{compact_text, items_text as values_text, members_text, outline, items_outline, members_outline}
 use Rattle.serde_json.proofs.Texts.{print-outline}

@@ -1,5 +1,5 @@
 -- Texts that are printed one after another.
-use Rattle.std.proofs.Common.{◌≡◌, ◌∙◌, ◌==◌, [], ◌∷◌, ◌++◌, Bool, List, Ok, OnOk, Option, Result, ℕ, ap, append_assoc}
+use Rattle.std.proofs.Common.{◌≡◌, ◌∙◌, ◌==◌, [], ◌∷◌, ◌++◌, Bool, List, OnOk, Option, Result, ℕ, ap, append_assoc}
 use Rattle.std.proofs.Common.{drop, false, flat_map, refl, subst, sym, take, true}
 use Rattle.std.proofs.lemmas.Grind.{flat_map-append}
 use Rattle.std.proofs.lemmas.List.{append-nil}

@@ -1,5 +1,5 @@
 -- What messages of DNS, of multicast DNS and of LLMNR say (RFC 1035 section 4.1, RFC 6762, RFC 4795).
-use Rattle.std.specs.Prelude.{◌≡◌, ◌<◌, ◌≤◌, [], ◌∷◌, ◌++◌, List, None, Option, suc, zero, ℕ}
+use Rattle.std.specs.Prelude.{◌≡◌, ◌<◌, ◌≤◌, [], ◌∷◌, ◌++◌, List, Option, suc, zero, ℕ}
 use Rattle.wirebase.specs.Bytes.{Reaches, number_of}
 use Rattle.dns_wire.specs.DnsPacket.{header, payload_in, question_count_field, rcode_in}
 use Rattle.dns_fields.specs.Header.{word_in}

@@ -1,6 +1,6 @@
 -- Errors of ICMPv6 (RFC 4443 section 3): a destination that is unreachable, a packet that is too big, a time that was
 -- exceeded, a parameter that is wrong.
-use Rattle.std.specs.Prelude.{◌≡◌, ℕ, ◌/◌, ◌%◌, ◌^◌, ◌==◌, ◌<◌, ◌≤◌, List, [], ◌∷◌, length, slice_index, if◌then◌else◌}
+use Rattle.std.specs.Prelude.{◌≡◌, ℕ, ◌/◌, ◌%◌, ◌^◌, ◌==◌, ◌≤◌, List, [], ◌∷◌, length, slice_index, if◌then◌else◌}
 use Rattle.std.specs.Prelude.{Option, Some, None, codes, decimal}
 use Rattle.wirebase.specs.declared.capabilities.ChecksumCapabilities.{ChecksumCapabilities}
 use Rattle.wirebase.specs.declared.ip.IpProtocol.{IpProtocol}

@@ -2,12 +2,12 @@
 use Rattle.std.proofs.Common.{◌≡◌, ◌<◌, ◌++◌, ◌∙◌, [], ◌∷◌, List, true, false, ap, sym, subst}
 use Rattle.std.proofs.Common.{arith, length, refl}
 use Rattle.std.proofs.lemmas.List.{append-nil, length-map}
-use Rattle.reassembly.specs.Answer.{AnswerValue, incomplete}
+use Rattle.reassembly.specs.Answer.{AnswerValue}
 use Rattle.reassembly.specs.Answer as answer
 use Rattle.reassembly.specs.Arrivals.{AnyOrder, AreAllOf, AreOf, Arrival, Come, Reorders, TakesOut, piece_from}
 use Rattle.reassembly.specs.Arrivals.{pieces_from}
 use Rattle.reassembly.specs.Fragment.{FragmentValue, IsMalformed, IsSound, key_of}
-use Rattle.reassembly.specs.Partial.{PartialValue, TakenValue, Takes, completes, discarded_of, joined, keeps, kept}
+use Rattle.reassembly.specs.Partial.{PartialValue, TakenValue, Takes, completes, joined, keeps, kept}
 use Rattle.reassembly.specs.Partial.{most_pieces, overfills, overlaps, passes_end, remembered, repeated, with_fragment}
 use Rattle.reassembly.specs.Partial as partial
 use Rattle.reassembly.specs.Piece.{PieceValue, StandsToAll, Tiles, placed}
@@ -15,7 +15,7 @@ use Rattle.reassembly.specs.Reassembly.{Adds, IsUnknown, answered, begins, begun
 use Rattle.reassembly.specs.Reassembly.{most_datagrams}
 use Rattle.reassembly.specs.Types.{Key, Refusal, Standing}
 use Rattle.reassembly.proofs.Marks as marks
-use Rattle.reassembly.proofs.Marks.{Comes, InOrder, Marks, all_here, all_of, comes, counted, here_of, none_of, none-all}
+use Rattle.reassembly.proofs.Marks.{InOrder, Marks, all_here, all_of, comes, counted, here_of, none_of, none-all}
 use Rattle.reassembly.proofs.Marks.{none-here, none-left, out_of, stands_apart, tiles-all, tiles-order}
 
 -- ---- one fragment

@@ -2,7 +2,7 @@
 use Rattle.std.specs.Prelude.{◌≡◌, ◌≢◌, ◌<◌, ◌≤◌, List, [], ◌∷◌, ◌++◌, None, Some, false, length, map, ℕ}
 use Rattle.reassembly.specs.Answer.{AnswerValue, incomplete, refused, whole}
 use Rattle.reassembly.specs.Fragment.{FragmentValue, IsMalformed, IsSound, key_of}
-use Rattle.reassembly.specs.Partial.{PartialValue, TakenValue, Takes, WholeValue, partial_of}
+use Rattle.reassembly.specs.Partial.{PartialValue, TakenValue, Takes, partial_of}
 use Rattle.reassembly.specs.Partial as partial
 use Rattle.reassembly.specs.Piece.{piece_in}
 use Rattle.reassembly.specs.Types.{Key, Reassembly, Refusal}

@@ -1,5 +1,5 @@
 -- What private functions and models need; no public clause rests on it.
-use Rattle.std.specs.Prelude.{ℕ, zero, suc, ◌+◌, if◌then◌else◌, ◌-◌}
+use Rattle.std.specs.Prelude.{ℕ, zero, suc, ◌+◌, if◌then◌else◌}
 use Rattle.capture.specs.Calendar.{is_leap, month_days}
 use Rattle.capture.specs.Types.{Time}
 

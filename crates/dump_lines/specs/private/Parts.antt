@@ -1,7 +1,7 @@
 -- What private functions and models need; no public clause rests on it.
 use Rattle.std.specs.Io.KnownBytes.{Consumes, IsAtEnd}
 use Rattle.std.specs.Prelude.{◌≡◌, ◌≢◌, ℕ, Bool, List, [], Option, None, Some, ◌⊎◌, true, false, ◌∷◌, ◌++◌, All, OnSome}
-use Rattle.std.specs.Prelude.{length, ◌+◌, ◌-◌, ◌%◌, ◌==◌, ◌&&◌, nat_le}
+use Rattle.std.specs.Prelude.{length, ◌+◌, ◌%◌, ◌==◌, ◌&&◌, nat_le}
 use Rattle.packet_fields.specs.Output.{Gains, GainsSome}
 use Rattle.dump_lines.specs.BufferedLines.{IsFirst}
 use Rattle.dump_lines.specs.Listing.{Shape, LinePrints, is_known}

@@ -1,7 +1,6 @@
 -- The records of a report in turn, each with its sources and its auxiliary data (RFC 3810 section 5.2), and the sources
 use Rattle.std.specs.Prelude.{ℕ, zero, suc, ◌/◌, nat_le, Bool, true, false, List, [], ◌∷◌, length, take, drop, Ok, Err}
 use Rattle.icmp6_wire.specs.Words.{RecordRefusal}
-use Rattle.icmp6_wire.specs.Mld.{records}
 use Rattle.icmp6_wire.specs.MldRecord.{record_len_in}
 use Rattle.icmp6_wire.specs.MldIterators.{Answer}
 

@@ -2,7 +2,7 @@ use Rattle.std.proofs.Common.{ℕ, ◌-◌, List, ◌∷◌, refl, sym, ap, ◌�
 use Rattle.group_wire.specs.Family.{width}
 use Rattle.group_wire.specs.Records.{records_ahead}
 use Rattle.group_wire.proofs.RecordsAhead.{none_ahead, record_ahead, cut_ahead, front_whole}
-use Rattle.group_wire.proofs.SourcesAhead.{first_off}
+use Rattle.wirebase.proofs.Answers.{first_off}
 use Rattle.group_wire.proofs.records.RecordsIteratorIterator.next.Goals as goal
 
 pub returns-then-self-eq0-clause-steps : goal.returns-then-self-eq0-clause-steps

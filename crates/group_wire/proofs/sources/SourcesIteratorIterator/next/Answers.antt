@@ -1,7 +1,8 @@
 use Rattle.std.proofs.Common.{◌≡◌, List, ◌∷◌, ℕ, take, rules, sym, ap, ◌∙◌}
 use Rattle.group_wire.specs.Family.{width}
 use Rattle.group_wire.specs.Sources.{sources_in}
-use Rattle.group_wire.proofs.SourcesAhead.{no_source_ahead, source_ahead, first_off}
+use Rattle.group_wire.proofs.SourcesAhead.{no_source_ahead, source_ahead}
+use Rattle.wirebase.proofs.Answers.{first_off}
 use Rattle.group_wire.proofs.sources.SourcesIteratorIterator.next.Goals as goal
 
 pub returns-then-self-width-clause-steps : goal.returns-then-self-width-clause-steps

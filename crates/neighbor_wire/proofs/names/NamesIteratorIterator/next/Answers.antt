@@ -1,7 +1,7 @@
 use Rattle.std.proofs.Common.{sym, ◌∙◌}
 use Rattle.neighbor_wire.specs.Names.{Stops}
 use Rattle.neighbor_wire.proofs.NamesAhead.{next-end, next-name, next-refusal}
-use Rattle.neighbor_wire.proofs.ServersAhead.{first_off}
+use Rattle.wirebase.proofs.Answers.{first_off}
 use Rattle.neighbor_wire.proofs.names.NamesIteratorIterator.next.Goals as goal
 
 pub returns-then-stops-clause-steps : goal.returns-then-stops-clause-steps

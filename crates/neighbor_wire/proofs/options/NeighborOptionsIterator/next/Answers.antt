@@ -1,7 +1,7 @@
 use Rattle.std.proofs.Common.{[], ◌<◌, ◌∙◌, arith, inl, length, refl, sym}
 use Rattle.std.proofs.lemmas.Bool.{eqb-false, eqb-true}
 use Rattle.neighbor_wire.proofs.OptionTiles.{next-end, next-block, next-refusal, gives}
-use Rattle.neighbor_wire.proofs.ServersAhead.{first_off}
+use Rattle.wirebase.proofs.Answers.{first_off}
 use Rattle.neighbor_wire.proofs.options.NeighborOptionsIterator.next.Goals as goal
 
 pub returns-then-is_empty-clause-steps : goal.returns-then-is_empty-clause-steps

@@ -1,7 +1,8 @@
 use Rattle.std.proofs.Common.{◌≡◌, List, ◌∷◌, ℕ, take, sym, ap, ◌∙◌}
 use Rattle.wirebase.specs.Ipv6Address.{octets_of}
 use Rattle.neighbor_wire.specs.Servers.{servers_in}
-use Rattle.neighbor_wire.proofs.ServersAhead.{no_server_ahead, server_ahead, first_off}
+use Rattle.neighbor_wire.proofs.ServersAhead.{no_server_ahead, server_ahead}
+use Rattle.wirebase.proofs.Answers.{first_off}
 use Rattle.neighbor_wire.proofs.servers.ServersIteratorIterator.next.Goals as goal
 
 pub returns-then-self-lt-WIDTH-clause-steps : goal.returns-then-self-lt-WIDTH-clause-steps

@@ -4,7 +4,7 @@ use Rattle.std.proofs.lemmas.Grind.{common_steps}
 use Rattle.std.proofs.lemmas.List.{length-map}
 use Rattle.std.specs.List.{insert}
 use Rattle.reassembly.specs.Fragment.{value_of}
-use Rattle.reassembly.specs.Partial.{PartialValue, completes, joined, keeps, partial_of, with_fragment}
+use Rattle.reassembly.specs.Partial.{completes, joined, keeps, partial_of, with_fragment}
 use Rattle.reassembly.specs.Partial as partial
 use Rattle.reassembly.specs.Piece.{Tiles, piece_in, piece_of, placed}
 use Rattle.reassembly.proofs.Places.{inserted, told, told_not}

@@ -1,7 +1,8 @@
 use Rattle.std.proofs.Common.{◌≡◌, ℕ, ◌+◌, ◌*◌, take, drop, arith, ap, sym, ◌∙◌}
 use Rattle.std.proofs.Common.{inl, inr}
 use Rattle.header_wire.specs.Routers.{entry_len}
-use Rattle.header_wire.proofs.RoutersAhead.{none_ahead, entry_ahead, first_off}
+use Rattle.header_wire.proofs.RoutersAhead.{none_ahead, entry_ahead}
+use Rattle.wirebase.proofs.Answers.{first_off}
 use Rattle.header_wire.proofs.icmpv4.routers.RoutersIteratorIterator.next.Goals as goal
 
 pub returns-then-self-eq0-clause-steps : goal.returns-then-self-eq0-clause-steps

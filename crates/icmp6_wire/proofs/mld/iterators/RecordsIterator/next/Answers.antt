@@ -1,6 +1,7 @@
 use Rattle.std.proofs.Common.{◌-◌, take, refl, sym, ◌∙◌}
 use Rattle.icmp6_wire.specs.MldRecord.{record_len_in}
-use Rattle.icmp6_wire.proofs.MldIterators.{none_ahead, record_ahead, refusal_ahead, one_less, first_off}
+use Rattle.icmp6_wire.proofs.MldIterators.{none_ahead, record_ahead, refusal_ahead, one_less}
+use Rattle.wirebase.proofs.Answers.{first_off}
 use Rattle.icmp6_wire.proofs.mld.iterators.RecordsIterator.next.Goals as goal
 
 pub returns-then-self-eq0-clause-steps : goal.returns-then-self-eq0-clause-steps

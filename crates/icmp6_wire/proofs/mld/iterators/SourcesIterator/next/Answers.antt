@@ -1,7 +1,8 @@
 use Rattle.std.proofs.Common.{◌≡◌, List, ◌∷◌, ℕ, take, rules, sym, ap, ◌∙◌}
 use Rattle.icmp6_wire.specs.Words.{octets_of}
 use Rattle.icmp6_wire.specs.private.MldIterators.{sources_in}
-use Rattle.icmp6_wire.proofs.MldIterators.{no_source_ahead, source_ahead, first_off}
+use Rattle.icmp6_wire.proofs.MldIterators.{no_source_ahead, source_ahead}
+use Rattle.wirebase.proofs.Answers.{first_off}
 use Rattle.icmp6_wire.proofs.mld.iterators.SourcesIterator.next.Goals as goal
 
 pub returns-then-self-lt-ADDRESS_LEN-clause-steps : goal.returns-then-self-lt-ADDRESS_LEN-clause-steps

@@ -1,5 +1,6 @@
 use Rattle.opt_wire.proofs.Words.{[], ◌<◌, ◌∙◌, arith, eqb-false, eqb-true, inl, length, refl, sym}
-use Rattle.opt_wire.proofs.NdiscOptionTiles.{next-end, next-block, next-refusal, gives, first_off}
+use Rattle.opt_wire.proofs.NdiscOptionTiles.{next-end, next-block, next-refusal, gives}
+use Rattle.wirebase.proofs.Answers.{first_off}
 use Rattle.opt_wire.proofs.ndiscoption.options.NdiscOptionsIterator.next.Goals as goal
 
 pub returns-then-is_empty-clause-steps : goal.returns-then-is_empty-clause-steps
