@@ -12,7 +12,8 @@ use Rattle.dhcp_options.proofs.AheadFronts.{ahead-nothing}
 
 -- ---- one area, by what is ahead in it
 
-pub answers-ahead : (area : Area) (bytes : List ℕ) (a : Ahead) → ahead_of bytes ≡ a → answers_in area bytes ≡ given area a
+pub answers-ahead : (area : Area) (bytes : List ℕ) (a : Ahead) → ahead_of bytes ≡ a
+    → answers_in area bytes ≡ given area a
 unfolding answers_in
 answers-ahead area bytes a e = ap (given area) e
 

@@ -35,7 +35,8 @@ among-append kind (Ok p ∷ front) rest =
     ∙ beside (eqb p.option.kind kind) p.option.body (octets_among kind front) (octets_among kind rest)
 among-append kind (Err refusal ∷ front) rest = among-append kind front rest
 
-total-append : (kind : ℕ) (front rest : List PlacedAnswer) → total kind (front ++ rest) ≡ total kind front + total kind rest
+total-append : (kind : ℕ) (front rest : List PlacedAnswer)
+    → total kind (front ++ rest) ≡ total kind front + total kind rest
 total-append kind front rest =
     ap (λ (l : List (List ℕ)). length (together l)) (among-append kind front rest)
     ∙ ap length (flat_map-append (λ (octets : List ℕ). octets) (octets_among kind front) (octets_among kind rest))

@@ -6,8 +6,8 @@ pub use Rattle.std.proofs.Common.{if◌then◌else◌, inl, inr, length, length-
 pub use Rattle.std.proofs.Common.{rules, slice_index, subst, suc, sym, take, true, zero}
 pub use Rattle.std.proofs.lemmas.Bool.{cases_eq, cases_lt, eqb-false, eqb-true, le-ltb, lt-ltb, ne_eqb}
 pub use Rattle.std.proofs.lemmas.List.{append-nil, append_assoc, drop_all, drop_at, get_or-drop, get_or-take}
-pub use Rattle.std.proofs.lemmas.List.{length-take, length-take-le, map-append, nil_from_length, take-append-drop, take_all, take_at}
-pub use Rattle.std.proofs.lemmas.List.{take_rest}
+pub use Rattle.std.proofs.lemmas.List.{length-take, length-take-le, map-append, nil_from_length, take-append-drop}
+pub use Rattle.std.proofs.lemmas.List.{take_all, take_at, take_rest}
 pub use Rattle.std.specs.Option.{option_map, option_or}
 pub use Rattle.wirebase.specs.Answers.{GivesFirst, seen}
 pub use Rattle.wirebase.specs.Bytes.{IsBytes, bytes_of}

@@ -1,5 +1,5 @@
--- The areas of a packet: its fields that hold options, in the order in which they are read (RFC 2131 sections 2 and 4.1).
--- RFC 3396 calls them together the aggregate option buffer.
+-- The areas of a packet: its fields that hold options, in the order in which they are read (RFC 2131 sections 2 and
+-- 4.1). RFC 3396 calls them together the aggregate option buffer.
 --
 -- +---------+-----------------+------------------------------+
 -- | field   | bytes           | holds options                |

@@ -147,8 +147,8 @@ some_printed form is_first a b IsEntry e (Err x) is printed = tt
 
 -- a first value alone, and with others behind it
 pub first_alone : {E : Type 0} (form : Form) (a b : Option (List ℕ)) (key : List ℕ) (Are : Leaf → List Cell → Type 0)
-    (first : Leaf) (r : Result (Unit {0}) E) → Are first [] → Fits first → OnOk r (Gains a b (first_text form key first))
-    → OnOk r (PrintsSomeFront form a b key Are)
+    (first : Leaf) (r : Result (Unit {0}) E) → Are first [] → Fits first
+    → OnOk r (Gains a b (first_text form key first)) → OnOk r (PrintsSomeFront form a b key Are)
 first_alone form a b key Are first (Ok u) are fits gains =
     (first, [], are, record { between = b; fits = fits; gains = gains; prints = cells_none form b })
 first_alone form a b key Are first (Err x) are fits gains = tt

@@ -1,6 +1,8 @@
 //! OPT records (RFC 6891 section 6.1), an entry each.
 
-#![tactic(auto, using(packet_fields::proofs::Fields::cells_both, packet_fields::proofs::Fields::cells_none, packet_fields::proofs::Printing::gained, packet_fields::proofs::Printing::gains_none, packet_fields::proofs::Printing::gains_both))]
+#![tactic(auto, using(packet_fields::proofs::Fields::cells_both, packet_fields::proofs::Fields::cells_none, // cells
+packet_fields::proofs::Printing::gained, packet_fields::proofs::Printing::gains_none, // and their texts
+packet_fields::proofs::Printing::gains_both))]
 
 ghost use Rattle.std.specs.Prelude.{◌≡◌, IfOk, OnOk, map};
 ghost use Rattle.dns_wire.specs.DnsPacket.{view_octets};

@@ -72,7 +72,8 @@ fn show_flags<W: Write>(output: &mut W, form: Form, kind: Kind, word: u16) -> io
 }
 
 // The flags of a kind of messages.
-#[tactic(auto, unfolding(crate::specs::Header::dns_flags, crate::specs::Header::llmnr_flags, crate::specs::Header::nbns_flags))]
+#[tactic(auto, unfolding(crate::specs::Header::dns_flags, // the rows of each kind
+crate::specs::Header::llmnr_flags, crate::specs::Header::nbns_flags))]
 fn flag_rows(kind: Kind) -> &'static [Row]
     ensures { rows_of result.now ≡ flag_rows kind }
 {

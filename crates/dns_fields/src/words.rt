@@ -84,7 +84,8 @@ impl Text for OptionWord<'_> {
     }
 }
 
-#[tactic(auto, using(wirebase::proofs::Sinks::puts, record_wire::proofs::MnemonicTexts::name_some, record_wire::proofs::MnemonicTexts::name_none))]
+#[tactic(auto, using(wirebase::proofs::Sinks::puts, // what is put in several calls
+record_wire::proofs::MnemonicTexts::name_some, record_wire::proofs::MnemonicTexts::name_none))]
 fn put_option_name<O, S: Sink<O>>(output: &mut O, option: &EdnsOption<'_>) -> Result<(), S::Error>
     ensures { PutsText S.took output.old
         (name_or [] (name_in option_names option.now.code) option.now.code) result output.new }

@@ -1,5 +1,5 @@
--- The names of the types and codes of ICMP messages, by IANA's registries "ICMP Type Numbers" and "ICMPv6 Type Numbers",
--- in lower case with underscores.
+-- The names of the types and codes of ICMP messages, by IANA's registries "ICMP Type Numbers" and "ICMPv6 Type
+-- Numbers", in lower case with underscores.
 use Rattle.std.specs.Prelude.{ℕ, ◌==◌, if◌then◌else◌, List, [], ◌∷◌, Option, None, codes}
 use Rattle.icmp_fields.specs.Names.{Rows, name_in}
 

@@ -1,6 +1,7 @@
 //! Printing of values: names and fields, one a line.
 
-#![tactic(auto, using(packet_fields::proofs::Printing::gained, packet_fields::proofs::Printing::gains_both, packet_fields::proofs::Printing::put_on_ok))]
+#![tactic(auto, using(packet_fields::proofs::Printing::gained, // what one write appends
+packet_fields::proofs::Printing::gains_both, packet_fields::proofs::Printing::put_on_ok))]
 
 ghost use Rattle.std.specs.Prelude.{ℕ, List, OnOk, decimal};
 ghost use Rattle.wirebase.specs.Ipv4.{address_text};

@@ -5,8 +5,8 @@ use Rattle.record_wire.specs.Record.{QuestionValue, RecordValue}
 use Rattle.record_wire.specs.declared.entries.Section.{Section}
 
 -- none is left, none begins, or it is a record
-pub none_left : (left : Left) → (left.refused ≡ true) ⊎ (left.taken ≡ left.ends.all) → (value : EntryValue) (after : Left)
-    → IsNext left value after → ⊥
+pub none_left : (left : Left) → (left.refused ≡ true) ⊎ (left.taken ≡ left.ends.all)
+    → (value : EntryValue) (after : Left) → IsNext left value after → ⊥
 none_left left why value after next = elim why [
   | inl refused ↦ cc (refused, next.unbroken)
   | inr all ↦ omega (arith, all, next.some)

@@ -79,11 +79,13 @@ missing_first len (suc count) (b ∷ bs) others some any others_is =
 
 -- records, of which the first is whole, or cut
 module _ (width count : ℕ) (bytes first others : List ℕ) (some : 0 < count) (any : 0 < length bytes)
-    (first_is : first ≡ take (record_len width bytes) bytes) (others_is : others ≡ drop (record_len width bytes) bytes) where
+    (first_is : first ≡ take (record_len width bytes) bytes)
+    (others_is : others ≡ drop (record_len width bytes) bytes) where
   pub next_record : parts (record_len width) count bytes ≡ first ∷ parts (record_len width) (count - 1) others
   next_record = first_part (record_len width) count bytes first others some any first_is others_is
 
-  pub whole-behind : is_whole_record width first ≡ true → are_whole width count bytes ≡ are_whole width (count - 1) others
+  pub whole-behind : is_whole_record width first ≡ true
+      → are_whole width count bytes ≡ are_whole width (count - 1) others
   whole-behind is =
       rw (missing_first (record_len width) count bytes others some any others_is, next_record, is) refl
 

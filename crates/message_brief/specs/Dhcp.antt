@@ -67,7 +67,7 @@ abbrev pub signed_if : List ℕ → Option (List ℕ) → List ℕ
 signed_if sign None = []
 signed_if sign (Some address) = signed sign address
 
--- The address that the server gives; where it gives none, the one that the client asks for, or else the one that it has.
+-- The address that the server gives; where it gives none, the one that the client asks for, or else the one it has.
 abbrev pub own_text : List ℕ → List ℕ
 own_text bytes =
     if number_of ciaddr_field bytes == 0 then [] else signed (codes "?") (bytes_of ciaddr_field bytes)

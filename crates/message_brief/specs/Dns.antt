@@ -1,5 +1,5 @@
--- Brief lines of DNS (RFC 1035 section 4.1), multicast DNS (RFC 6762), LLMNR (RFC 4795) and the NetBIOS name service (RFC
--- 1002 section 4.2): the transaction, what is asked, and the first answer.
+-- Brief lines of DNS (RFC 1035 section 4.1), multicast DNS (RFC 6762), LLMNR (RFC 4795) and the NetBIOS name service
+-- (RFC 1002 section 4.2): the transaction, what is asked, and the first answer.
 use Rattle.std.specs.Prelude.{◌≡◌, ◌≢◌, ◌==◌, ◌&&◌, ◌<◌, ◌-◌, ◌++◌, [], Bool, List, None, Option, Some, ℕ, codes, decimal}
 use Rattle.std.specs.Prelude.{false, if◌then◌else◌, length, nat_lt, slice_index, take, true}
 use Rattle.std.specs.Int.RustNames.{bit_and}
@@ -122,7 +122,8 @@ brief_data value = data_text value
 pub data RecordTells (kind : Kind) (message : List ℕ) (r : RecordValue) : Answered → Type 0 where
   reads : (value : RecordTextValue) → IsRecordText message (record_class (is_multicast kind) r.kind r.class) r value
       → RecordTells kind message r (tells value.name value.kind (brief_data value.«data»))
-  reads_not : ((value : RecordTextValue) → IsRecordText message (record_class (is_multicast kind) r.kind r.class) r value → ⊥)
+  reads_not : ((value : RecordTextValue)
+      → IsRecordText message (record_class (is_multicast kind) r.kind r.class) r value → ⊥)
       → RecordTells kind message r unreadable
 
 -- a record of the NetBIOS name service that has no address, or counts no name

@@ -52,7 +52,8 @@ missing len (suc count) (b ∷ bs) = missing len count (drop (len (b ∷ bs)) (b
 
 abbrev pub are_whole : ℕ → ℕ → List ℕ → Bool
 are_whole width count bytes =
-    (missing (record_len width) count bytes == 0) && list_all (is_whole_record width) (parts (record_len width) count bytes)
+    (missing (record_len width) count bytes == 0)
+    && list_all (is_whole_record width) (parts (record_len width) count bytes)
 
 -- a report: the first three of its records, and how many others it counts
 abbrev pub report_count : List ℕ → ℕ

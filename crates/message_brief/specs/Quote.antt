@@ -52,7 +52,8 @@ ports4 bytes =
 abbrev pub quote4_text : List ℕ → List ℕ
 quote4_text bytes =
     if quotes4 bytes
-    then quoted_text (bytes_of ipv4.src_addr_field bytes) (bytes_of ipv4.dst_addr_field bytes) (ports4 bytes) (protocol4 bytes)
+    then quoted_text (bytes_of ipv4.src_addr_field bytes) (bytes_of ipv4.dst_addr_field bytes)
+    (ports4 bytes) (protocol4 bytes)
     else []
 
 -- ---- IPv6 (RFC 8200 section 3)
@@ -69,5 +70,6 @@ ports6 bytes = ports_in (protocol6 bytes) (drop 40 bytes)
 abbrev pub quote6_text : List ℕ → List ℕ
 quote6_text bytes =
     if quotes6 bytes
-    then quoted_text (bytes_of ipv6.src_addr_field bytes) (bytes_of ipv6.dst_addr_field bytes) (ports6 bytes) (protocol6 bytes)
+    then quoted_text (bytes_of ipv6.src_addr_field bytes) (bytes_of ipv6.dst_addr_field bytes)
+    (ports6 bytes) (protocol6 bytes)
     else []

@@ -1,6 +1,7 @@
 //! Brief lines of DHCP packets (RFC 2131 section 2).
 
-#![tactic(auto, using(wirebase::proofs::Sinks::puts, wirebase::proofs::Sinks::put_none), unfolding(crate::specs::Dhcp::signed))]
+#![tactic(auto, using(wirebase::proofs::Sinks::puts, wirebase::proofs::Sinks::put_none), // texts in turn, or none
+unfolding(crate::specs::Dhcp::signed))]
 
 ghost use Rattle.std.specs.Prelude.{◌≡◌, ◌++◌, IfOk, codes, decimal, length};
 ghost use Rattle.std.specs.Option.{option_map};

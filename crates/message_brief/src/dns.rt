@@ -1,5 +1,5 @@
-//! Brief lines of DNS (RFC 1035 section 4.1), multicast DNS (RFC 6762), LLMNR (RFC 4795) and the NetBIOS name service (RFC
-//! 1002 section 4.2): the transaction, what is asked, and the first answer.
+//! Brief lines of DNS (RFC 1035 section 4.1), multicast DNS (RFC 6762), LLMNR (RFC 4795) and the NetBIOS name service
+//! (RFC 1002 section 4.2): the transaction, what is asked, and the first answer.
 
 #![tactic(auto, using(wirebase::proofs::Sinks::puts, wirebase::proofs::Sinks::put_none))]
 

@@ -1,6 +1,8 @@
 //! Brief lines of IGMP (RFC 2236, RFC 3376) and of multicast listener discovery (RFC 2710, RFC 3810).
 
-#![tactic(auto, using(wirebase::proofs::Sinks::puts, wirebase::proofs::Sinks::put_none), unfolding(crate::specs::Words::keyed, crate::specs::Groups::named_text, crate::specs::Groups::type_word, crate::specs::Groups::version_text))]
+#![tactic(auto, using(wirebase::proofs::Sinks::puts, wirebase::proofs::Sinks::put_none), // texts in turn, or none
+unfolding(crate::specs::Words::keyed, crate::specs::Groups::named_text, // what they say
+crate::specs::Groups::type_word, crate::specs::Groups::version_text))]
 
 ghost use Rattle.std.specs.Prelude.{◌≡◌, ◌≤◌, ◌++◌, flat_map, length};
 ghost use Rattle.wirebase.specs.Sink.{PutsText};

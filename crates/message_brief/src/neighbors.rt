@@ -1,6 +1,7 @@
 //! Brief lines of neighbor discovery (RFC 4861 section 4).
 
-#![tactic(auto, using(wirebase::proofs::Sinks::puts, wirebase::proofs::Sinks::put_none), unfolding(crate::specs::Words::word))]
+#![tactic(auto, using(wirebase::proofs::Sinks::puts, wirebase::proofs::Sinks::put_none), // texts in turn, or none
+unfolding(crate::specs::Words::word))]
 
 ghost use Rattle.std.specs.Prelude.{◌≡◌, ◌≤◌, ◌++◌, IfSome, IsTrue, None, codes, count_by, decimal, find, length};
 ghost use Rattle.std.specs.List.{list_all};

@@ -1,6 +1,7 @@
 //! What ICMP errors quote of a datagram: from where it came and to where it went, and its protocol.
 
-#![tactic(auto, using(wirebase::proofs::Sinks::puts, wirebase::proofs::Sinks::put_none), unfolding(crate::specs::Quote::with_port, crate::specs::Quote::quoted_text))]
+#![tactic(auto, using(wirebase::proofs::Sinks::puts, wirebase::proofs::Sinks::put_none), // texts in turn, or none
+unfolding(crate::specs::Quote::with_port, crate::specs::Quote::quoted_text))]
 
 ghost use Rattle.std.specs.Prelude.{◌≡◌, ◌≤◌, length, true};
 ghost use Rattle.wirebase.specs.Ipv4.{header_len_in};

@@ -1,6 +1,7 @@
 //! The words that a brief line is made of.
 
-#![tactic(auto, using(wirebase::proofs::Sinks::puts, wirebase::proofs::Sinks::put_none), unfolding(crate::specs::Words::word, crate::specs::Words::keyed))]
+#![tactic(auto, using(wirebase::proofs::Sinks::puts, wirebase::proofs::Sinks::put_none), // texts in turn, or none
+unfolding(crate::specs::Words::word, crate::specs::Words::keyed))]
 
 ghost use Rattle.std.specs.Prelude.{decimal};
 ghost use Rattle.wirebase.specs.Sink.{PutsText};

@@ -14,8 +14,8 @@ use Rattle.message_fields.specs.declared.message.Message.{Message}
 use Rattle.message_fields.specs.declared.message.Message.TheVariants as message
 use Rattle.message_fields.specs.declared.message.Service.{Service}
 
--- a message by its octets, as far as they are there, with the addresses that its checksum covers; of UDP from its header
--- on, and of DNS over TCP the segment from its header on and the message in it
+-- a message by its octets, as far as they are there, with the addresses that its checksum covers; of UDP from its
+-- header on, and of DNS over TCP the segment from its header on and the message in it
 pub data MessageValue : Type 0 where
   icmp4 : List ℕ → MessageValue
   igmp : List ℕ → MessageValue

@@ -28,8 +28,8 @@ use Rattle.message_fields.specs.declared.refusal.Refusal.TheVariants as refusal
 abbrev pub mistake_items : Refusal → List Item
 mistake_items r = if is_unknown r then [] else refused_items r
 
--- A message prints the fields of the value that its grammar has for its octets; exactly where it has none it is refused,
--- by the check that fails first, and prints its type, its code and its octets.
+-- A message prints the fields of the value that its grammar has for its octets; exactly where it has none it is
+-- refused, by the check that fails first, and prints its type, its code and its octets.
 pub data Reads {V R : Type 0} (IsValue : V → Type 0) (Are : V → List Item → Type 0) (Refuses : R → Type 0)
     (of : R → Refusal) (unread items : List Item) (told : Option Refusal) : Type 0 where
   reads : (v : V) → IsValue v → Are v items → told ≡ None → Reads IsValue Are Refuses of unread items told
@@ -79,7 +79,7 @@ IgmpIs octets items told =
 
 -- ---- ICMPv6
 
--- the types of multicast listeners (RFC 2710 section 3, RFC 3810 section 5) and of neighbor discovery (RFC 4861 section 4)
+-- the types of multicast listeners (RFC 2710 section 3, RFC 3810 section 5) and neighbor discovery (RFC 4861 section 4)
 abbrev pub has_mld_type : List ℕ → Bool
 has_mld_type [] = false
 has_mld_type (t ∷ rest) = (nat_le 130 t && nat_le t 132) || (t == 143)

@@ -28,7 +28,8 @@ pub enum Service {
     Dhcp,
 }
 
-/// A message of a control protocol by its octets, as far as they are there, with the addresses that its checksum covers.
+/// A message of a control protocol by its octets, as far as they are there, with the addresses that its checksum
+/// covers.
 #[derive(Debug, PartialEq, Eq, Clone, Copy)]
 pub enum Message<'a> {
     /// An ICMPv4 message.

@@ -13,8 +13,9 @@ use Rattle.serde_json.specs.Written.{compact_text, items_text as values_text, me
 use Rattle.serde_json.proofs.Texts.{print-outline}
 use Rattle.packet_fields.specs.Fields.{Cell, CellsFit, EntriesFit, Entry, Fits, Item, ItemsFit, Leaf, field, named, entries}
 use Rattle.packet_fields.specs.Fields.{AllFit, number, truth, text, octets, time, texts, numbers, missing, leaf_text, comma_unless, name_key, shown_text, bare, keyed, hidden, Shown}
-unfoldable use Rattle.packet_fields.specs.Fields.{member_key, member, before, after, name_text, cell_before, keyed_before, cell_text, cells_text}
-unfoldable use Rattle.packet_fields.specs.Fields.{entry_before, first_text, entry_after, list_before, list_after, item_text, items_text}
+unfoldable use Rattle.packet_fields.specs.Fields.{member_key, member, before, after, name_text, cell_before}
+unfoldable use Rattle.packet_fields.specs.Fields.{keyed_before, cell_text, cells_text, entry_before, first_text}
+unfoldable use Rattle.packet_fields.specs.Fields.{entry_after, list_before, list_after, item_text, items_text}
 use Rattle.packet_fields.specs.Fields.{entry_text, entries_text}
 use Rattle.packet_fields.specs.Json.{value_of, strings, integers, cell_members, entry_value, entry_values, with_name, members_of, object_of, ReadsAsJson}
 unfoldable use Rattle.packet_fields.specs.Json.{object_text}
@@ -22,7 +23,8 @@ use Rattle.packet_fields.specs.declared.form.Form.TheVariants.{Json}
 
 -- ---- texts
 
-more_strings : (ts : List (List ℕ)) → values_text true (strings ts) ≡ flat_map (λ t. codes "," ++ quoted t) ts ++ codes "]"
+more_strings : (ts : List (List ℕ))
+    → values_text true (strings ts) ≡ flat_map (λ t. codes "," ++ quoted t) ts ++ codes "]"
 more_strings [] = refl
 more_strings (t ∷ ts) =
     ap (λ s. 44 ∷ (quoted t ++ s)) (more_strings ts)
@@ -73,11 +75,16 @@ cells_are (c ∷ cs) =
     ∙ sym (append_assoc (cell_text Json c) (cells_text Json cs) (codes "}"))
 
 -- an entry, after a comma where it is not the first
-entry_is : (is_first : Bool) (e : Entry) → comma_unless is_first ++ compact_text (entry_value e) ≡ entry_text Json is_first e
+entry_is : (is_first : Bool) (e : Entry)
+    → comma_unless is_first ++ compact_text (entry_value e) ≡ entry_text Json is_first e
 unfolding entry_before first_text entry_after member member_key
 entry_is is_first e =
-    ap (λ s. comma_unless is_first ++ 123 ∷ (quoted e.label_key ++ 58 ∷ (quoted e.label ++ 44 ∷ (quoted e.first_key ++ 58 ∷ (s ++ members_text true (cell_members e.rest)))))) (leaf_is e.first)
-    ∙ ap (λ s. comma_unless is_first ++ 123 ∷ (quoted e.label_key ++ 58 ∷ (quoted e.label ++ 44 ∷ (quoted e.first_key ++ 58 ∷ (leaf_text Json e.first ++ s))))) (cells_are e.rest)
+    ap (λ s. comma_unless is_first ++ 123 ∷ (quoted e.label_key ++ 58 ∷ (quoted e.label ++ 44 ∷ (quoted e.first_key
+    ++ 58 ∷ (s ++ members_text true (cell_members e.rest))))))
+    (leaf_is e.first)
+    ∙ ap (λ s. comma_unless is_first ++ 123 ∷ (quoted e.label_key ++ 58 ∷ (quoted e.label ++ 44 ∷ (quoted e.first_key
+    ++ 58 ∷ (leaf_text Json e.first ++ s)))))
+    (cells_are e.rest)
     ∙ simp append_assoc
 
 more_entries : (es : List Entry) → values_text true (entry_values es) ≡ flat_map (entry_text Json false) es ++ codes "]"
@@ -88,7 +95,8 @@ more_entries (e ∷ es) =
     ∙ ap (λ s. s ++ (flat_map (entry_text Json false) es ++ codes "]")) (entry_is false e)
     ∙ sym (append_assoc (entry_text Json false e) (flat_map (entry_text Json false) es) (codes "]"))
 
-entries_are : (es : List Entry) → compact_text (values.array (entry_values es)) ≡ codes "[" ++ (entries_text Json es ++ codes "]")
+entries_are : (es : List Entry)
+    → compact_text (values.array (entry_values es)) ≡ codes "[" ++ (entries_text Json es ++ codes "]")
 entries_are [] = refl
 entries_are (e ∷ es) =
     ap (λ s. 91 ∷ (compact_text (entry_value e) ++ s)) (more_entries es)
@@ -121,7 +129,8 @@ items_are (entries key es ∷ rest) =
     ∙ one_member key (codes "[" ++ (entries_text Json es ++ codes "]")) (items_text Json rest ++ codes "}")
     ∙ simp (append_assoc, append-nil)
 
-object_is : (key : List ℕ) (first : Leaf) (items : List Item) → compact_text (object_of key first items) ≡ object_text key first items
+object_is : (key : List ℕ) (first : Leaf) (items : List Item)
+    → compact_text (object_of key first items) ≡ object_text key first items
 unfolding object_text
 object_is key first items =
     ap (λ s. 123 ∷ (quoted key ++ 58 ∷ (s ++ members_text true (members_of items)))) (leaf_is first)
@@ -179,7 +188,8 @@ cells_depth (c ∷ cs) =
 
 entries_have : (es : List Entry) → EntriesFit es → ItemsHaveNumbers (items_outline (entry_values es))
 entries_have [] fit = tt
-entries_have (e ∷ es) (first, rest, more) = ((tt, (leaf_has e.first first, cells_have e.rest rest)), entries_have es more)
+entries_have (e ∷ es) (first, rest, more) =
+    ((tt, (leaf_has e.first first, cells_have e.rest rest)), entries_have es more)
 
 entries_depth : (es : List Entry) → tree.items_depth (items_outline (entry_values es)) ≤ 2
 entries_depth [] = omega arith

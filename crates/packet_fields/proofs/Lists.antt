@@ -16,7 +16,8 @@ flat_map-map f g [] = refl
 flat_map-map f g (x ∷ xs) = ap (λ more. g (f x) ++ more) (flat_map-map f g xs)
 
 pub commas-some : {X : Type 0} (f : X → List ℕ) (xs : List X) (d : X) → 1 ≤ length xs
-    → with_commas (map f xs) ≡ f (get_or xs 0 d) ++ flat_map (λ next. codes "," ++ f next) (take (length xs - 1) (drop 1 xs))
+    → with_commas (map f xs) ≡ f (get_or xs 0 d)
+    ++ flat_map (λ next. codes "," ++ f next) (take (length xs - 1) (drop 1 xs))
 commas-some f [] d some = absurd (omega (arith, some))
 commas-some f (x ∷ xs) d some =
     let all : take (length (x ∷ xs) - 1) xs ≡ xs = take_all (length (x ∷ xs) - 1) xs (omega arith) in
@@ -28,7 +29,9 @@ pub strings-some : {X : Type 0} (f : X → List ℕ) (xs : List X) (d : X) → 1
 strings-some f [] d some = absurd (omega (arith, some))
 strings-some f (x ∷ xs) d some =
     let all : take (length (x ∷ xs) - 1) xs ≡ xs = take_all (length (x ∷ xs) - 1) xs (omega arith) in
-    rw all (ap (λ more. codes "[" ++ quoted (f x) ++ more ++ codes "]") (flat_map-map f (λ next. codes "," ++ quoted next) xs))
+    rw all
+    (ap (λ more. codes "[" ++ quoted (f x) ++ more ++ codes "]")
+    (flat_map-map f (λ next. codes "," ++ quoted next) xs))
 
 pub colons-some : (xs : List ℕ) → 1 ≤ length xs
     → hex_colons xs ≡ encode_lower (get_or xs 0 0 ∷ []) ++ flat_map behind_colon (take (length xs - 1) (drop 1 xs))

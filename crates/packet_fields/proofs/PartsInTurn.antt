@@ -27,8 +27,8 @@ module _ (len : List ℕ → ℕ) where
   no_octets (suc count) (b ∷ bs) none = absurd (omega (arith, none))
 
   -- what stands behind them
-  pub behind_first : (count : ℕ) (bytes others : List ℕ) → 0 < count → 0 < length bytes → others ≡ drop (len bytes) bytes
-      → behind len count bytes ≡ behind len (count - 1) others
+  pub behind_first : (count : ℕ) (bytes others : List ℕ) → 0 < count → 0 < length bytes
+      → others ≡ drop (len bytes) bytes → behind len count bytes ≡ behind len (count - 1) others
   behind_first zero bytes others some any others_is = absurd (omega (arith, some))
   behind_first (suc count) [] others some any others_is = absurd (omega (arith, any))
   behind_first (suc count) (b ∷ bs) others some any others_is =

@@ -60,13 +60,14 @@ texts_are Lines (t ∷ ts) = append-nil _
 texts_are Json [] = refl
 texts_are Json (t ∷ ts) = simp append_assoc
 
-pub texts_printed : {E : Type 0} (form : Form) (a b c d : Option (List ℕ)) (ts : List (List ℕ)) (r : Result (Unit {0}) E)
-    → Gains a b (texts_before form) → Gains b c (run_from form true ts)
+pub texts_printed : {E : Type 0} (form : Form) (a b c d : Option (List ℕ)) (ts : List (List ℕ))
+    (r : Result (Unit {0}) E) → Gains a b (texts_before form) → Gains b c (run_from form true ts)
     → OnOk r (Gains c d (texts_after form (still_first true ts))) → OnOk r (Gains a d (leaf_text form (texts ts)))
 texts_printed form a b c d ts r before printed after =
+    let closing = texts_after form (still_first true ts) in
     subst (λ t. OnOk r (Gains a d t))
-    (append_assoc (texts_before form) (run_from form true ts) (texts_after form (still_first true ts)) ∙ texts_are form ts)
-    (gains_last d (texts_after form (still_first true ts)) r (before then printed) after)
+    (append_assoc (texts_before form) (run_from form true ts) closing ∙ texts_are form ts)
+    (gains_last d closing r (before then printed) after)
 
 split_if : (b : Bool) (name : List ℕ) (more : List (List ℕ))
     → (if b then [] else name ∷ []) ++ more ≡ (if b then more else name ∷ more)
@@ -75,6 +76,7 @@ split_if false name more = refl
 
 -- the names of the first flag, and of the others
 pub flags_split : (rows : List (ℕ × Bor (List ℕ))) (bits : ℕ)
-    → flag_names (rows_of (take 1 rows)) bits ++ flag_names (rows_of (drop 1 rows)) bits ≡ flag_names (rows_of rows) bits
+    → flag_names (rows_of (take 1 rows)) bits ++ flag_names (rows_of (drop 1 rows)) bits
+    ≡ flag_names (rows_of rows) bits
 flags_split [] bits = refl
 flags_split (row ∷ rest) bits = split_if (bit_and bits row.0 == 0) row.1.now (flag_names (rows_of rest) bits)

@@ -11,8 +11,8 @@ use Rattle.packet_fields.specs.declared.form.Form.TheVariants.{Lines, Json}
 
 -- ---- values
 
--- what stands behind a field's name: a number, a truth value, a text, octets, a time in milliseconds, texts, numbers, or
--- nothing
+-- what stands behind a field's name: a number, a truth value, a text, octets, a time in milliseconds, texts, numbers,
+-- or nothing
 pub data Leaf : Type 0 where
   number : ℕ → Leaf
   truth : Bool → Leaf
@@ -63,7 +63,8 @@ strings_text (first ∷ rest) = codes "[" ++ quoted first ++ flat_map (λ next. 
 -- numbers as a JSON array
 abbrev pub numbers_text : List ℕ → List ℕ
 numbers_text [] = codes "[]"
-numbers_text (first ∷ rest) = codes "[" ++ decimal first ++ flat_map (λ next. codes "," ++ decimal next) rest ++ codes "]"
+numbers_text (first ∷ rest) =
+    codes "[" ++ decimal first ++ flat_map (λ next. codes "," ++ decimal next) rest ++ codes "]"
 
 -- what is printed in lines, and what in JSON
 abbrev pub by_form : Form → List ℕ → List ℕ → List ℕ
@@ -95,8 +96,8 @@ pub record Cell : Type 0 where
   pub value : Leaf
   pub shown : Shown
 
--- An entry of a list: what it is, its first value, and others. A line has the label, an equals sign, and the values that
--- are shown with spaces between them; in JSON it is an object.
+-- An entry of a list: what it is, its first value, and others. A line has the label, an equals sign, and the values
+-- that are shown with spaces between them; in JSON it is an object.
 pub record Entry : Type 0 where
   pub label_key : List ℕ
   pub label : List ℕ

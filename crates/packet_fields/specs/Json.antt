@@ -40,7 +40,9 @@ cell_members (c ∷ rest) = values.member c.key (value_of c.value) (cell_members
 
 abbrev pub entry_value : Entry → Data
 entry_value e =
-    object (values.member e.label_key (string e.label) (values.member e.first_key (value_of e.first) (cell_members e.rest)))
+    object
+    (values.member e.label_key (string e.label)
+    (values.member e.first_key (value_of e.first) (cell_members e.rest)))
 
 abbrev pub entry_values : List Entry → Items
 entry_values [] = no_items

@@ -25,7 +25,8 @@ pub fn show_octets<W: Write>(
     refused: Option<&str>,
 ) -> io::Result<()>
     ensures { OnOk result (PrintsEntry form is_first (W.contents output.old) (W.contents output.new)
-        (octets_entry label_key.now (label_text (option_map (λ name. name.now) label.entry.name) label.entry.kind.now label.entry.number)
+        (octets_entry label_key.now
+        (label_text (option_map (λ name. name.now) label.entry.name) label.entry.kind.now label.entry.number)
         «data».now (option_map (λ why. why.now) refused.entry) label.entry.number)) }
 {
     open_entry(output, form, is_first, label_key, label)?;

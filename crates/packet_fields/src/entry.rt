@@ -1,6 +1,10 @@
 //! Entries of lists: a line each, or an object of a JSON array.
 
-#![tactic(auto, using(crate::proofs::Printing::gained, crate::proofs::Printing::gains_none, crate::proofs::Printing::gains_both, crate::proofs::Fields::cell_on_ok), unfolding(crate::specs::Fields::member, crate::specs::Fields::cell_before, crate::specs::Fields::keyed_before, crate::specs::Fields::entry_before, crate::specs::Fields::first_text, crate::specs::Fields::entry_after, crate::specs::Fields::list_before, crate::specs::Fields::list_after))]
+#![tactic(auto, using(crate::proofs::Printing::gained, crate::proofs::Printing::gains_none, // texts
+crate::proofs::Printing::gains_both, crate::proofs::Fields::cell_on_ok), // and cells in a row
+unfolding(crate::specs::Fields::member, crate::specs::Fields::cell_before, crate::specs::Fields::keyed_before, // cells
+crate::specs::Fields::entry_before, crate::specs::Fields::first_text, crate::specs::Fields::entry_after, // entries
+crate::specs::Fields::list_before, crate::specs::Fields::list_after))]
 
 ghost use Rattle.std.specs.Prelude.{◌++◌, [], ◌∷◌, OnOk, codes, decimal};
 ghost use Rattle.packet_fields.specs.Output.{Gains};

@@ -1,6 +1,7 @@
 //! Strings of JSON (RFC 8259 section 7).
 
-#![tactic(auto, using(crate::proofs::Puts::escaped_once, crate::proofs::Printing::gained, crate::proofs::Printing::gains_both))]
+#![tactic(auto, using(crate::proofs::Puts::escaped_once, // what is put in one call
+crate::proofs::Printing::gained, crate::proofs::Printing::gains_both))]
 
 ghost use Rattle.std.specs.Prelude.{◌≡◌, ◌<◌, ◌≤◌, ◌∷◌, [], IfOk, IsTrue, OnOk, drop, length, take};
 ghost use Rattle.std.specs.Char.{digit_char};

@@ -1,6 +1,9 @@
 //! Fields, and entries of lists.
 
-#![tactic(auto, using(crate::proofs::Printing::gained, crate::proofs::Printing::gains_both, crate::proofs::Puts::in_quotes), unfolding(crate::specs::Fields::before, crate::specs::Fields::member, crate::specs::Fields::member_key, crate::specs::Fields::after, crate::specs::Fields::name_text))]
+#![tactic(auto, using(crate::proofs::Printing::gained, // what one write appends
+crate::proofs::Printing::gains_both, crate::proofs::Puts::in_quotes), // texts in a row, and a string
+unfolding(crate::specs::Fields::before, crate::specs::Fields::member, // what precedes a value
+crate::specs::Fields::member_key, crate::specs::Fields::after, crate::specs::Fields::name_text))]
 
 ghost use Rattle.std.specs.Prelude.{[], ◌∷◌, OnOk, Some};
 ghost use Rattle.std.specs.Option.{option_map};
@@ -92,7 +95,8 @@ fn end<W: Write>(output: &mut W, form: Form) -> io::Result<()>
 
 // Prints a number's name as a member of its own.
 fn show_name_member<W: Write>(output: &mut W, key: &str, name: &str) -> io::Result<()>
-    ensures { OnOk result (Gains (W.contents output.old) (W.contents output.new) (name_member key.now (Some name.now))) }
+    ensures { OnOk result (Gains (W.contents output.old) (W.contents output.new)
+        (name_member key.now (Some name.now))) }
 {
     show_member_key(output, NameKey(key))?;
     put_string(output, name)

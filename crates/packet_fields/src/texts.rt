@@ -1,6 +1,9 @@
 //! Texts in lists: addresses, and the names of flags.
 
-#![tactic(auto, using(crate::proofs::Printing::gained, crate::proofs::Printing::gains_both, crate::proofs::Printing::gains_none), unfolding(crate::specs::private::TextRuns::texts_before, crate::specs::private::TextRuns::text_among, crate::specs::private::TextRuns::texts_after))]
+#![tactic(auto, using(crate::proofs::Printing::gained, // what one write appends
+crate::proofs::Printing::gains_both, crate::proofs::Printing::gains_none), // texts in a row
+unfolding(crate::specs::private::TextRuns::texts_before, // what stands around them
+crate::specs::private::TextRuns::text_among, crate::specs::private::TextRuns::texts_after))]
 
 ghost use Rattle.std.specs.Prelude.{◌≡◌, ◌≤◌, IfOk, OnOk, drop, length, take, true};
 ghost use Rattle.packet_fields.specs.Output.{Gains};
@@ -160,7 +163,8 @@ fn put_flag<W: Write>(
     bits: u16,
 ) -> io::Result<bool>
     requires { place ≤ length rows.now }
-    ensures { IfOk result (λ still. (still ≡ still_first is_first (flag_names (rows_of (take 1 (drop place rows.now))) bits))
+    ensures { IfOk result (λ still.
+        (still ≡ still_first is_first (flag_names (rows_of (take 1 (drop place rows.now))) bits))
         × Gains (W.contents output.old) (W.contents output.new)
         (run_from form is_first (flag_names (rows_of (take 1 (drop place rows.now))) bits))) }
 {

@@ -1,6 +1,8 @@
 //! The values of fields.
 
-#![tactic(auto, using(crate::proofs::Puts::put_escaped, crate::proofs::Printing::put, crate::proofs::Printing::put_on_ok, crate::proofs::Printing::gained, crate::proofs::Printing::gains_both))]
+#![tactic(auto, using(crate::proofs::Puts::put_escaped, // what is put into a string
+crate::proofs::Printing::put, crate::proofs::Printing::put_on_ok, // and as it is
+crate::proofs::Printing::gained, crate::proofs::Printing::gains_both))]
 
 ghost use Rattle.std.specs.Prelude.{◌*◌, ◌++◌, ℕ, List, OnOk, codes, flat_map, map};
 ghost use Rattle.wirebase.specs.Duration.{millis_of, three_digits};
@@ -30,7 +32,8 @@ pub trait Value: Drop {
 
     /// Prints the value alone.
     fn put<W: Write>(self, output: &mut W, form: Form) -> io::Result<()>
-        ensures text { OnOk result (Gains (W.contents output.old) (W.contents output.new) (leaf_text form (leaf self))) }
+        ensures text { OnOk result (Gains (W.contents output.old) (W.contents output.new)
+            (leaf_text form (leaf self))) }
         ensures fits { Fits (leaf self) };
 }
 
@@ -196,7 +199,8 @@ impl<T: Text + Copy> Value for Texts<'_, T> {
 
 // Prints texts with commas between them.
 fn put_commas<T: Text + Copy, W: Write>(output: &mut W, list: &[T]) -> io::Result<()>
-    ensures { OnOk result (Gains (W.contents output.old) (W.contents output.new) (with_commas (map T.text_of list.now))) }
+    ensures { OnOk result (Gains (W.contents output.old) (W.contents output.new)
+        (with_commas (map T.text_of list.now))) }
 {
     let [first, rest @ ..] = list else {
         return output.write_all(b"-");
@@ -211,7 +215,8 @@ fn put_commas<T: Text + Copy, W: Write>(output: &mut W, list: &[T]) -> io::Resul
 
 // Prints texts as an array of strings.
 fn put_strings<T: Text + Copy, W: Write>(output: &mut W, list: &[T]) -> io::Result<()>
-    ensures { OnOk result (Gains (W.contents output.old) (W.contents output.new) (strings_text (map T.text_of list.now))) }
+    ensures { OnOk result (Gains (W.contents output.old) (W.contents output.new)
+        (strings_text (map T.text_of list.now))) }
 {
     let [first, rest @ ..] = list else {
         return output.write_all(b"[]");

@@ -34,7 +34,8 @@ pub data UdpHas (service : Service) (addresses : Addresses) (bytes : List ℕ) (
 abbrev pub segment_way : Addresses → SegmentValue → Way
 segment_way addresses s = record { addresses = addresses; asker_port = s.src_port; answerer_port = s.dst_port }
 
--- a message of DNS, whose ports are those of its segment; with one that is refused it is neither a question nor an answer
+-- a message of DNS, whose ports are those of its segment; with one that is refused it is neither a question nor an
+-- answer
 pub data TcpHas (addresses : Addresses) (segment bytes : List ℕ) (found : Option ExchangeValue) : Type 0 where
   in_segment : (s : SegmentValue) → IsSegment segment s
       → Finds (IsName Service.Dns true (segment_way addresses s) bytes) found → TcpHas addresses segment bytes found

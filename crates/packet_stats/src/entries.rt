@@ -1,6 +1,7 @@
 //! Rows as entries of the lists of a page.
 
-#![tactic(auto, using(packet_fields::proofs::Fields::cells_both, packet_fields::proofs::Fields::cells_none, packet_fields::proofs::Printing::gains_both))]
+#![tactic(auto, using(packet_fields::proofs::Fields::cells_both, packet_fields::proofs::Fields::cells_none, // cells
+packet_fields::proofs::Printing::gains_both))]
 
 ghost use Rattle.std.specs.Prelude.{OnOk};
 ghost use Rattle.record_wire.specs.Name.{labels_of};

@@ -40,7 +40,9 @@ impl fmt::Display for ClassName {
 
 /// Puts the text of a class, as [`ClassName`] prints it.
 #[inline(always)]
-#[tactic(auto, using(wirebase::proofs::Sinks::puts, crate::proofs::MnemonicTexts::name_some, crate::proofs::MnemonicTexts::name_none), unfolding(crate::specs::Mnemonics::class_text))]
+#[tactic(auto, using(wirebase::proofs::Sinks::puts, // what is put in several calls
+crate::proofs::MnemonicTexts::name_some, crate::proofs::MnemonicTexts::name_none), // a mnemonic, or none
+unfolding(crate::specs::Mnemonics::class_text))]
 pub fn put_class<O, S: Sink<O>>(output: &mut O, number: u16) -> result::Result<(), S::Error>
     ensures { PutsText S.took output.old (class_text number) result output.new }
 {

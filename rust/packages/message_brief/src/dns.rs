@@ -1,6 +1,6 @@
 // Made from crates/message_brief/src/dns.rt by rust/erase.
-//! Brief lines of DNS (RFC 1035 section 4.1), multicast DNS (RFC 6762), LLMNR (RFC 4795) and the NetBIOS name service (RFC
-//! 1002 section 4.2): the transaction, what is asked, and the first answer.
+//! Brief lines of DNS (RFC 1035 section 4.1), multicast DNS (RFC 6762), LLMNR (RFC 4795) and the NetBIOS name service
+//! (RFC 1002 section 4.2): the transaction, what is asked, and the first answer.
 
 mod found;
 

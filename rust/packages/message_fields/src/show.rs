@@ -12,8 +12,8 @@ use rattle_std::io::Write;
 use rattle_std::prelude::*;
 
 /// Prints a whole message: what its checksum says (in lines only where it does not hold) and its fields, as far as they
-/// can be read, and returns the first reason for which it is refused or read in part. Where `is_strict` holds, a message
-/// whose checksum does not hold is refused.
+/// can be read, and returns the first reason for which it is refused or read in part. Where `is_strict` holds, a
+/// message whose checksum does not hold is refused.
 pub fn show_message<W: Write>(
     output: &mut W,
     form: Form,

@@ -13,6 +13,8 @@ pub returns-in_ok-show_refused_record-in-Err : goal.returns-in_ok-show_refused_r
 returns-in_ok-show_refused_record-in-Err g c =
     let (e, is, printed) = c.in_ok-show_refused_record-in-Err.ensures in (
       e,
-      has_no_text c.in-Err.refusal e (λ value read. rw c.in-Err.is at c.read_text-read.ensures.complete value read) (rw c.in-Err.is at c.read_text-read.ensures.told) is,
+      has_no_text c.in-Err.refusal e
+          (λ value read. rw c.in-Err.is at c.read_text-read.ensures.complete value read)
+          (rw c.in-Err.is at c.read_text-read.ensures.told) is,
       printed,
     )

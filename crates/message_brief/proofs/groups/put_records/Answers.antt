@@ -16,8 +16,8 @@ loop-more-preserved g c =
     let one = text c.split_at.result.0.now in
     let first = rw c.record_len.ensures.value at c.split_at.ensures.front in
     let others = rw c.record_len.ensures.value at c.split_at.ensures.back in
-    let next = next_record c.args.width c.loop-more.more c.loop-more.left.now c.split_at.result.0.now c.split_at.result.1.now
-    c.loop-more-test.true (omega arith) first others in (
+    let next = next_record c.args.width c.loop-more.more c.loop-more.left.now c.split_at.result.0.now
+    c.split_at.result.1.now c.loop-more-test.true (omega arith) first others in (
       done ++ one,
       one_more done one _ _ _ is (ap (flat_map text) next),
       put_both _ _ _ _ _ _ put c.in_ok-put_record.ensures.calls,

@@ -9,7 +9,8 @@ returns-in_ok-put_icmp4-in-Icmp4 g c =
 
 pub returns-in_ok-put_igmp-in-Igmp : goal.returns-in_ok-put_igmp-in-Igmp
 returns-in_ok-put_igmp-in-Igmp g c =
-    rw c.in-Igmp.is (_, (refl, c.is_whole4-in-Igmp.ensures), put g.W.Write.contents _ _ _ c.in_ok-put_igmp-in-Igmp.ensures)
+    rw c.in-Igmp.is
+    (_, (refl, c.is_whole4-in-Igmp.ensures), put g.W.Write.contents _ _ _ c.in_ok-put_igmp-in-Igmp.ensures)
 
 pub returns-in_ok-put_icmp6-in-Icmp6 : goal.returns-in_ok-put_icmp6-in-Icmp6
 returns-in_ok-put_icmp6-in-Icmp6 g c =

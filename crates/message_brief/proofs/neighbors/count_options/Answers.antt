@@ -8,11 +8,13 @@ use Rattle.message_brief.proofs.neighbors.count_options.Goals as goal
 pub loop-left-preserved-then-is_of : goal.loop-left-preserved-then-is_of
 loop-left-preserved-then-is_of c =
     let p = is_of c.args.type_ in
+    let part = c.split_at.result.0.now in
+    let behind = c.split_at.result.1.now in
     let option = rw c.len_of.ensures.value at c.split_at.ensures.front in
     let others = rw c.len_of.ensures.value at c.split_at.ensures.back in
-    let next = next_option c.loop-left.left.now c.split_at.result.0.now c.split_at.result.1.now (omega arith) option others in
+    let next = next_option c.loop-left.left.now part behind (omega arith) option others in
     let all = ap (count_by p) next in
-    let one = count-here p c.split_at.result.0.now (options_in c.split_at.result.1.now) (sym c.is_of.ensures.value ∙ c.if-is_of.true) in
+    let one = count-here p part (options_in behind) (sym c.is_of.ensures.value ∙ c.if-is_of.true) in
     record {
       counts = omega (arith, all, one, c.loop-left.invariant.counts);
       few = omega (arith, c.loop-left.invariant.few);
@@ -21,11 +23,13 @@ loop-left-preserved-then-is_of c =
 pub loop-left-preserved : goal.loop-left-preserved
 loop-left-preserved c =
     let p = is_of c.args.type_ in
+    let part = c.split_at.result.0.now in
+    let behind = c.split_at.result.1.now in
     let option = rw c.len_of.ensures.value at c.split_at.ensures.front in
     let others = rw c.len_of.ensures.value at c.split_at.ensures.back in
-    let next = next_option c.loop-left.left.now c.split_at.result.0.now c.split_at.result.1.now (omega arith) option others in
+    let next = next_option c.loop-left.left.now part behind (omega arith) option others in
     let all = ap (count_by p) next in
-    let none = count-behind p c.split_at.result.0.now (options_in c.split_at.result.1.now) (sym c.is_of.ensures.value ∙ c.if-is_of.false) in
+    let none = count-behind p part (options_in behind) (sym c.is_of.ensures.value ∙ c.if-is_of.false) in
     record {
       counts = omega (arith, all, none, c.loop-left.invariant.counts);
       few = omega (arith, c.loop-left.invariant.few);

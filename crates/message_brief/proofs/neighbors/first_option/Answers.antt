@@ -8,18 +8,24 @@ use Rattle.message_brief.proofs.neighbors.first_option.Goals as goal
 pub returns-then-is_of-clause-value : goal.returns-then-is_of-clause-value
 returns-then-is_of-clause-value c =
     let p = is_of c.args.type_ in
+    let part = c.split_at.result.0.now in
+    let behind = c.split_at.result.1.now in
     let option = rw c.len_of.ensures.value at c.split_at.ensures.front in
     let others = rw c.len_of.ensures.value at c.split_at.ensures.back in
-    let next = next_option c.loop-left.left.now c.split_at.result.0.now c.split_at.result.1.now (omega arith) option others in
-    sym (find-here p c.split_at.result.0.now (options_in c.split_at.result.1.now) (sym c.is_of.ensures.value ∙ c.if-is_of.true)) ∙ sym (ap (find p) next) ∙ c.loop-left.invariant
+    let next = next_option c.loop-left.left.now part behind (omega arith) option others in
+    sym (find-here p part (options_in behind) (sym c.is_of.ensures.value ∙ c.if-is_of.true))
+    ∙ sym (ap (find p) next) ∙ c.loop-left.invariant
 
 pub loop-left-preserved : goal.loop-left-preserved
 loop-left-preserved c =
     let p = is_of c.args.type_ in
+    let part = c.split_at.result.0.now in
+    let behind = c.split_at.result.1.now in
     let option = rw c.len_of.ensures.value at c.split_at.ensures.front in
     let others = rw c.len_of.ensures.value at c.split_at.ensures.back in
-    let next = next_option c.loop-left.left.now c.split_at.result.0.now c.split_at.result.1.now (omega arith) option others in
-    sym (find-behind p c.split_at.result.0.now (options_in c.split_at.result.1.now) (sym c.is_of.ensures.value ∙ c.if-is_of.false)) ∙ sym (ap (find p) next) ∙ c.loop-left.invariant
+    let next = next_option c.loop-left.left.now part behind (omega arith) option others in
+    sym (find-behind p part (options_in behind) (sym c.is_of.ensures.value ∙ c.if-is_of.false))
+    ∙ sym (ap (find p) next) ∙ c.loop-left.invariant
 
 pub returns-clause-value : goal.returns-clause-value
 returns-clause-value c =

@@ -6,6 +6,11 @@ use Rattle.message_fields.proofs.icmp.show_igmp.Goals as goal
 pub returns : goal.returns
 returns g c = (
   _,
-  (c.why_igmp-why.result, c.why_igmp-why.ensures, refl, rw (c.refusal_of.ensures, c.in_ok-lack.ensures.lack) at c.or.ensures),
+  (
+    c.why_igmp-why.result,
+    c.why_igmp-why.ensures,
+    refl,
+    rw (c.refusal_of.ensures, c.in_ok-lack.ensures.lack) at c.or.ensures,
+  ),
   c.in_ok-lack.ensures.prints and c.in_ok-show_group.ensures,
 )

@@ -28,7 +28,7 @@ returns-in_ok-show_message-in-Ok-Message g c = (
 pub returns-in_ok-show_mistake-in-Err : goal.returns-in_ok-show_mistake-in-Err
 returns-in_ok-show_mistake-in-Err g c = (
   _,
-  refuses c.in-Err.refusal (rw c.ignored-checksums.ensures at c.in-Err.ensures.complete) (rw c.ignored-checksums.ensures at c.in-Err.ensures.told) refl
-      refl,
+  refuses c.in-Err.refusal (rw c.ignored-checksums.ensures at c.in-Err.ensures.complete)
+      (rw c.ignored-checksums.ensures at c.in-Err.ensures.told) refl refl,
   c.in_ok-show_unread-in-Err.ensures and c.in_ok-show_mistake-in-Err.ensures,
 )

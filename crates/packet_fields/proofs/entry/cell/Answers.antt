@@ -7,4 +7,5 @@ use Rattle.packet_fields.proofs.entry.cell.Goals as goal
 pub returns : goal.returns
 unfolding cell_text
 returns g c =
-    cell_on_ok _ _ _ _ c.put.result c.put.ensures.fits (gains_last _ _ c.put.result c.in_ok-before_cell.ensures c.put.ensures.text)
+    cell_on_ok _ _ _ _ c.put.result c.put.ensures.fits
+    (gains_last _ _ c.put.result c.in_ok-before_cell.ensures c.put.ensures.text)

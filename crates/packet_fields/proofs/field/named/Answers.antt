@@ -7,5 +7,7 @@ use Rattle.packet_fields.proofs.field.named.Goals as goal
 pub returns : goal.returns
 unfolding item_text
 returns g c =
-    one_on_ok _ _ _ _ _ c.put.ensures.fits (gains_last _ _ c.end.result (c.in_ok-begin.ensures then c.in_ok-put.ensures.text then c.in_ok-show_name.ensures)
+    one_on_ok _ _ _ _ _ c.put.ensures.fits
+    (gains_last _ _ c.end.result
+    (c.in_ok-begin.ensures then c.in_ok-put.ensures.text then c.in_ok-show_name.ensures)
     c.end.ensures)

@@ -4,4 +4,5 @@ use Rattle.packet_fields.proofs.parts.show_parts.Goals as goal
 
 pub returns : goal.returns
 returns g c =
-    list_printed _ _ _ _ _ _ _ c.close_list.result c.in_ok-open_list.ensures c.in_ok-show_each.ensures c.close_list.ensures
+    list_printed _ _ _ _ _ _ _ c.close_list.result c.in_ok-open_list.ensures c.in_ok-show_each.ensures
+    c.close_list.ensures

@@ -14,8 +14,8 @@ loop-rest-preserved g c =
     let one = address_text c.split_at.result.0.now ∷ [] in
     let some = c.address_len.ensures.some in
     let within = c.address_len.ensures.within in
-    let cut = addresses_first c.args.list.width c.loop-rest.rest.now c.split_at.result.0.now c.split_at.result.1.now c.args.list.some
-    (omega arith) (rw c.address_len.ensures.value at c.split_at.ensures.front)
+    let cut = addresses_first c.args.list.width c.loop-rest.rest.now c.split_at.result.0.now c.split_at.result.1.now
+    c.args.list.some (omega arith) (rw c.address_len.ensures.value at c.split_at.ensures.front)
     (rw c.address_len.ensures.value at c.split_at.ensures.back) in (
       done ++ one,
       append_assoc done one _ ∙ ap (λ more. done ++ more) (sym cut) ∙ is,

@@ -19,7 +19,10 @@ loop-place-preserved g c =
       done ++ names,
       append_assoc done names _
           ∙ ap (λ more. done ++ more)
-          (ap (λ others. names ++ flag_names (rows_of others) bits) (sym (drop-drop 1 c.loop-place.place c.args.rows.now)) ∙ flags_split rest bits) ∙ is,
+          (ap (λ others. names ++ flag_names (rows_of others) bits)
+          (sym (drop-drop 1 c.loop-place.place c.args.rows.now))
+          ∙ flags_split rest bits)
+          ∙ is,
       c.in_ok-is_first.ensures.0 ∙ ap (λ f. still_first f names) first ∙ still_both true done names,
       run_more _ _ _ _ done names gains (rw first at c.in_ok-is_first.ensures.1),
     )

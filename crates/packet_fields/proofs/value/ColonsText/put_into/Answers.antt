@@ -7,4 +7,5 @@ use Rattle.packet_fields.proofs.value.ColonsText.put_into.Goals as goal
 pub returns : goal.returns
 returns g c =
     rw (colons-some c.args.self.0.now c.in-len1-up.len_at_least)
-    (puts_two g.S.Sink.took _ _ _ _ _ _ c.put_behind_colons.result c.in_ok-put_hex.ensures c.put_behind_colons.ensures refl)
+    (puts_two g.S.Sink.took _ _ _ _ _ _ c.put_behind_colons.result c.in_ok-put_hex.ensures
+    c.put_behind_colons.ensures refl)
