@@ -4,7 +4,6 @@
 
 ghost use Rattle.std.specs.Prelude.{◌≡◌, ◌&&◌, IfOk, None, OnOk};
 ghost use Rattle.message_fields.specs.Checksums.{value_of};
-ghost use Rattle.message_fields.specs.Messages.{is_refused};
 ghost use Rattle.packet_fields.specs.Output.{Gains, GainsSome};
 ghost use Rattle.dump_captures.specs.Arrival.{arrival_of};
 ghost use Rattle.dump_captures.specs.Brief.{ContentSays, PacketSays, WholeSays, brief_front, checksum_word};
@@ -156,20 +155,13 @@ fn show_whole<W: Write>(
         (WholeSays is_strict (value_of message.now))) }
 {
     let state = message.checksum();
-    if is_refused(is_strict, state) {
+    if state.is_refused(is_strict) {
         let refusal = Refusal::Message(message_fields::Refusal::Checksum);
         return show_refused(output, alloc, content, &refusal);
     }
     show_checksum(output, state)?;
     show_kind(output, content)?;
     show_brief(output, message)
-}
-
-// Whether a message of this checksum is refused.
-fn is_refused(is_strict: bool, state: ChecksumState) -> bool
-    ensures { result ≡ is_refused is_strict state }
-{
-    is_strict && state == ChecksumState::Bad
 }
 
 // Prints that a checksum does not hold, where it is so.

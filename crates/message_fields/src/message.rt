@@ -60,6 +60,7 @@ pub enum ChecksumState {
 impl ChecksumState {
     ghost use Rattle.std.specs.Prelude.{◌≡◌};
     ghost use Rattle.message_fields.specs.Checksums.{state_text};
+    ghost use Rattle.message_fields.specs.Messages.{is_refused};
 
     /// The name of the state.
     pub fn name(self) -> &'static str
@@ -71,6 +72,13 @@ impl ChecksumState {
             ChecksumState::None => "none",
             ChecksumState::Unverified => "unverified",
         }
+    }
+
+    /// Whether a message of this checksum is refused: where that is asked, and the checksum does not hold.
+    pub fn is_refused(self, is_strict: bool) -> bool
+        ensures { result ≡ is_refused is_strict self }
+    {
+        is_strict && self == ChecksumState::Bad
     }
 }
 

@@ -5,7 +5,7 @@
 ghost use Rattle.std.specs.Prelude.{◌≡◌, ◌∷◌, [], IfOk, OnOk, Some};
 ghost use Rattle.packet_fields.specs.Prints.{Prints, PrintsSome};
 ghost use Rattle.message_fields.specs.Checksums.{value_of};
-ghost use Rattle.message_fields.specs.Messages.{CutIs, MessageIs, first_of, is_refused, state_items};
+ghost use Rattle.message_fields.specs.Messages.{CutIs, MessageIs, first_of, state_items};
 ghost use Rattle.message_fields.specs.Refusals.{cut_items, refusal_display, refused_items};
 ghost use Rattle.packet_fields.specs.Fields.{field as field_item, text};
 
@@ -32,7 +32,7 @@ pub fn show_message<W: Write>(
         (λ items. MessageIs form is_strict (value_of message.now) items why)) }
 {
     let state = message.checksum();
-    if is_refused(is_strict, state) {
+    if state.is_refused(is_strict) {
         show_refused(output, form, alloc, &Refusal::Checksum)?;
         return Ok(Some(Refusal::Checksum));
     }
@@ -56,13 +56,6 @@ pub fn show_cut_message<W: Write>(
     show_cut(output, form, missing)?;
     let _told = show_body(output, form, alloc, message, false)?;
     Ok(())
-}
-
-// Whether a message of this checksum is refused.
-fn is_refused(is_strict: bool, state: ChecksumState) -> bool
-    ensures { result ≡ is_refused is_strict state }
-{
-    is_strict && state == ChecksumState::Bad
 }
 
 // Prints how many bytes are missing.
