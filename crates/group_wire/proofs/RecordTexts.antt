@@ -15,9 +15,9 @@ use Rattle.wirebase.specs.Bytes.{part, over}
 use Rattle.wirebase.proofs.Pieces.{over-exact}
 use Rattle.wirebase.specs.ByteWriter.{be8, be16, fields}
 use Rattle.wirebase.specs.Numbered.{IsProper}
-use Rattle.wirebase.proofs.Numbered.{case_in-unnamed}
-use Rattle.icmp6_wire.specs.MldTables.{record_type_number, record_type_of, record_type_rows}
+use Rattle.icmp6_wire.specs.MldTables.{record_type_number, record_type_rows}
 use Rattle.icmp6_wire.specs.declared.mld.tables.RecordType.{RecordType}
+use Rattle.icmp6_wire.proofs.MldRecords.{record_type_of-number}
 use Rattle.group_wire.specs.declared.family.Family.{Family}
 use Rattle.group_wire.specs.Family.{width}
 use Rattle.group_wire.specs.Record.{group_record, text, sources_at, auxiliary_at, record_len_in, IsRecord}
@@ -141,12 +141,6 @@ ahead-behind w (suc n) bytes one all whole =
     ∙ ap (λ (l : List (List ℕ)). l ++ one ∷ []) (sym (ahead_more w n bytes len refl fits))
 
 -- ---- the text of a record is read as that record
-
-record_type_of-number : (kind : RecordType) → IsProper RecordType.Unknown record_type_rows kind
-    → kind ≡ record_type_of (record_type_number kind)
-record_type_of-number (RecordType.Unknown n) p =
-    sym (case_in-unnamed RecordType.Unknown record_type_rows n (p n refl))
-record_type_of-number _ p = refl
 
 pub record_read : (f : Family) (kind : RecordType) (group sources : List ℕ) → length group ≡ width f → (n : ℕ)
     → length sources ≡ width f * n → n ≤ 65535 → IsProper RecordType.Unknown record_type_rows kind

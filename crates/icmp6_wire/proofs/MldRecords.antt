@@ -36,7 +36,7 @@ pub ruleset record_texts = (length-text, over-record_whole)
 
 -- ---- reading what was written
 
-record_type_of-number : (kind : RecordType) → IsProper RecordType.Unknown record_type_rows kind
+pub record_type_of-number : (kind : RecordType) → IsProper RecordType.Unknown record_type_rows kind
     → kind ≡ record_type_of (record_type_number kind)
 record_type_of-number (RecordType.Unknown n) p =
     sym (case_in-unnamed RecordType.Unknown record_type_rows n (p n refl))
