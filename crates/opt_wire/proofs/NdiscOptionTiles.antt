@@ -3,7 +3,6 @@ use Rattle.opt_wire.proofs.Words.{[], ◌&&◌, ◌*◌, ◌++◌, ◌<◌, ◌�
 use Rattle.opt_wire.proofs.Words.{List, Ok, Result, Some, ℕ, ap, arith, byte_of, drop, drop_at, false, inl, inr, le-leb}
 use Rattle.opt_wire.proofs.Words.{leb-false, leb-true, length, length-drop, length-take-le, nat_le, refl, subst}
 use Rattle.opt_wire.proofs.Words.{suc, sym, take, take-append-drop, take_at, true, type_field, units_in, zero}
-use Rattle.std.specs.Iterator.{MakesProgress, at_most}
 use Rattle.std.specs.Result.{IfErr}
 use Rattle.opt_wire.specs.NdiscOptionRepr.{value_of, BeginsWith}
 use Rattle.opt_wire.specs.NdiscOptionBlocks.{Answer, Tile, ends, goes_on, breaks, GivesOption, IsUnread}
