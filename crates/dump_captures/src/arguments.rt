@@ -3,8 +3,7 @@
 ghost use Rattle.std.specs.Prelude.{◌≡◌, IfOk, IfErr, IfSome, IfNone, MatchResult, drop, map, string_bytes};
 ghost use Rattle.std.specs.Option.{option_map};
 ghost use Rattle.std.specs.Vec.Iter.{into_iter_items};
-ghost use Rattle.dump_captures.specs.Arguments.{kind_named, only_of, with_name, is_option};
-ghost use Rattle.dump_captures.specs.Arguments.{with_color, with_flag, with_given, with_only};
+ghost use Rattle.dump_captures.specs.Arguments.{only_of, is_option, with_color, with_flag, with_given, with_only};
 ghost use Rattle.dump_captures.specs.Arguments.{with_most, with_setting, with_time_form, with_value, with_word, more};
 ghost use Rattle.dump_captures.specs.Arguments.{at_end, nothing_read, task_of};
 ghost use Rattle.dump_captures.specs.Tasks.{HasHost, HasNameOf, IsNoHost, IsNoName, IsTask};
@@ -14,9 +13,9 @@ ghost use Rattle.dump_captures.specs.private.Parts.{reading_of, reads_of};
 
 use crate::Fault;
 use crate::host::Host;
-use crate::kind::Kind;
 use crate::nearest::nearest;
-use crate::options::{Only, Options};
+pub use crate::only::read_only;
+use crate::options::Options;
 use crate::settings::{Setting, color_in, count_in, setting_of, split, time_form_in};
 use packet_fields::Form;
 use record_wire::Name;
@@ -395,58 +394,4 @@ fn is_option(word: &str) -> bool
 {
     let octets = word.as_bytes();
     octets.len() > 1 && octets[0] == b'-'
-}
-
-/// The packets that a list of names chooses, separated by commas; or else the first item that is no name.
-pub fn read_only(list: &str) -> Result<Only, &str>
-    ensures only { IfOk result (λ only. only_of list.now ≡ Ok only) }
-    ensures wrong { IfErr result (λ name. only_of list.now ≡ Err name.now) }
-{
-    let mut only = Only::NONE;
-    for name in list.split(',') {
-        let Some(more) = with_name(only, name) else {
-            return Err(name);
-        };
-        only = more;
-    }
-    Ok(only)
-}
-
-// These packets and those of a name: of a kind, or those with hop-by-hop options.
-fn with_name(only: Only, name: &str) -> Option<Only>
-    ensures { result ≡ with_name name.now only }
-{
-    let mut kinds = only.kinds;
-    if name == "hbh" {
-        return Some(Only {
-            kinds,
-            hop_by_hop: true,
-        });
-    }
-    if name == "icmp" {
-        kinds[Kind::Icmp4.place()] = true;
-        kinds[Kind::Icmp6.place()] = true;
-        return Some(Only {
-            kinds,
-            hop_by_hop: only.hop_by_hop,
-        });
-    }
-    let kind = kind_of(name)?;
-    kinds[kind.place()] = true;
-    Some(Only {
-        kinds,
-        hop_by_hop: only.hop_by_hop,
-    })
-}
-
-// The kind of a name.
-fn kind_of(name: &str) -> Option<Kind>
-    ensures { result ≡ kind_named name.now }
-{
-    for kind in &Kind::ALL {
-        if name == kind.name() {
-            return Some(*kind);
-        }
-    }
-    None
 }

@@ -1,31 +1,26 @@
 //! What the headers of a packet tell.
 
-ghost use Rattle.std.specs.Prelude.{◌≡◌, ◌↔◌, None, IsTrue, drop};
-ghost use Rattle.std.specs.Option.{option_map};
-ghost use Rattle.wirebase.specs.Ipv4.{header_len_in};
+ghost use Rattle.std.specs.Prelude.{◌≡◌, ◌↔◌, IsTrue};
 ghost use Rattle.capture.specs.Capture.{packet_of};
-ghost use Rattle.frame_wire.specs.Captured.{captured_of};
 ghost use Rattle.frame_wire.specs.Datagram.{value_of as datagram_of};
 ghost use Rattle.frame_wire.specs.Link.{value_of as frame_of};
 ghost use Rattle.dump_captures.specs.Path.{path_of};
 ghost use Rattle.dump_captures.specs.Place.{place_of, step_of};
-ghost use Rattle.dump_captures.specs.Content.{content_of};
 ghost use Rattle.dump_captures.specs.Sight.{sight_of, finding_of, headers_of, stream_headers, stream_of};
-ghost use Rattle.dump_captures.specs.Sight.{datagram_sight, is_cut, untold, protocol_category, network_category};
-ghost use Rattle.dump_captures.specs.Sight.{front_content, hop_limit_in, told, told_front, head_of, ports_behind};
-ghost use Rattle.dump_captures.specs.Sight.{HasBadHeader, IsRefused4, IsRefused6, IsSight4, IsSight6, IsEndSight};
+ghost use Rattle.dump_captures.specs.Sight.{datagram_sight, is_cut, protocol_category, network_category};
+ghost use Rattle.dump_captures.specs.Sight.{hop_limit_in, HasBadHeader, IsSight4, IsSight6, IsEndSight};
 ghost use Rattle.dump_captures.specs.Sight.{IsFrameSight, IsSight, IsWhole};
 
 use crate::content::{Content, content_by, messages_over_tcp};
 use crate::counts::Category;
-use crate::kind::{Kind, Reason};
 use crate::path::{Path, Tunnels};
 use crate::place::{Place, Step, Version, follow, packet_in};
 use crate::ports::Ports;
 use crate::refusal::Refusal;
+use crate::refused::{refused_v4, refused_v6, untold};
 use capture::Record;
 use frame_wire::tcp::Prefixed;
-use frame_wire::{Addresses, Captured, Datagram, Extent, Frame, Head, Link};
+use frame_wire::{Addresses, Datagram, Frame, Link};
 use message_fields::Message;
 use packet_fields::ports::ports_of;
 use reassembly::Fragment;
@@ -206,8 +201,8 @@ fn look_at_v6<'a>(given: &Ports, captured: &Record, octets: &[u8], place: &Place
 // The bytes of an IPv4 header without options.
 const IPV4_HEADER_LEN: usize = 20;
 
-// Whether the IPv4 header at the start of the octets is there, and its checksum is wrong.
-fn is_header_bad(octets: &[u8]) -> bool
+/// Whether the IPv4 header at the start of the octets is there, and its checksum is wrong.
+pub(crate) fn is_header_bad(octets: &[u8]) -> bool
     ensures { IsTrue result ↔ HasBadHeader octets.now }
 {
     if octets.len() < IPV4_HEADER_LEN {
@@ -280,8 +275,8 @@ fn by_protocol<'a>(
     })
 }
 
-// The hops that are left of a datagram on this way. Fragments may differ in it.
-fn hop_limit_of(path: &Path<'_>, datagram: &Datagram<'_>) -> Option<u8>
+/// The hops that are left of a datagram on this way. Fragments may differ in it.
+pub(crate) fn hop_limit_of(path: &Path<'_>, datagram: &Datagram<'_>) -> Option<u8>
     ensures { result ≡ hop_limit_in (path_of path.now) (datagram_of datagram.now) }
 {
     if path.frames.is_empty() {
@@ -295,185 +290,4 @@ pub fn is_cut(captured: &Record, octets: &[u8]) -> bool
     ensures { result ≡ is_cut (packet_of captured.now octets.now) }
 {
     (octets.len() as u64) < captured.original_len as u64
-}
-
-// A packet of which only the way to its datagram is known.
-fn untold(path: Path<'_>, reason: Reason, refusal: Refusal) -> Sight<'_>
-    ensures { sight_of result ≡ untold (path_of path.entry) reason refusal }
-{
-    Sight::Control(Headers {
-        path,
-        addresses: None,
-        ports: None,
-        hop_limit: None,
-        hop_by_hop: None,
-        is_header_bad: false,
-        content: Content::Refused(Kind::Frame, reason, refusal),
-    })
-}
-
-/// A refused datagram, of which this is known.
-pub fn told<'a>(
-    given: &Ports,
-    path: &Path<'a>,
-    addresses: Addresses,
-    protocol: IpProtocol,
-    ports: Option<(u16, u16)>,
-    reason: Reason,
-    refusal: Refusal,
-) -> Sight<'a>
-    ensures { sight_of result ≡ told given.now (path_of path.now) addresses protocol ports reason refusal }
-{
-    let Some(content) = content_by(given, &addresses, protocol, ports, &[]) else {
-        return Sight::Other(protocol_category(protocol));
-    };
-    Sight::Control(Headers {
-        path: *path,
-        addresses: Some(addresses),
-        ports,
-        hop_limit: None,
-        hop_by_hop: None,
-        is_header_bad: false,
-        content: Content::Refused(content.kind(), reason, refusal),
-    })
-}
-
-// A refused datagram, of which the start is known: what is there of one that is cut.
-fn told_front<'a>(
-    given: &Ports,
-    path: &Path<'a>,
-    is_header_bad: bool,
-    front: &Captured<'a>,
-    reason: Reason,
-    refusal: Refusal,
-) -> Sight<'a>
-    ensures { sight_of result ≡ told_front given.now (path_of path.now) is_header_bad (captured_of front.now) reason
-        refusal }
-{
-    let datagram = &front.datagram;
-    let (protocol, payload) = (datagram.protocol, datagram.payload);
-    let ports = ports_of(protocol, payload);
-    let Some(content) = content_by(given, &datagram.addresses, protocol, ports, payload) else {
-        return Sight::Other(protocol_category(protocol));
-    };
-    Sight::Control(Headers {
-        path: *path,
-        addresses: Some(datagram.addresses),
-        ports,
-        hop_limit: hop_limit_of(path, datagram),
-        hop_by_hop: datagram.hop_by_hop,
-        is_header_bad,
-        content: front_content(front.extent, reason, refusal, content),
-    })
-}
-
-// What there is of a refused datagram, of which this would be the content.
-fn front_content(
-    extent: Extent,
-    reason: Reason,
-    refusal: Refusal,
-    content: Content<'_>,
-) -> Content<'_>
-    ensures { content_of result ≡ front_content extent reason refusal (content_of content.entry) }
-{
-    match (extent, content) {
-        (Extent::Cut { missing }, Content::Whole(message)) => {
-            Content::Cut(message, missing as u64, reason)
-        }
-        (_, content) => Content::Refused(content.kind(), reason, refusal),
-    }
-}
-
-// What is known of a refused IPv4 datagram, as far as it was captured.
-fn refused_v4<'a>(
-    given: &Ports,
-    path: &Path<'a>,
-    octets: &'a [u8],
-    reason: Reason,
-    refusal: Refusal,
-) -> Sight<'a>
-    ensures { IsRefused4 given.now (path_of path.now) octets.now reason refusal (sight_of result) }
-{
-    match Captured::parse_v4(octets) {
-        Ok(front) => told_front(given, path, is_header_bad(octets), &front, reason, refusal),
-        Err(other) => match head_of(other) {
-            Some(head) => {
-                let ports = ports_behind(octets, &head);
-                told(
-                    given,
-                    path,
-                    head.addresses,
-                    head.protocol,
-                    ports,
-                    reason,
-                    refusal,
-                )
-            }
-            None => untold(*path, reason, refusal),
-        },
-    }
-}
-
-// The ports after an IPv4 header; a fragment that is not the first begins with none.
-fn ports_behind(octets: &[u8], head: &Head) -> Option<(u16, u16)>
-    ensures { result ≡ ports_behind octets.now head.now }
-{
-    if head.frag_offset == 0 {
-        ports_of(head.protocol, behind_header(octets))
-    } else {
-        None
-    }
-}
-
-// What follows an IPv4 header, by the header's length.
-fn behind_header(octets: &[u8]) -> &[u8]
-    ensures { result.now ≡ drop (header_len_in octets.now) octets.now }
-{
-    if octets.is_empty() {
-        return octets;
-    }
-    let header_len = Ipv4Packet::new_unchecked(octets).header_len() as usize;
-    octets.get(header_len..).unwrap_or(&[])
-}
-
-// What is known of a refused IPv6 datagram, as far as it was captured.
-fn refused_v6<'a>(
-    given: &Ports,
-    path: &Path<'a>,
-    octets: &'a [u8],
-    reason: Reason,
-    refusal: Refusal,
-) -> Sight<'a>
-    ensures { IsRefused6 given.now (path_of path.now) octets.now reason refusal (sight_of result) }
-{
-    match Captured::parse_v6(octets) {
-        Ok(front) => told_front(given, path, false, &front, reason, refusal),
-        Err(other) => match head_of(other) {
-            Some(head) => told(
-                given,
-                path,
-                head.addresses,
-                head.protocol,
-                None,
-                reason,
-                refusal,
-            ),
-            None => untold(*path, reason, refusal),
-        },
-    }
-}
-
-// What is known of a datagram whose start was not captured.
-fn head_of(refusal: frame_wire::Refusal) -> Option<Head>
-    ensures { result ≡ head_of refusal }
-{
-    match refusal {
-        frame_wire::Refusal::Cut(head) | frame_wire::Refusal::Fragment(head) => Some(head),
-        frame_wire::Refusal::Short
-        | frame_wire::Refusal::Version(_)
-        | frame_wire::Refusal::HeaderLen(_)
-        | frame_wire::Refusal::TotalLen(_)
-        | frame_wire::Refusal::Jumbogram
-        | frame_wire::Refusal::Extension(_) => None,
-    }
 }

@@ -3,9 +3,9 @@
 
 use crate::Fault;
 use crate::host::Host;
-use crate::kind::Kind;
 use crate::nearest::nearest;
-use crate::options::{Only, Options};
+pub use crate::only::read_only;
+use crate::options::Options;
 use crate::settings::{Setting, color_in, count_in, setting_of, split, time_form_in};
 use control_wire::record::Name;
 use packet_fields::Form;
@@ -328,51 +328,4 @@ fn copy_of(text: &str) -> Result<String, Fault> {
 fn is_option(word: &str) -> bool {
     let octets = word.as_bytes();
     octets.len() > 1 && octets[0] == b'-'
-}
-
-/// The packets that a list of names chooses, separated by commas; or else the first item that is no name.
-pub fn read_only(list: &str) -> Result<Only, &str> {
-    let mut only = Only::NONE;
-    for name in list.split(',') {
-        let Some(more) = with_name(only, name) else {
-            return Err(name);
-        };
-        only = more;
-    }
-    Ok(only)
-}
-
-// These packets and those of a name: of a kind, or those with hop-by-hop options.
-fn with_name(only: Only, name: &str) -> Option<Only> {
-    let mut kinds = only.kinds;
-    if name == "hbh" {
-        return Some(Only {
-            kinds,
-            hop_by_hop: true,
-        });
-    }
-    if name == "icmp" {
-        kinds[Kind::Icmp4.place()] = true;
-        kinds[Kind::Icmp6.place()] = true;
-        return Some(Only {
-            kinds,
-            hop_by_hop: only.hop_by_hop,
-        });
-    }
-    let kind = kind_of(name)?;
-    kinds[kind.place()] = true;
-    Some(Only {
-        kinds,
-        hop_by_hop: only.hop_by_hop,
-    })
-}
-
-// The kind of a name.
-fn kind_of(name: &str) -> Option<Kind> {
-    for kind in &Kind::ALL {
-        if name == kind.name() {
-            return Some(*kind);
-        }
-    }
-    None
 }

@@ -4,7 +4,7 @@ use Rattle.std.proofs.lemmas.Iterator.Consumers.{YieldsList-so_far, YieldsList-t
 use Rattle.std.proofs.lemmas.Iterator.Splits.{YieldsList-from_str_split}
 use Rattle.dump_captures.specs.Arguments.{only_of, with_names}
 use Rattle.dump_captures.proofs.Names.{names-stop}
-use Rattle.dump_captures.proofs.arguments.read_only.Goals as goal
+use Rattle.dump_captures.proofs.only.read_only.Goals as goal
 
 pub returns-in_default-clause-wrong : goal.returns-in_default-clause-wrong
 unfolding only_of

@@ -1,7 +1,7 @@
 -- The packets of a kind are chosen too.
 use Rattle.std.proofs.Common.{sym, ◌∙◌, arith}
 use Rattle.dump_captures.proofs.Names.{with_name-icmp, with_name-kind}
-use Rattle.dump_captures.proofs.arguments.with_name.Goals as goal
+use Rattle.dump_captures.proofs.only.with_name.Goals as goal
 
 pub returns : goal.returns
 returns c =

@@ -2,7 +2,7 @@
 use Rattle.std.proofs.Common.{◌≡◌, Ok}
 use Rattle.std.specs.Prelude.{map}
 use Rattle.dump_captures.specs.Arguments.{with_names}
-use Rattle.dump_captures.proofs.arguments.read_only.Given as goal
+use Rattle.dump_captures.proofs.only.read_only.Given as goal
 
 abbrev pub invariant-loop-name : goal.invariant-loop-name
 invariant-loop-name l =
