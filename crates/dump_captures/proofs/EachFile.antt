@@ -87,8 +87,8 @@ named view (file ∷ files) some = refl
 
 -- ---- a file whose bytes are known
 
-known-prints : (options : Options) (file known bytes : Option (List ℕ)) (old new : TallyValue) (text : List ℕ) (status : ℕ)
-    → IfSome known (λ all. bytes ≡ Some all) → FilePrints options file bytes old text new status
+known-prints : (options : Options) (file known bytes : Option (List ℕ)) (old new : TallyValue) (text : List ℕ)
+    (status : ℕ) → IfSome known (λ all. bytes ≡ Some all) → FilePrints options file bytes old text new status
     → FilePrints options file known old text new status
 known-prints options file known bytes old new text status gives (unopened none same is) = unopened none same is
 known-prints options file known bytes old new text status gives (opened stop prints is) =

@@ -9,6 +9,7 @@ pub mod Names
 pub mod NumberRuns
 pub mod Places
 pub mod Printing
+pub mod Rows
 pub mod Running
 pub mod Summaries
 pub mod SummaryObjects

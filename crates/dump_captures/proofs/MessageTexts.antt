@@ -24,8 +24,9 @@ module _ (options : Options) (a : ArrivalValue) (s : StreamValue) (old : Session
   pub printed-init : (all : List (List ℕ)) → PrintedSoFar all all Passed old before
   printed-init all = record { text = []; gains = gains_none before; goes_on = λ more outcome new prints. prints }
 
-  pub printed-more : (all left next : List (List ℕ)) (message : List ℕ) (so_far own : Outcome) (middle new : SessionValue)
-      (now later : Option (List ℕ)) → PrintedSoFar all left so_far middle now → left ≡ message ∷ next
+  pub printed-more : (all left next : List (List ℕ)) (message : List ℕ) (so_far own : Outcome)
+      (middle new : SessionValue) (now later : Option (List ℕ)) → PrintedSoFar all left so_far middle now
+      → left ≡ message ∷ next
       → GainsSome now later (λ text. HeadersPrint options a (stream_headers s message) middle text own new)
       → PrintedSoFar all next (joined_outcome so_far own) new later
   printed-more all left next message so_far own middle new now later printed is (first, prints, gains) = record {

@@ -85,7 +85,8 @@ module _ (options : Options) (a : ArrivalValue) (h : HeadersValue) (items : List
       )
 
   object_is : (head more : List Item)
-      → ((object_front (codes "number") (number a.number) ++ items_text Json head) ++ items_text Json more) ++ codes "}\n"
+      → ((object_front (codes "number") (number a.number) ++ items_text Json head) ++ items_text Json more)
+      ++ codes "}\n"
       ≡ object_text (codes "number") (number a.number) (head ++ more) ++ codes "\n"
   unfolding object_text items_text
   object_is head more = simp (append_assoc, flat_map-append)

@@ -60,8 +60,8 @@ read-front (Some all) left s seen reads = record { left = reads.0; reached = s; 
 
 -- How far a run has come, with `left` of the input `start`: it has read packets, printed a text and kept fragments, and
 -- what further packets print follows it.
-pub record SoFar (options : Options) (file : Option (List ℕ)) (start left : Option (List ℕ)) (s : State) (n : ℕ) (b : ProgressValue)
-    (kept : KeptValue) (first tally : TallyValue) (before now : Option (List ℕ)) : Type 0 where
+pub record SoFar (options : Options) (file : Option (List ℕ)) (start left : Option (List ℕ)) (s : State) (n : ℕ)
+    (b : ProgressValue) (kept : KeptValue) (first tally : TallyValue) (before now : Option (List ℕ)) : Type 0 where
   pub seen : List PacketValue
   pub text : List ℕ
   pub reads : IfSome start (λ all. HasRead all left s seen)
@@ -70,9 +70,10 @@ pub record SoFar (options : Options) (file : Option (List ℕ)) (start left : Op
       (session : SessionValue) → PacketsPrint options file n b kept tally packets more new last session
       → PacketsPrint options file 0 (begin options) nothing_kept first (seen ++ packets) (text ++ more) new last session
 
-pub so_far-init : (options : Options) (file : Option (List ℕ)) (start : Option (List ℕ)) (s : State) (n : ℕ) (b : ProgressValue)
-    (kept : KeptValue) (tally : TallyValue) (before : Option (List ℕ)) → s ≡ state Start [] → n ≡ 0
-    → b ≡ begin options → kept ≡ nothing_kept → SoFar options file start start s n b kept tally tally before before
+pub so_far-init : (options : Options) (file : Option (List ℕ)) (start : Option (List ℕ)) (s : State) (n : ℕ)
+    (b : ProgressValue) (kept : KeptValue) (tally : TallyValue) (before : Option (List ℕ)) → s ≡ state Start []
+    → n ≡ 0 → b ≡ begin options → kept ≡ nothing_kept
+    → SoFar options file start start s n b kept tally tally before before
 so_far-init options file start s n b kept tally before begins none new empty =
     record {
       seen = [];
@@ -82,8 +83,8 @@ so_far-init options file start s n b kept tally before begins none new empty =
       goes_on = λ packets more last end session prints. rw (none, new, empty) at prints;
     }
 
-module _ (options : Options) (file : Option (List ℕ)) (start left : Option (List ℕ)) (s : State) (n : ℕ) (b : ProgressValue)
-    (kept : KeptValue) (first tally : TallyValue) (before now : Option (List ℕ))
+module _ (options : Options) (file : Option (List ℕ)) (start left : Option (List ℕ)) (s : State) (n : ℕ)
+    (b : ProgressValue) (kept : KeptValue) (first tally : TallyValue) (before now : Option (List ℕ))
     (so_far : SoFar options file start left s n b kept first tally before now) where
   -- the packets that could be read, or were to be
   so_far-stop : (later : Option (List ℕ)) → Gains now later [] → (stop : Stop)
@@ -154,9 +155,9 @@ module _ (options : Options) (file : Option (List ℕ)) (start left : Option (Li
         (read-all start left remaining s new so_far.seen ending octets so_far.reads gives) goes_on
 
 -- what is known of an input is known of the bytes that it has
-pub known-input : (options : Options) (file : Option (List ℕ)) (known bytes : Option (List ℕ)) (old new : TallyValue) (text : List ℕ)
-    (stop : Stop) → IfSome known (λ all. bytes ≡ Some all) → InputPrints options file bytes old text new stop
-    → InputPrints options file known old text new stop
+pub known-input : (options : Options) (file : Option (List ℕ)) (known bytes : Option (List ℕ)) (old new : TallyValue)
+    (text : List ℕ) (stop : Stop) → IfSome known (λ all. bytes ≡ Some all)
+    → InputPrints options file bytes old text new stop → InputPrints options file known old text new stop
 known-input options file None bytes old new text stop gives prints =
     let read = prints.packets in
     record {

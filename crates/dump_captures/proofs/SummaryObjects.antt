@@ -8,6 +8,8 @@ use Rattle.packet_fields.specs.Output.{Gains}
 use Rattle.packet_fields.specs.Prints.{Prints}
 use Rattle.packet_fields.specs.declared.form.Form.TheVariants.{Json}
 use Rattle.packet_fields.proofs.Printing.{◌then◌}
+use Rattle.dump_captures.proofs.Printing.{gains_items}
+use Rattle.dump_captures.proofs.Rows.{texts}
 use Rattle.dump_captures.specs.Pairing.{summary_object}
 use Rattle.dump_captures.specs.private.Objects.{summary_front}
 
@@ -22,3 +24,5 @@ pub in_object : {E : Type 0} (word : List ℕ) (file : Option (List ℕ)) (items
 in_object word file items a b c d (Ok x) front printed end =
     subst (Gains a d) (object_is word file items) (front then printed.gains then end)
 in_object word file items a b c d (Err e) front printed end = tt
+
+pub ruleset objects = (texts, gains_items, in_object)

@@ -7,8 +7,8 @@ use Rattle.capture.specs.Time.{TimeValue}
 use Rattle.dump_captures.specs.Moments.{when_text}
 use Rattle.dump_captures.specs.declared.arrival.Arrival.{Arrival}
 
--- the name of the file of a packet, where it is to be told, its number, the text of its time, where it has one, and what
--- the capture holds of it
+-- the name of the file of a packet, where it is to be told, its number, the text of its time, where it has one, and
+-- what the capture holds of it
 pub record ArrivalValue : Type 0 where
   pub file : Option (List ℕ)
   pub number : ℕ

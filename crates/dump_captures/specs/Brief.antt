@@ -85,4 +85,5 @@ pub record BriefPrints (options : Options) (a : ArrivalValue) (h : HeadersValue)
   pub told : List ℕ
   pub says : PacketSays options.is_strict h told
   pub text_is : shown
-      ≡ painted (is_red options why) red (brief_front options.is_verbose a h ++ told ++ answer_words answer) ++ codes "\n"
+      ≡ painted (is_red options why) red (brief_front options.is_verbose a h ++ told ++ answer_words answer)
+      ++ codes "\n"

@@ -98,7 +98,8 @@ PrintsBy false options a h why answer text = LengthyPrints options a h why answe
 abbrev pub PrintsUnless : Bool → Options → ArrivalValue → HeadersValue → Option Reason → Option Answered → List ℕ
     → Type 0
 PrintsUnless true options a h why answer text = (items : List Item) × ListingIs options h items why × (text ≡ [])
-PrintsUnless false options a h why answer text = PrintsBy (in_brief options.form options.is_brief) options a h why answer text
+PrintsUnless false options a h why answer text =
+    PrintsBy (in_brief options.form options.is_brief) options a h why answer text
 
 abbrev pub ControlPrints : Options → ArrivalValue → HeadersValue → Option Reason → Option Answered → List ℕ → Type 0
 ControlPrints options = PrintsUnless options.stats options
@@ -198,8 +199,8 @@ next_number n = min (n + 1) (2 ^ 64 - 1)
 
 -- What the packets after n others print, one after another, of which this is kept, as long as packets are left to be
 -- printed; each is counted. Behind the last one this is kept of the messages.
-abbrev pub PacketsPrint : Options → Option (List ℕ) → ℕ → ProgressValue → KeptValue → TallyValue → List PacketValue → List ℕ
-    → TallyValue → ProgressValue → SessionValue → Type 0
+abbrev pub PacketsPrint : Options → Option (List ℕ) → ℕ → ProgressValue → KeptValue → TallyValue → List PacketValue
+    → List ℕ → TallyValue → ProgressValue → SessionValue → Type 0
 PacketsPrint options file n b held old [] text new last session =
     (text ≡ []) × (new ≡ old) × (last ≡ b) × (session ≡ held.session)
 PacketsPrint options file n b held old (p ∷ packets) text new last session =
@@ -231,15 +232,16 @@ StopsBy NotRead last = ⊤
 -- What the packets of an input print, whose bytes may be known: those from the first on, up to the one after which no
 -- more are to be printed; before the first nothing is kept, and behind the last one this of the messages. Their counts
 -- are added to those before.
-pub record ReadPrints (options : Options) (file : Option (List ℕ)) (bytes : Option (List ℕ)) (old : TallyValue) (text : List ℕ)
-    (new : TallyValue) (session : SessionValue) (stop : Stop) : Type 0 where
+pub record ReadPrints (options : Options) (file : Option (List ℕ)) (bytes : Option (List ℕ)) (old : TallyValue)
+    (text : List ℕ) (new : TallyValue) (session : SessionValue) (stop : Stop) : Type 0 where
   pub packets : List PacketValue
   pub last : ProgressValue
   pub reads : IfSome bytes (λ all. AreRead all packets stop)
   pub prints : PacketsPrint options file 0 (begin options) nothing_kept old packets text new last session
   pub stops : StopsBy stop last
 
--- What an input prints, with the name of its file where it is to be told: its packets, and then what stands behind them.
+-- What an input prints, with the name of its file where it is to be told: its packets, and then what stands behind
+-- them.
 pub record InputPrints (options : Options) (file : Option (List ℕ)) (bytes : Option (List ℕ)) (old : TallyValue)
     (text : List ℕ) (new : TallyValue) (stop : Stop) : Type 0 where
   pub packets_text : List ℕ

@@ -38,8 +38,8 @@ abbrev pub bytes_of_name : Option (List ℕ) → (List ℕ → Option (List ℕ)
 bytes_of_name input file name = if bytes_eq name standard then input else file name
 
 -- What a file prints whose bytes may be known, and its status: one that can't be opened prints nothing.
-pub data FilePrints (options : Options) (file : Option (List ℕ)) (bytes : Option (List ℕ)) (old : TallyValue) (text : List ℕ)
-    (new : TallyValue) (status : ℕ) : Type 0 where
+pub data FilePrints (options : Options) (file : Option (List ℕ)) (bytes : Option (List ℕ)) (old : TallyValue)
+    (text : List ℕ) (new : TallyValue) (status : ℕ) : Type 0 where
   unopened : text ≡ [] → new ≡ old → status ≡ 2 → FilePrints options file bytes old text new status
   opened : (stop : Stop) → InputPrints options file bytes old text new stop → status ≡ stop_status stop
       → FilePrints options file bytes old text new status

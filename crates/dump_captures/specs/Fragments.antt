@@ -47,8 +47,8 @@ with_options d w = record d { hop_by_hop = w.hop_by_hop }
 -- The extension headers that its payload begins with may be torn.
 pub data IsJoinedSight (given : Ports) (p : PacketValue) (path : PathValue) (w : WholeValue) (s : SightValue)
     : Type 0 where
-  joined : (d : DatagramValue) → IsJoined w.addresses w.protocol w.payload d → IsWithin given p path (with_options d w) s
-      → IsJoinedSight given p path w s
+  joined : (d : DatagramValue) → IsJoined w.addresses w.protocol w.payload d
+      → IsWithin given p path (with_options d w) s → IsJoinedSight given p path w s
   torn : (r : DatagramRefusal) → RefusesJoined w.addresses w.protocol w.payload r
       → s ≡ told given path w.addresses w.protocol None (counted_as p (refusal.Datagram r)) (refusal.Datagram r)
       → IsJoinedSight given p path w s

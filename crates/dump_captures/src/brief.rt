@@ -1,6 +1,6 @@
 //! A control packet on a line.
 
-#![tactic(auto, using(packet_fields::proofs::Printing::gained, packet_fields::proofs::Printing::gains_both, packet_fields::proofs::Printing::gains_none))]
+#![tactic(auto, using(crate::proofs::Rows::texts))]
 
 ghost use Rattle.std.specs.Prelude.{◌≡◌, ◌&&◌, IfOk, None, OnOk};
 ghost use Rattle.message_fields.specs.Checksums.{value_of};

@@ -184,7 +184,8 @@ fn dump_file<C: Captures, W: Write>(
     tally: &mut Tally,
 ) -> Result<u8, Fault>
     ensures { IfOk result (λ status. GainsSome (W.contents output.old) (W.contents output.new) (λ text.
-        FilePrints options.now (told_name several file.now) (bytes_of_name (C.input_bytes captures.now) (C.file_bytes captures.now) file.now)
+        FilePrints options.now (told_name several file.now)
+        (bytes_of_name (C.input_bytes captures.now) (C.file_bytes captures.now) file.now)
         (counts_before options.now (tally_of tally.old)) text (tally_of tally.new) status)) }
 {
     start_counts(options, tally);
@@ -220,7 +221,8 @@ fn dump_input<R: Read + Drop, W: Write>(
     tally: &mut Tally,
 ) -> Result<u8, Fault>
     ensures { IfOk result (λ status. GainsSome (W.contents output.old) (W.contents output.new) (λ text.
-        FilePrints options.now (told_name several name.now) (R.remaining input) (tally_of tally.old) text (tally_of tally.new) status)) }
+        FilePrints options.now (told_name several name.now) (R.remaining input) (tally_of tally.old) text
+        (tally_of tally.new) status)) }
 {
     let before = tally.packets;
     let mut input = Watched {

@@ -30,8 +30,8 @@ its kind, and below it what it holds, a field a line. Without a file, and for -,
   --port KIND=PORT  reads UDP of this port as `dns`, `mdns`, `llmnr`, `nbns` or `dhcp` too, and as `dns` also TCP; it
                     goes before the ports below, and may be given for each kind
   -1, --brief       prints each packet on a line
-  -v, --verbose     adds to headings, and to lines of --brief, the addresses of Ethernet frames, the length of the packet
-                    in bytes, and the TTL or the hop limit
+  -v, --verbose     adds to headings, and to lines of --brief, the addresses of Ethernet frames, the length of the
+                    packet in bytes, and the TTL or the hop limit
   --color WHEN      `always`, `never` or, as it is without this, `auto`: on a terminal, unless NO_COLOR is set; headings
                     are bold then, and lines of --brief red where a packet is refused or read in part
   --json            prints each packet as an object of JSON, on a line

@@ -1,6 +1,6 @@
 //! The members of a control packet's object in JSON that its heading has in lines.
 
-#![tactic(auto, using(packet_fields::proofs::Fields::prints_both, packet_fields::proofs::Fields::prints_none, packet_fields::proofs::Printing::gained, packet_fields::proofs::Printing::gains_both, packet_fields::proofs::Printing::gains_none))]
+#![tactic(auto, using(crate::proofs::Rows::fields, crate::proofs::Rows::texts))]
 
 ghost use Rattle.std.specs.Prelude.{◌≤◌, OnOk, length, true};
 ghost use Rattle.std.specs.Option.{option_map};

@@ -24,7 +24,8 @@ pub(crate) fn open_object<V: Value, W: Write>(output: &mut W, key: &str, value: 
     value.put(output, Form::Json)
 }
 
-/// Prints the front of an object that stands behind those of packets, up to the name of the file where it is to be told.
+/// Prints the front of an object that stands behind those of packets, up to the name of the file where it is to be
+/// told.
 pub(crate) fn open_summary<W: Write>(
     output: &mut W,
     word: &str,

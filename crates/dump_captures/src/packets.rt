@@ -96,7 +96,8 @@ pub fn dump<R: Read + Drop, W: Write>(
     }
 }
 
-/// Dumps as far as the input can be read, or as is asked for. Objects of JSON have the name of the file, if there is one.
+/// Dumps as far as the input can be read, or as is asked for. Objects of JSON have the name of the file, if there is
+/// one.
 pub fn dump_readable<R: Read + Drop, W: Write>(
     alloc: Global,
     options: &Options,
@@ -106,7 +107,8 @@ pub fn dump_readable<R: Read + Drop, W: Write>(
     tally: &mut Tally,
 ) -> Result<Stop, Fault>
     ensures { IfOk result (λ stop. GainsSome (W.contents output.old) (W.contents output.new) (λ text.
-        InputPrints options.now (option_map (λ name. name.now) file.entry) (R.remaining input) (tally_of tally.old) text (tally_of tally.new) stop)) }
+        InputPrints options.now (option_map (λ name. name.now) file.entry) (R.remaining input)
+        (tally_of tally.old) text (tally_of tally.new) stop)) }
 {
     let Ok(mut input) = BufReader::with_capacity(alloc, BUFFER_LEN, input) else {
         return Err(Fault::Memory);

@@ -1,6 +1,6 @@
 //! What a packet answers, and what got no answer.
 
-#![tactic(auto, using(packet_fields::proofs::Fields::prints_both, packet_fields::proofs::Fields::prints_none, packet_fields::proofs::Printing::gained, packet_fields::proofs::Printing::gains_both, packet_fields::proofs::Printing::gains_none, crate::proofs::Printing::gains_items, crate::proofs::SummaryObjects::in_object))]
+#![tactic(auto, using(crate::proofs::Rows::fields, crate::proofs::SummaryObjects::objects))]
 
 ghost use Rattle.std.specs.Prelude.{◌≡◌, ◌==◌, ◌&&◌, OnOk, flat_map, true};
 ghost use Rattle.std.specs.Option.{option_map};

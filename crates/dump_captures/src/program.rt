@@ -45,8 +45,8 @@ impl<R: Files + Input> Captures for Machine<'_, R> {
     }
 }
 
-/// The whole of `pcapdump`: prints what the files that the arguments name hold, and returns the program's status. Is told
-/// whether standard output is a terminal.
+/// The whole of `pcapdump`: prints what the files that the arguments name hold, and returns the program's status. Is
+/// told whether standard output is a terminal.
 pub fn run_program(
     rt: &(impl Env + Files + Input + Print + Eprint + AllocGlobal),
     is_terminal: bool,

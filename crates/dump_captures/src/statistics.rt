@@ -1,6 +1,6 @@
 //! The page of what the messages of a capture say.
 
-#![tactic(auto, using(packet_fields::proofs::Fields::prints_both, packet_fields::proofs::Printing::gained, packet_fields::proofs::Printing::gains_both, packet_fields::proofs::Printing::gains_none, crate::proofs::Printing::gains_items, crate::proofs::SummaryObjects::in_object))]
+#![tactic(auto, using(packet_fields::proofs::Fields::prints_both, crate::proofs::SummaryObjects::objects))]
 
 ghost use Rattle.std.specs.Prelude.{◌&&◌, OnOk};
 ghost use Rattle.std.specs.Option.{option_map};

@@ -1,6 +1,6 @@
 //! The tunnels that a datagram is in, as a heading and as JSON have them.
 
-#![tactic(auto, using(packet_fields::proofs::Printing::gained, packet_fields::proofs::Printing::gains_both, packet_fields::proofs::Printing::gains_none, packet_fields::proofs::Fields::prints_none))]
+#![tactic(auto, using(crate::proofs::Rows::texts, packet_fields::proofs::Fields::prints_none))]
 
 ghost use Rattle.std.specs.Prelude.{◌≡◌, [], ◌∷◌, OnOk, codes, map};
 ghost use Rattle.packet_fields.specs.Fields.{entries as entries_item, entries_text, entry_text};

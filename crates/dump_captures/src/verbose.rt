@@ -1,6 +1,6 @@
 //! Words of a heading that are asked for: link addresses, the length, and the hops that are left.
 
-#![tactic(auto, using(packet_fields::proofs::Printing::gained, packet_fields::proofs::Printing::gains_both, packet_fields::proofs::Printing::gains_none))]
+#![tactic(auto, using(crate::proofs::Rows::texts))]
 
 ghost use Rattle.std.specs.Prelude.{◌≡◌, OnOk};
 ghost use Rattle.packet_fields.specs.Output.{Gains};

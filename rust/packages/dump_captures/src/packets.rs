@@ -68,7 +68,8 @@ pub fn dump<R: Read, W: Write>(
     }
 }
 
-/// Dumps as far as the input can be read, or as is asked for. Objects of JSON have the name of the file, if there is one.
+/// Dumps as far as the input can be read, or as is asked for. Objects of JSON have the name of the file, if there is
+/// one.
 pub fn dump_readable<R: Read, W: Write>(
     options: &Options,
     file: Option<&str>,

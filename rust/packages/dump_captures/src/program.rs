@@ -36,8 +36,8 @@ impl Captures for Machine {
     }
 }
 
-/// The whole of `pcapdump`: prints what the files that the arguments name hold, and returns the program's status. Is told
-/// whether standard output is a terminal.
+/// The whole of `pcapdump`: prints what the files that the arguments name hold, and returns the program's status. Is
+/// told whether standard output is a terminal.
 pub fn run_program(is_terminal: bool) -> u8 {
     let task = match env::args() {
         Ok(arguments) => read_task(arguments),

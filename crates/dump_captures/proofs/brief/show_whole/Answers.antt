@@ -18,8 +18,8 @@ returns-then-is_refused g c =
 
 pub returns : goal.returns
 returns g c =
-    gains_some (BriefIs (value_of c.args.message.now)) (WholeSays c.args.is_strict (value_of c.args.message.now)) _ _ _ _
-    c.show_brief.result (c.in_ok-show_checksum.ensures then c.in_ok-show_kind.ensures)
+    gains_some (BriefIs (value_of c.args.message.now)) (WholeSays c.args.is_strict (value_of c.args.message.now))
+    _ _ _ _ c.show_brief.result (c.in_ok-show_checksum.ensures then c.in_ok-show_kind.ensures)
     (λ body is.
     WholeSays.says _ body c.checksum-state.ensures (sym c.is_refused.ensures ∙ c.if-is_refused.false) is
     (ap (λ content. checksum_word c.checksum-state.result ++ kind_word content ++ body) c.requires))

@@ -11,8 +11,10 @@ returns-in-Ended g c =
 
 pub returns-in-Enough : goal.returns-in-Enough
 returns-in-Enough g c =
-    let printed = rw (c.in-Enough.is, c.told_name-told.ensures) at c.in_ok-stop.ensures in (printed.0, opened Enough printed.1 refl, printed.2)
+    let printed = rw (c.in-Enough.is, c.told_name-told.ensures) at c.in_ok-stop.ensures in
+    (printed.0, opened Enough printed.1 refl, printed.2)
 
 pub returns : goal.returns
 returns g c =
-    let printed = rw (c.in-Unread.is, c.told_name-told.ensures) at c.in_ok-stop.ensures in (printed.0, opened Unread printed.1 refl, printed.2)
+    let printed = rw (c.in-Unread.is, c.told_name-told.ensures) at c.in_ok-stop.ensures in
+    (printed.0, opened Unread printed.1 refl, printed.2)

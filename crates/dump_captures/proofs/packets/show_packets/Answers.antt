@@ -11,8 +11,9 @@ use Rattle.dump_captures.proofs.packets.show_packets.Goals as goal
 
 pub packets-init : goal.packets-init
 packets-init g c =
-    so_far-init c.args.options.now (option_map (λ name. name.now) c.args.file) (reader_remaining g.R.Read.remaining c.args.input.now)
-    (state_of c.new-capture.result) (count_of c.new-capture.result) (progress_of c.new-progress.result) _
+    so_far-init c.args.options.now (option_map (λ name. name.now) c.args.file)
+    (reader_remaining g.R.Read.remaining c.args.input.now) (state_of c.new-capture.result)
+    (count_of c.new-capture.result) (progress_of c.new-progress.result) _
     (tally_of c.args.tally.now) (g.W.Write.contents c.args.output.now) c.new-capture.ensures.state
     c.new-capture.ensures.count c.new-progress.ensures c.requires
 

@@ -7,4 +7,5 @@ use Rattle.dump_captures.proofs.pairing.show_in_lines.Goals as goal
 pub returns : goal.returns
 returns g c =
     rw c.if-is_brief.false
-    (gains_items _ _ _ _ Lines _ c.show_asked-2.result (gained _ _ _ c.in_ok-write_all.ensures.bytes) c.show_asked-2.ensures)
+    (gains_items _ _ _ _ Lines _ c.show_asked-2.result (gained _ _ _ c.in_ok-write_all.ensures.bytes)
+    c.show_asked-2.ensures)

@@ -18,7 +18,8 @@ returns g c =
     (record {
       questions = earlier ++ later;
       are = c.waiting.ensures;
-      text_is = ap (λ questions. questions ++ dropped) (sym (flat_map-append (question_text options file) earlier later));
+      text_is =
+          ap (λ questions. questions ++ dropped) (sym (flat_map-append (question_text options file) earlier later));
     })
     (gains_last _ dropped _ (c.in_ok-show_questions.ensures then c.in_ok-show_questions-2.ensures)
     (rw c.dropped.ensures at c.show_dropped.ensures))
