@@ -2,7 +2,7 @@
 
 #![tactic(auto, using(crate::proofs::Rows::texts))]
 
-ghost use Rattle.std.specs.Prelude.{◌≡◌, ◌&&◌, IfOk, None, OnOk};
+ghost use Rattle.std.specs.Prelude.{◌≡◌, IfOk, None, OnOk};
 ghost use Rattle.message_fields.specs.Checksums.{value_of};
 ghost use Rattle.packet_fields.specs.Output.{Gains, GainsSome};
 ghost use Rattle.dump_captures.specs.Arrival.{arrival_of};
@@ -98,18 +98,11 @@ fn show_packet<W: Write>(
     ensures { OnOk result (GainsSome (W.contents output.old) (W.contents output.new)
         (PacketSays is_strict (headers_of headers.now))) }
 {
-    if is_header_refused(is_strict, headers) {
+    if headers.is_header_refused(is_strict) {
         return show_refused(output, alloc, &headers.content, &Refusal::Header);
     }
     show_header(output, headers.is_header_bad)?;
     show_content(output, alloc, is_strict, &headers.content)
-}
-
-// Whether a packet is refused for the checksum of its IPv4 header.
-fn is_header_refused(is_strict: bool, headers: &Headers<'_>) -> bool
-    ensures { result ≡ (is_strict && headers.now.is_header_bad) }
-{
-    is_strict && headers.is_header_bad
 }
 
 // Prints that the checksum of the IPv4 header is wrong, where it is.

@@ -1,12 +1,10 @@
 //! What a control packet holds, below its heading.
 
-ghost use Rattle.std.specs.Prelude.{◌≡◌, ◌&&◌, IfOk, OnOk, Some};
-ghost use Rattle.std.specs.Option.{option_map};
+ghost use Rattle.std.specs.Prelude.{◌≡◌, IfOk, OnOk, Some};
 ghost use Rattle.message_fields.specs.Checksums.{value_of};
 ghost use Rattle.packet_fields.specs.Prints.{Prints, PrintsSome};
 ghost use Rattle.dump_captures.specs.Messages.{ContentIs, ListingIs, WholeIs, counted, refused_items};
 ghost use Rattle.dump_captures.specs.Messages.{first_of, header_items, header_reason};
-ghost use Rattle.dump_captures.specs.Refusals.{reason_of};
 ghost use Rattle.dump_captures.specs.Content.{content_of};
 ghost use Rattle.dump_captures.specs.Sight.{headers_of};
 
@@ -34,7 +32,7 @@ pub fn show_listing<W: Write>(
     ensures { IfOk result (λ why. PrintsSome options.now.form (W.contents output.old) (W.contents output.new)
         (λ items. ListingIs options.now (headers_of headers.now) items why)) }
 {
-    if is_header_refused(options, headers) {
+    if headers.is_header_refused(options.is_strict) {
         let reason = header_reason(&headers.content);
         return refuse(output, options.form, alloc, reason, &Refusal::Header);
     }
@@ -42,13 +40,6 @@ pub fn show_listing<W: Write>(
     show_hop_by_hop(output, options.form, headers.hop_by_hop)?;
     let told = show_content(options, output, alloc, &headers.content)?;
     Ok(first_of(headers.is_header_bad, &headers.content, told))
-}
-
-// Whether a packet is refused for the checksum of its IPv4 header.
-fn is_header_refused(options: &Options, headers: &Headers<'_>) -> bool
-    ensures { result ≡ (options.now.is_strict && headers.now.is_header_bad) }
-{
-    options.is_strict && headers.is_header_bad
 }
 
 // Prints that the checksum of the IPv4 header is wrong, where it is.

@@ -4,7 +4,7 @@ ghost use Rattle.std.specs.Prelude.{◌≡◌, IfOk, IfErr, IfSome, IsNone};
 ghost use Rattle.frame_wire.specs.Captured.{captured_of};
 ghost use Rattle.frame_wire.specs.Datagram.{value_of as datagram_of};
 ghost use Rattle.dump_captures.specs.Path.{path_of};
-ghost use Rattle.dump_captures.specs.Place.{place_of, step_of, packet_in, IsFollowed, Stays, IsThere, IsUnreadable};
+ghost use Rattle.dump_captures.specs.Place.{step_of, packet_in, IsFollowed, Stays, IsThere, IsUnreadable};
 ghost use Rattle.dump_captures.specs.Place.{Follows, IsLast, LeadsTo};
 
 use crate::path::{Passage, Path};

@@ -1,6 +1,6 @@
 //! Messages about groups printed, each in one line.
 
-ghost use Rattle.std.specs.Prelude.{◌≡◌, ◌++◌, Some, codes, flat_map};
+ghost use Rattle.std.specs.Prelude.{◌++◌, Some, codes, flat_map};
 ghost use Rattle.std.specs.Fmt.{WritesOnOk};
 ghost use Rattle.group_wire.specs.Display.{family_display, sources_display, record_display, records_display};
 ghost use Rattle.group_wire.specs.Display.{content_display, message_display, refusal_display};

@@ -1,6 +1,6 @@
 //! The two protocols, and what differs between their messages.
 
-ghost use Rattle.std.specs.Prelude.{◌≡◌, ◌≤◌};
+ghost use Rattle.std.specs.Prelude.{◌≡◌};
 ghost use Rattle.group_wire.specs.Family.{width, group_at, older_len, kind_number, kind_of};
 
 /// The protocol of a message about groups.

@@ -1,9 +1,8 @@
 //! Records of reports (RFC 3376 section 4.2, RFC 3810 section 5.2).
 
 ghost use Rattle.std.specs.Prelude.{◌≡◌, ◌≤◌, ◌<◌, ◌↔◌, length, IfSome, IsNone};
-ghost use Rattle.wirebase.specs.Bytes.{byte_of, number_of};
 ghost use Rattle.group_wire.specs.Family.{width};
-ghost use Rattle.group_wire.specs.Record.{record_len_in, auxiliary_at, count_field, value_of, IsRecord};
+ghost use Rattle.group_wire.specs.Record.{record_len_in, auxiliary_at, value_of, IsRecord};
 
 use crate::address::Address;
 use crate::sources::Sources;

@@ -5,7 +5,6 @@ ghost use Rattle.std.specs.Prelude.{◌≡◌, ◌*◌, ◌<◌, option_map};
 ghost use Rattle.wirebase.specs.Duration.{micros_of};
 ghost use Rattle.group_wire.specs.Membership.{value_of};
 ghost use Rattle.group_wire.specs.Times.{max_resp_millis, older_millis, query_millis, interval_seconds, version_of};
-ghost use Rattle.group_wire.specs.Times.{older_version, newest_version};
 
 use crate::address::Address;
 use crate::family::Family;

@@ -2,7 +2,7 @@
 
 #![tactic(auto, using(packet_fields::proofs::Fields::prints_both))]
 
-ghost use Rattle.std.specs.Prelude.{◌∷◌, [], ◌≡◌, Option, OnOk, ℕ};
+ghost use Rattle.std.specs.Prelude.{◌∷◌, [], ◌≡◌, Option, OnOk};
 ghost use Rattle.packet_fields.specs.Prints.{Prints};
 ghost use Rattle.icmp_fields.specs.Quote.{protocol_item, port_items, ports_items, fragment_items, ipv4_path_items};
 ghost use Rattle.icmp_fields.specs.Quote.{ipv4_ports, ipv4_quote_items, flow_items, ipv6_path_items, ipv6_quote_items};

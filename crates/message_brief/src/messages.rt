@@ -1,10 +1,9 @@
 //! Messages, whole or cut.
 
-ghost use Rattle.std.specs.Prelude.{◌≡◌, ◌&&◌, IfOk, OnOk};
-ghost use Rattle.frame_wire.specs.UdpCaptured.{captured_of};
+ghost use Rattle.std.specs.Prelude.{◌≡◌, IfOk, OnOk};
 ghost use Rattle.wirebase.specs.Sink.{PutsText};
 ghost use Rattle.packet_fields.specs.Output.{GainsSome};
-ghost use Rattle.message_fields.specs.Checksums.{icmp4, icmp6, igmp, value_of};
+ghost use Rattle.message_fields.specs.Checksums.{value_of};
 ghost use Rattle.message_fields.specs.Icmp.{has_mld_type, has_ndisc_type};
 ghost use Rattle.message_brief.specs.Messages.{BodyIs, BriefIs, CutBriefIs, ServiceIs, UdpIs, icmp6_text, is_all};
 ghost use Rattle.message_brief.specs.Messages.{is_whole6};

@@ -3,7 +3,7 @@
 #![tactic(auto, using(wirebase::proofs::Sinks::puts, wirebase::proofs::Sinks::put_none), // texts in turn, or none
 unfolding(crate::specs::Quote::with_port, crate::specs::Quote::quoted_text))]
 
-ghost use Rattle.std.specs.Prelude.{◌≡◌, ◌≤◌, length, true};
+ghost use Rattle.std.specs.Prelude.{◌≡◌, ◌≤◌, length};
 ghost use Rattle.wirebase.specs.Ipv4.{header_len_in};
 ghost use Rattle.wirebase.specs.Sink.{PutsText};
 ghost use Rattle.message_brief.specs.Quote.{path_text, ports4, ports6, protocol4, protocol6, quote4_text, quote6_text};

@@ -9,7 +9,6 @@ ghost use Rattle.packet_fields.specs.Prints.{Prints};
 ghost use Rattle.neighbor_fields.specs.HopByHop.{alert_entry, alert_names, jumbo_entry, label_of, option_entry};
 ghost use Rattle.neighbor_fields.specs.HopByHop.{option_len, options_items, plain_entry, refusal, whole_entry};
 ghost use Rattle.neighbor_fields.specs.HopByHop.{wrong_len};
-ghost use Rattle.neighbor_fields.specs.Messages.{type_in};
 
 use packet_fields::Form;
 use packet_fields::entries::show_octets;

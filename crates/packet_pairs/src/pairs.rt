@@ -112,7 +112,7 @@ pub struct Pairs {
 }
 
 impl Pairs {
-    ghost use Rattle.std.specs.Prelude.{◌<◌, ◌≤◌, ◌++◌, [], ◌∷◌, ℕ, IfOk, IfSome, IsNone, IsOk, None, OnErr, OnOk};
+    ghost use Rattle.std.specs.Prelude.{◌<◌, ◌++◌, [], ◌∷◌, ℕ, IfOk, IfSome, IsNone, IsOk, None, OnErr, OnOk};
     ghost use Rattle.std.specs.Prelude.{drop};
     ghost use Rattle.std.specs.VecDeque.{deque_capacity, deque_len};
     ghost use Rattle.packet_pairs.specs.Bounds.{IsWithinBounds};

@@ -2,7 +2,7 @@
 
 #![tactic(auto, using(packet_fields::proofs::Fields::prints_both, packet_fields::proofs::Fields::prints_none))]
 
-ghost use Rattle.std.specs.Prelude.{◌++◌, OnOk, codes};
+ghost use Rattle.std.specs.Prelude.{OnOk};
 ghost use Rattle.wirebase.specs.Sink.{PutsText};
 ghost use Rattle.wirebase.specs.Duration.{three_digits};
 ghost use Rattle.packet_fields.specs.Fields.{text};

@@ -1,6 +1,6 @@
 //! Messages of DHCP (RFC 2131).
 
-ghost use Rattle.std.specs.Prelude.{◌≡◌, ◌≤◌, IsTrue, List, OnErr, OnOk, length};
+ghost use Rattle.std.specs.Prelude.{◌≡◌, IsTrue, OnErr, OnOk, length};
 ghost use Rattle.wirebase.specs.Bytes.{Reaches};
 ghost use Rattle.wirebase.specs.Ipv4.{octets_of as octets_of4};
 ghost use Rattle.dhcp_wire.specs.Dhcpv4Packet.{magic_field};

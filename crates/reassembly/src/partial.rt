@@ -3,8 +3,8 @@
 ghost use Rattle.std.specs.Prelude.{◌≡◌, ◌↔◌, ◌<◌, ◌≤◌, ℕ, IfOk, IsTrue, OnErr, false, length, map, vec_len};
 ghost use Rattle.std.specs.List.{insert};
 ghost use Rattle.std.specs.Option.{option_map};
-ghost use Rattle.reassembly.specs.Fragment.{value_of, key_of, IsSound};
-ghost use Rattle.reassembly.specs.Partial.{partial_of, whole_of, joined, discarded_of, with_fragment, Takes};
+ghost use Rattle.reassembly.specs.Fragment.{value_of, IsSound};
+ghost use Rattle.reassembly.specs.Partial.{partial_of, whole_of, joined, discarded_of, Takes};
 ghost use Rattle.reassembly.specs.private.Parts.{taken_of};
 ghost use Rattle.reassembly.specs.Piece.{piece_of, piece_in, fragment_end, StandsToAll, Tiles, placed, payload_of};
 ghost use Rattle.reassembly.specs.Piece.{numbers_of, options_of_first, protocol_of_first};

@@ -1,6 +1,6 @@
 //! The datagrams that are kept until all of their fragments came.
 
-ghost use Rattle.std.specs.Prelude.{◌≡◌, ◌<◌, ◌++◌, [], ◌∷◌, ℕ, IfOk, IfSome, IsNone, OnErr, drop, length, map, suc};
+ghost use Rattle.std.specs.Prelude.{◌≡◌, ◌<◌, [], IfOk, IfSome, IsNone, OnErr, length, map};
 ghost use Rattle.std.specs.Prelude.{slice_index_or, take};
 ghost use Rattle.reassembly.specs.Answer.{answer_of};
 ghost use Rattle.reassembly.specs.Arrivals.{AnyOrder};

@@ -3,7 +3,6 @@
 ghost use Rattle.std.specs.Prelude.{◌≡◌, ◌≤◌, ◌<◌, ◌+◌, Some, length, take, drop, IfOk, IfErr, IsOkAnd, ℕ};
 ghost use Rattle.wirebase.specs.Bytes.{number_of};
 ghost use Rattle.wirebase.specs.Checks.{Fails, Passes};
-ghost use Rattle.wirebase.specs.Checksum.{IsGood};
 ghost use Rattle.wirebase.specs.Format.{Rewrites};
 ghost use Rattle.wirebase.specs.Ipv4.{octets_of};
 ghost use Rattle.wirebase.specs.Ipv6Address.{octets_of as octets_of_v6};
