@@ -11,5 +11,7 @@ mod refusal;
 mod strings;
 mod text;
 mod text_entry;
+mod text_lines;
+mod text_refusal;
 mod types;
 mod update;
