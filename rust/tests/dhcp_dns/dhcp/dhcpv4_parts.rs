@@ -1,6 +1,6 @@
 // Made from crates/tests_dhcp_dns/src/dhcp/dhcpv4_parts.rt by rust/erase.
 // The options of whole packets, in parts and joined. The packets are made by hand, as RFC 2131 section 4.1, RFC 2132
-// section 9.3 and RFC 3396 have them, or their options are those of a lease that was captured.
+// section 9.3 and RFC 3396 have them; those of `leases` have the options of a lease that was captured.
 
 #[allow(unused_imports)]
 use crate::rattle_std::prelude::*;
@@ -8,6 +8,9 @@ use crate::testing::{fail, holds_of, prints, same, same_of};
 use control_wire::Error;
 use control_wire::dhcp_options::{Area, Overload, Part, Parts, Refusal};
 use control_wire::dhcpv4::Packet;
+
+mod areas;
+mod leases;
 
 // What stands in the fields of a packet, before zeros in sname and file.
 #[derive(Clone, Copy)]
@@ -95,6 +98,18 @@ fn check(fields: Fields, rows: &[Row], texts: &[&str]) {
     }
 }
 
+// Compares the overload and the parts of a packet.
+fn check_overload(fields: Fields, overload: Option<Overload>, rows: &[Row]) {
+    let octets = reply(fields);
+    match Packet::new_checked(octets.as_slice()) {
+        Ok(packet) => {
+            same_of(fields.options, Overload::of(packet.into_inner()), overload);
+            compare_parts(packet.into_inner(), rows);
+        }
+        Err(_) => fail("a packet of 240 bytes or more"),
+    }
+}
+
 // The example of RFC 3396.
 const SPLIT_NAME: Fields = Fields {
     sname: b"",
@@ -110,112 +125,6 @@ fn a_name_in_two_parts() {
     ];
     const TEXTS: &[&str] = &["bootfile-name=\"/diskless/foo\""];
     check(SPLIT_NAME, ROWS, TEXTS);
-}
-
-// Fields that hold options where one of these options says so.
-fn named_by(options: &'static [u8]) -> Fields {
-    Fields {
-        sname: b"\x0f\x01s\xff",
-        file: b"\x0c\x01f\xff",
-        options,
-    }
-}
-
-const FILE: Row = (Area::File, 12, Some(b"f"), true);
-
-const SNAME: Row = (Area::Sname, 15, Some(b"s"), true);
-
-// Compares the overload and the parts of a packet.
-fn check_overload(fields: Fields, overload: Option<Overload>, rows: &[Row]) {
-    let octets = reply(fields);
-    match Packet::new_checked(octets.as_slice()) {
-        Ok(packet) => {
-            same_of(fields.options, Overload::of(packet.into_inner()), overload);
-            compare_parts(packet.into_inner(), rows);
-        }
-        Err(_) => fail("a packet of 240 bytes or more"),
-    }
-}
-
-#[test]
-fn options_in_the_fields_that_option_52_names() {
-    const ROWS: &[(&[u8], Overload, &[Row])] = &[
-        (
-            b"\x34\x01\x01\xff",
-            Overload::File,
-            &[(Area::Options, 52, Some(&[1]), true), FILE],
-        ),
-        (
-            b"\x34\x01\x02\xff",
-            Overload::Sname,
-            &[(Area::Options, 52, Some(&[2]), true), SNAME],
-        ),
-        (
-            b"\x34\x01\x03\xff",
-            Overload::FileAndSname,
-            &[(Area::Options, 52, Some(&[3]), true), FILE, SNAME],
-        ),
-        // The first one that names a field counts.
-        (
-            b"\x34\x01\x04\x34\x01\x02\x34\x01\x01\xff",
-            Overload::Sname,
-            &[
-                (Area::Options, 52, Some(&[4]), true),
-                (Area::Options, 52, Some(&[2]), false),
-                (Area::Options, 52, Some(&[1]), false),
-                SNAME,
-            ],
-        ),
-    ];
-    for &(options, overload, rows) in ROWS {
-        let fields = named_by(options);
-        check_overload(fields, Some(overload), rows);
-    }
-}
-
-#[test]
-fn an_option_52_that_names_no_field() {
-    const ROWS: &[(&[u8], &[Row])] = &[
-        (b"", &[]),
-        (b"\xff\x34\x01\x03", &[]),
-        (
-            b"\x34\x01\x00\xff",
-            &[(Area::Options, 52, Some(&[0]), true)],
-        ),
-        (
-            b"\x34\x01\x04\xff",
-            &[(Area::Options, 52, Some(&[4]), true)],
-        ),
-        (
-            b"\x34\x02\x01\x01\xff",
-            &[(Area::Options, 52, Some(&[1, 1]), true)],
-        ),
-        (b"\x34\x00\xff", &[(Area::Options, 52, Some(&[]), true)]),
-        (
-            b"\x33\x01\x03\xff",
-            &[(Area::Options, 51, Some(&[3]), true)],
-        ),
-        (b"\x34\x01", &[(Area::Options, 52, None, false)]),
-    ];
-    for &(options, rows) in ROWS {
-        check_overload(named_by(options), None, rows);
-    }
-}
-
-// An option 52 in file, which says that sname holds options.
-const NESTED: Fields = Fields {
-    sname: b"\x0f\x01s\xff",
-    file: b"\x34\x01\x02\xff",
-    options: b"\x34\x01\x01\xff",
-};
-
-#[test]
-fn an_option_52_in_file_is_not_followed() {
-    const ROWS: &[Row] = &[
-        (Area::Options, 52, Some(&[1]), true),
-        (Area::File, 52, Some(&[2]), false),
-    ];
-    check_overload(NESTED, Some(Overload::File), ROWS);
 }
 
 // A route (RFC 3442) of which one half stands in the options field, which has no end mark, and the other in file; and a
@@ -243,57 +152,6 @@ fn options_of_several_fields_are_joined_in_their_order() {
         "host-name=\"ab\"",
     ];
     check(ROUTE, ROWS, TEXTS);
-}
-
-// Options that are cut in the options field, where only a kind is left, and in file.
-const CUT: Fields = Fields {
-    sname: b"\x0c\x01b\xff",
-    file: b"\x0f\x01f\x0c\x7ca",
-    options: b"\x34\x01\x03\x0c",
-};
-
-#[test]
-fn an_option_that_is_cut_ends_its_area_alone() {
-    const ROWS: &[Row] = &[
-        (Area::Options, 52, Some(&[3]), true),
-        (Area::Options, 12, None, false),
-        (Area::File, 15, Some(b"f"), true),
-        (Area::File, 12, None, false),
-        (Area::Sname, 12, Some(b"b"), true),
-    ];
-    const TEXTS: &[&str] = &["option-overload=3", "domain-name=\"f\"", "host-name=\"b\""];
-    check(CUT, ROWS, TEXTS);
-}
-
-// The same, but that the option in file ends with the last byte of the field.
-const FULL: Fields = Fields {
-    sname: b"\x0c\x01b\xff",
-    file: b"\x0f\x01f\x0c\x7ba",
-    options: b"\x34\x01\x03",
-};
-
-#[test]
-fn an_option_may_end_with_its_field() {
-    let octets = reply(FULL);
-    match Packet::new_checked(octets.as_slice()) {
-        Ok(packet) => {
-            let parts = Parts::of(packet.into_inner());
-            same(parts.joined_len(12), 0x7b + 1);
-        }
-        Err(_) => fail("a packet of 240 bytes or more"),
-    }
-}
-
-#[test]
-fn texts_of_refusals() {
-    const ROWS: &[(Area, &str)] = &[
-        (Area::Options, "option 12 is cut at the end of options"),
-        (Area::File, "option 12 is cut at the end of file"),
-        (Area::Sname, "option 12 is cut at the end of sname"),
-    ];
-    for &(area, text) in ROWS {
-        prints(&Refusal { area, kind: 12 }, text);
-    }
 }
 
 // Compares what is in a buffer of this many bytes after the name in two parts is joined in it.
@@ -350,139 +208,5 @@ fn the_parts_that_are_still_to_come() {
             same(names.next(), None);
         }
         Err(_) => fail("a packet of 240 bytes or more"),
-    }
-}
-
-// The options of packets in tests/captures/real/lease.pcap, and those that tshark 4.0 reads in them.
-const DISCOVER: &[u8] =
-    b"5\x01\x019\x02\x02@7\x07\x01\x03\x06\x0c\x0f\x1c*\x0c\x04host<\x0cudhcp\x201.35.0\
-    =\x07\x01\x02\0\0\0\0\x07\xff\0\0\0\0\0\0\0\0\0\0\0\0\0\0";
-
-const DISCOVER_ROWS: &[Row] = &[
-    (Area::Options, 53, Some(b"\x01"), true),
-    (Area::Options, 57, Some(b"\x02@"), true),
-    (Area::Options, 55, Some(b"\x01\x03\x06\x0c\x0f\x1c*"), true),
-    (Area::Options, 12, Some(b"host"), true),
-    (Area::Options, 60, Some(b"udhcp\x201.35.0"), true),
-    (Area::Options, 61, Some(b"\x01\x02\0\0\0\0\x07"), true),
-];
-
-const OFFER: &[u8] = b"5\x01\x026\x04\xc0\0\x02\x013\x04\0\0\x0e\x10:\x04\0\0\x07\x08;\x04\0\0\x0cN\
-    \x01\x04\xff\xff\xff\0\x1c\x04\xc0\0\x02\xff*\x04\xc0\0\x02\x03\x06\x08\xc0\0\x02\x01\xc0\0\x02\x02\
-    \x03\x04\xc0\0\x02\x01\xff";
-
-const OFFER_ROWS: &[Row] = &[
-    (Area::Options, 53, Some(b"\x02"), true),
-    (Area::Options, 54, Some(b"\xc0\0\x02\x01"), true),
-    (Area::Options, 51, Some(b"\0\0\x0e\x10"), true),
-    (Area::Options, 58, Some(b"\0\0\x07\x08"), true),
-    (Area::Options, 59, Some(b"\0\0\x0cN"), true),
-    (Area::Options, 1, Some(b"\xff\xff\xff\0"), true),
-    (Area::Options, 28, Some(b"\xc0\0\x02\xff"), true),
-    (Area::Options, 42, Some(b"\xc0\0\x02\x03"), true),
-    (
-        Area::Options,
-        6,
-        Some(b"\xc0\0\x02\x01\xc0\0\x02\x02"),
-        true,
-    ),
-    (Area::Options, 3, Some(b"\xc0\0\x02\x01"), true),
-];
-
-const REQUEST: &[u8] =
-    b"5\x01\x032\x04\xc0\0\x0226\x04\xc0\0\x02\x019\x02\x02@7\x07\x01\x03\x06\x0c\x0f\x1c*\
-    \x0c\x04host<\x0cudhcp\x201.35.0=\x07\x01\x02\0\0\0\0\x07\xff\0\0";
-
-const REQUEST_ROWS: &[Row] = &[
-    (Area::Options, 53, Some(b"\x03"), true),
-    (Area::Options, 50, Some(b"\xc0\0\x022"), true),
-    (Area::Options, 54, Some(b"\xc0\0\x02\x01"), true),
-    (Area::Options, 57, Some(b"\x02@"), true),
-    (Area::Options, 55, Some(b"\x01\x03\x06\x0c\x0f\x1c*"), true),
-    (Area::Options, 12, Some(b"host"), true),
-    (Area::Options, 60, Some(b"udhcp\x201.35.0"), true),
-    (Area::Options, 61, Some(b"\x01\x02\0\0\0\0\x07"), true),
-];
-
-const ACK: &[u8] = b"5\x01\x056\x04\xc0\0\x02\x013\x04\0\0\x0e\x10:\x04\0\0\x07\x08;\x04\0\0\x0cN\
-    \x01\x04\xff\xff\xff\0\x1c\x04\xc0\0\x02\xff\x0c\x04host*\x04\xc0\0\x02\x03\
-    \x06\x08\xc0\0\x02\x01\xc0\0\x02\x02\x03\x04\xc0\0\x02\x01\xff";
-
-const ACK_ROWS: &[Row] = &[
-    (Area::Options, 53, Some(b"\x05"), true),
-    (Area::Options, 54, Some(b"\xc0\0\x02\x01"), true),
-    (Area::Options, 51, Some(b"\0\0\x0e\x10"), true),
-    (Area::Options, 58, Some(b"\0\0\x07\x08"), true),
-    (Area::Options, 59, Some(b"\0\0\x0cN"), true),
-    (Area::Options, 1, Some(b"\xff\xff\xff\0"), true),
-    (Area::Options, 28, Some(b"\xc0\0\x02\xff"), true),
-    (Area::Options, 12, Some(b"host"), true),
-    (Area::Options, 42, Some(b"\xc0\0\x02\x03"), true),
-    (
-        Area::Options,
-        6,
-        Some(b"\xc0\0\x02\x01\xc0\0\x02\x02"),
-        true,
-    ),
-    (Area::Options, 3, Some(b"\xc0\0\x02\x01"), true),
-];
-
-const RELEASE: &[u8] = b"5\x01\x076\x04\xc0\0\x02\x01=\x07\x01\x02\0\0\0\0\x07\
-    \xff\0\0\0\0\0\0\0\0\0\0\0\0\0\0\0\0\0\0\0\0\0\0\0\0\0\0\0\0\0\0\0\0\0\0\0\0\0\0\0\0\0";
-
-const RELEASE_ROWS: &[Row] = &[
-    (Area::Options, 53, Some(b"\x07"), true),
-    (Area::Options, 54, Some(b"\xc0\0\x02\x01"), true),
-    (Area::Options, 61, Some(b"\x01\x02\0\0\0\0\x07"), true),
-];
-
-const LONG_OFFER: &[u8] =
-    b"5\x01\x026\x04\xc0\0\x02\x013\x04\0\0\x0e\x10:\x04\0\0\x07\x08;\x04\0\0\x0cN\
-    \x01\x04\xff\xff\xff\0\x1c\x04\xc0\0\x02\xff\
-    \x06\x18\xc0\0\x02\x01\xc0\0\x02\x02\xc0\0\x02\x03\xc0\0\x02\x04\xc0\0\x02\x05\xc0\0\x02\x06\
-    \x03\x08\xc0\0\x02\x01\xc0\0\x02\x09*\x04\xc0\0\x02\x03\xff";
-
-const LONG_OFFER_ROWS: &[Row] = &[
-    (Area::Options, 53, Some(b"\x02"), true),
-    (Area::Options, 54, Some(b"\xc0\0\x02\x01"), true),
-    (Area::Options, 51, Some(b"\0\0\x0e\x10"), true),
-    (Area::Options, 58, Some(b"\0\0\x07\x08"), true),
-    (Area::Options, 59, Some(b"\0\0\x0cN"), true),
-    (Area::Options, 1, Some(b"\xff\xff\xff\0"), true),
-    (Area::Options, 28, Some(b"\xc0\0\x02\xff"), true),
-    (
-        Area::Options,
-        6,
-        Some(
-            b"\xc0\0\x02\x01\xc0\0\x02\x02\xc0\0\x02\x03\xc0\0\x02\x04\xc0\0\x02\x05\xc0\0\x02\x06",
-        ),
-        true,
-    ),
-    (
-        Area::Options,
-        3,
-        Some(b"\xc0\0\x02\x01\xc0\0\x02\x09"),
-        true,
-    ),
-    (Area::Options, 42, Some(b"\xc0\0\x02\x03"), true),
-];
-
-#[test]
-fn the_packets_of_leases() {
-    const PACKETS: &[(&[u8], &[Row])] = &[
-        (DISCOVER, DISCOVER_ROWS),
-        (OFFER, OFFER_ROWS),
-        (REQUEST, REQUEST_ROWS),
-        (ACK, ACK_ROWS),
-        (RELEASE, RELEASE_ROWS),
-        (LONG_OFFER, LONG_OFFER_ROWS),
-    ];
-    for &(options, rows) in PACKETS {
-        let fields = Fields {
-            sname: b"",
-            file: b"",
-            options,
-        };
-        check_overload(fields, None, rows);
     }
 }
