@@ -1,7 +1,8 @@
 -- The words that the proofs of this crate are said in: those of std, of the crates below and of the definitions.
 pub use Rattle.std.proofs.Common.{◌≡◌, ◌≤◌, ◌<◌, [], ◌∷◌, ◌+◌, ◌-◌, ◌++◌, ◌∙◌, ◌↔◌, ◌≢◌, ◌^◌, Bool, Err, IfErr, IfOk}
 pub use Rattle.std.proofs.Common.{IfSome, IsNone, IsSome, IsTrue, List, None, Ok, Option, Result, Some, ℕ, ap}
-pub use Rattle.std.proofs.Common.{append_assoc, arith, drop, false, if◌then◌else◌, inl, inr, length, length-append, length-drop, refl, rules}
+pub use Rattle.std.proofs.Common.{append_assoc, arith, drop, false, if◌then◌else◌, inl, inr, length, length-append}
+pub use Rattle.std.proofs.Common.{length-drop, refl, rules}
 pub use Rattle.std.proofs.Common.{slice_index, subst, suc, sym, take, take_all, true, zero}
 pub use Rattle.std.proofs.Common.{◌%◌, ◌*◌, ◌/◌, IfErr, slice_range}
 pub use Rattle.std.proofs.lemmas.Grind.{common_steps}
@@ -28,6 +29,6 @@ pub use Rattle.wirebase.specs.Ipv6.{dst_addr_field}
 pub use Rattle.wirebase.specs.Ipv6Address.{octets_of}
 pub use Rattle.frame_wire.specs.declared.datagram.Addresses.{Addresses}
 pub use Rattle.frame_wire.specs.declared.link.vlans.VlanTag.{VlanTag}
-pub use Rattle.frame_wire.specs.declared.udp.UdpRepr.{UdpRepr}
+pub use Rattle.frame_wire.specs.declared.udp.repr.UdpRepr.{UdpRepr}
 pub use Rattle.wirebase.specs.declared.capabilities.ChecksumCapabilities.{ChecksumCapabilities}
 pub use Rattle.wirebase.specs.declared.ip.IpProtocol.{IpProtocol}

@@ -29,7 +29,8 @@ use Rattle.frame_wire.specs.declared.tunnel.Tunnel.{Tunnel}
 -- the tunnel of a protocol (the registry of protocol numbers of IP)
 abbrev pub tunnel_of : IpProtocol → Option Tunnel
 tunnel_of p =
-    case_in (λ _. None) ((Some Tunnel.Ipv4, 4) ∷ (Some Tunnel.Ipv6, 41) ∷ (Some Tunnel.Gre, 47) ∷ []) (protocol_number p)
+    case_in (λ _. None) ((Some Tunnel.Ipv4, 4) ∷ (Some Tunnel.Ipv6, 41) ∷ (Some Tunnel.Gre, 47) ∷ [])
+    (protocol_number p)
 
 -- what is in a tunnel, by content
 pub record InnerValue : Type 0 where

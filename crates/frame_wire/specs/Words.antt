@@ -9,6 +9,6 @@ pub use Rattle.frame_wire.specs.declared.datagram.Refusal.{Refusal}
 pub use Rattle.frame_wire.specs.declared.datagram.captured.Extent.{Extent}
 pub use Rattle.frame_wire.specs.declared.link.Link.{Link}
 pub use Rattle.frame_wire.specs.declared.link.Network.{Network}
-pub use Rattle.frame_wire.specs.declared.udp.UdpRepr.{UdpRepr}
+pub use Rattle.frame_wire.specs.declared.udp.repr.UdpRepr.{UdpRepr}
 pub use Rattle.wirebase.specs.declared.capabilities.ChecksumCapabilities.{ChecksumCapabilities}
 pub use Rattle.wirebase.specs.declared.ip.IpProtocol.{IpProtocol}

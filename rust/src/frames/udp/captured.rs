@@ -34,8 +34,8 @@ impl<'a> CapturedUdp<'a> {
     /// The datagram at the start of the octets, whole or cut; what follows it is ignored. A whole one is what
     /// `UdpPacket::check_len` accepts. One that goes on past the octets has the data that are there, and the number of
     /// missing bytes. Refused with `Short` where fewer than 8 bytes are there, and with `Length` where the length is
-    /// below 8, as the 0 of a jumbogram of which fewer than 65,536 bytes are there. No checksum is verified, since that of a cut datagram can't be; `UdpRepr::parse` verifies that of a
-    /// whole one.
+    /// below 8, as the 0 of a jumbogram of which fewer than 65,536 bytes are there. No checksum is verified, since that
+    /// of a cut datagram can't be; `UdpRepr::parse` verifies that of a whole one.
     pub fn parse(octets: &'a [u8]) -> Result<CapturedUdp<'a>, Refusal> {
         let packet = UdpPacket::new_unchecked(octets);
         match packet.refusal() {

@@ -5,8 +5,8 @@ use Rattle.wirebase.proofs.ChecksumSeals.{put_mid-splice}
 use Rattle.wirebase.proofs.Pieces.{append-drop_whole}
 use Rattle.wirebase.proofs.PseudoSeals.{sealed-fold}
 use Rattle.frame_wire.proofs.UdpSeals.{sealed-none, sealed-other}
-use Rattle.frame_wire.proofs.udp.seal.Goals as goal
-use Rattle.frame_wire.proofs.udp.seal.Goals.{then-u16_at-eq0, else-u16_at-eq0}
+use Rattle.frame_wire.proofs.udp.repr.seal.Goals as goal
+use Rattle.frame_wire.proofs.udp.repr.seal.Goals.{then-u16_at-eq0, else-u16_at-eq0}
 
 pub returns : goal.returns
 returns c =

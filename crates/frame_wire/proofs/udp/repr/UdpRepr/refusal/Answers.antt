@@ -3,7 +3,7 @@ use Rattle.frame_wire.proofs.Words.{◌≢◌, BeginsWhole, arith, common_steps,
 use Rattle.frame_wire.proofs.Words.{view_octets}
 use Rattle.frame_wire.proofs.Tags.{told}
 use Rattle.frame_wire.proofs.Witnesses.{ports_read, unasked}
-use Rattle.frame_wire.proofs.udp.UdpRepr.refusal.Goals as goal
+use Rattle.frame_wire.proofs.udp.repr.UdpRepr.refusal.Goals as goal
 
 pub returns-then-not-rx-clause-exact : goal.returns-then-not-rx-clause-exact
 returns-then-not-rx-clause-exact c =

@@ -4,7 +4,7 @@ use Rattle.wirebase.proofs.Format.{all_rewrites}
 use Rattle.frame_wire.specs.UdpText.{value_of}
 use Rattle.frame_wire.proofs.Tags.{if_ok}
 use Rattle.frame_wire.proofs.UdpFormat.{udp_format}
-use Rattle.frame_wire.proofs.udp.UdpRepr.parse.Goals as goal
+use Rattle.frame_wire.proofs.udp.repr.UdpRepr.parse.Goals as goal
 
 pub returns-clause-rewrites : goal.returns-clause-rewrites
 returns-clause-rewrites c =

@@ -1,7 +1,7 @@
 -- The datagram is at the start, with its checksum or without.
 use Rattle.frame_wire.proofs.Words.{◌∙◌, sym}
 use Rattle.frame_wire.proofs.UdpFormat.{sealed_emits, unsealed_emits}
-use Rattle.frame_wire.proofs.udp.UdpRepr.emit_into.Goals as goal
+use Rattle.frame_wire.proofs.udp.repr.UdpRepr.emit_into.Goals as goal
 
 pub returns-then-tx : goal.returns-then-tx
 returns-then-tx c =
