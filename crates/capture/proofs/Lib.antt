@@ -1,7 +1,9 @@
 pub mod Blocks
 pub mod Calendars
 pub mod Filling
+pub mod OneBlock
 pub mod OneCapture
+pub mod OneRecord
 pub mod Reading
 pub mod Records
 pub mod Sections
