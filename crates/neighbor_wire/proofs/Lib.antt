@@ -2,6 +2,7 @@ pub mod Embedded
 pub mod NamesAhead
 pub mod OptionBlocks
 pub mod OptionFormat
+pub mod OptionReading
 pub mod OptionTexts
 pub mod OptionTiles
 pub mod ServersAhead
