@@ -1,5 +1,6 @@
 pub mod HeaderFormat
 pub mod HeaderTexts
 pub mod MessageFormat
+pub mod MessageTexts
 pub mod OptionTiles
 pub mod RoutersAhead
