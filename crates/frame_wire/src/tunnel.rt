@@ -1,9 +1,9 @@
 //! Tunnels: datagrams whose payload is itself a datagram.
 
-ghost use Rattle.std.specs.Prelude.{◌≡◌, ◌≤◌, ◌+◌, ◌*◌, ◌/◌, ◌%◌, ◌↔◌, IfOk, IfErr, IfSome, IsOkAnd, IsSome, IsTrue, length};
+ghost use Rattle.std.specs.Prelude.{◌≡◌, ◌≤◌, ◌+◌, ◌*◌, ◌/◌, ◌%◌, ◌↔◌, IfOk, IfErr, IfSome, IsOkAnd, IsSome, IsTrue};
 ghost use Rattle.frame_wire.specs.Link.{network_of_type};
 ghost use Rattle.frame_wire.specs.Tunnel.{tunnel_of, InnerValue, value_of, IsInner, Refuses, RefusesGre, HasChecksum};
-ghost use Rattle.frame_wire.specs.Tunnel.{IsVerified, header_len_in};
+ghost use Rattle.frame_wire.specs.Tunnel.{IsVerified};
 ghost use Rattle.frame_wire.specs.declared.tunnel.Tunnel.TheVariants as tunnels;
 
 use crate::link::{Network, behind};

@@ -1,5 +1,5 @@
 -- The format of packets of IPv4: what is read in their texts, and what was read.
-use Rattle.std.proofs.Common.{◌≡◌, ◌↔◌, ℕ, ◌-◌, ◌≤◌, ◌<◌, ◌^◌, Bool, true, false, IsTrue}
+use Rattle.std.proofs.Common.{◌≡◌, ℕ, ◌-◌, ◌≤◌, ◌<◌, ◌^◌, Bool}
 use Rattle.std.proofs.Common.{List, ◌++◌, length, take, drop, refl, sym, ap, subst, ◌∙◌, arith}
 use Rattle.std.specs.Prelude.{slice_index}
 use Rattle.std.proofs.lemmas.List.{take_at}
@@ -14,6 +14,7 @@ use Rattle.wirebase.proofs.Ipv4Header.{same_address}
 use Rattle.wirebase.proofs.Pieces.{length-part, over-fits, over-exact}
 use Rattle.wirebase.specs.declared.ip.IpProtocol.{IpProtocol}
 use Rattle.wirebase.specs.declared.ipv4.Ipv4Address.{Ipv4Address}
+use Rattle.wirebase.proofs.Parses.{same_flag}
 use Rattle.header_wire.specs.Ipv4.{Value, Packet, packet, text_len, header_text, Says, IsPacket}
 use Rattle.header_wire.specs.Ipv4.{IsCanonical, packet_text, format, Emits}
 use Rattle.header_wire.proofs.HeaderTexts.{shape, header-shape, length-header_text, good-header_text, says, passes}
@@ -33,12 +34,6 @@ packet_read p c =
     })
 
 -- ---- what was read
-
-same_flag : (a b : Bool) (P : Type 0) → (IsTrue a ↔ P) → (IsTrue b ↔ P) → a ≡ b
-same_flag true true P f g = refl
-same_flag false false P f g = refl
-same_flag true false P f g = absurd (let no = g.1 (f.0 refl) in cc)
-same_flag false true P f g = absurd (let no = f.1 (g.0 refl) in cc)
 
 abbrev value : ℕ → ℕ → Bool → Bool → ℕ → ℕ → IpProtocol → Ipv4Address → Ipv4Address → List ℕ → ℕ → Value
 value service ident dont more offset hops protocol source destination options len = record {

@@ -1,5 +1,5 @@
 -- The format of messages of ICMPv4: what is read in their texts, and what was read.
-use Rattle.std.proofs.Common.{◌≡◌, ◌↔◌, ℕ, ◌+◌, ◌*◌, Bool, true, false, IsTrue, List, length, Option, Some, refl, sym}
+use Rattle.std.proofs.Common.{◌≡◌, ℕ, ◌+◌, ◌*◌, Bool, List, length, Option, Some, refl, sym}
 use Rattle.std.proofs.Common.{ap, subst, ◌∙◌, arith}
 use Rattle.std.specs.Prelude.{Result}
 use Rattle.std.specs.Result.{IfOk}
@@ -15,6 +15,7 @@ use Rattle.wirebase.proofs.Ipv4Header.{same_address}
 use Rattle.wirebase.proofs.Pieces.{length-part, over-exact}
 use Rattle.wirebase.proofs.WideParts.{number_of-small4}
 use Rattle.wirebase.specs.declared.ipv4.Ipv4Address.{Ipv4Address}
+use Rattle.wirebase.proofs.Parses.{same_flag}
 use Rattle.header_wire.specs.declared.icmpv4.AddressMask.{AddressMask}
 use Rattle.header_wire.specs.declared.icmpv4.Kind.{Kind}
 use Rattle.header_wire.specs.declared.icmpv4.Message.{Message}
@@ -56,12 +57,6 @@ mask-one bytes m n a b =
     let three = same_address m.mask n.mask (a.mask ∙ sym b.mask) in
     let same : mask_of m.ident m.seq_no m.mask ≡ mask_of n.ident n.seq_no n.mask = rw (one, two, three) refl in
     same
-
-same_flag : (a b : Bool) (P : Type 0) → (IsTrue a ↔ P) → (IsTrue b ↔ P) → a ≡ b
-same_flag true true P f g = refl
-same_flag false false P f g = refl
-same_flag true false P f g = absurd (let no = g.1 (f.0 refl) in cc)
-same_flag false true P f g = absurd (let no = f.1 (g.0 refl) in cc)
 
 abbrev an_advert : ℕ → ℕ → ℕ → List ℕ → Advert
 an_advert count words lifetime entries =

@@ -1,7 +1,7 @@
 //! Messages of ICMPv4 beside echoes and errors: timestamps (RFC 792), address masks (RFC 950), the solicitations
 //! and advertisements of routers (RFC 1256) and extended echoes (RFC 8335).
 
-ghost use Rattle.std.specs.Prelude.{◌≡◌, length, IfOk, IfErr, IsOkAnd};
+ghost use Rattle.std.specs.Prelude.{◌≡◌, IfOk, IfErr, IsOkAnd};
 ghost use Rattle.wirebase.specs.Format.{Rewrites};
 ghost use Rattle.header_wire.specs.Icmpv4.{Value, value_of, kind_number, kind_of, text_len, IsMessage, Refuses};
 ghost use Rattle.header_wire.specs.Icmpv4.{CanEmit, format, Emits};

@@ -1,5 +1,5 @@
 -- The format of options: what is read in their texts, and what was read.
-use Rattle.std.proofs.Common.{◌≡◌, ◌↔◌, ℕ, ◌+◌, ◌*◌, ◌/◌, ◌-◌, ◌≤◌, ◌<◌, ◌^◌, Bool, true, false, IsTrue, List, ◌∷◌}
+use Rattle.std.proofs.Common.{◌≡◌, ℕ, ◌+◌, ◌*◌, ◌/◌, ◌-◌, ◌≤◌, ◌<◌, ◌^◌, List, ◌∷◌}
 use Rattle.std.proofs.Common.{◌++◌, length, drop, refl, sym, ap, subst, ◌∙◌, arith}
 use Rattle.std.specs.Prelude.{◌==◌, if◌then◌else◌}
 use Rattle.std.proofs.lemmas.List.{length-drop}
@@ -11,6 +11,7 @@ use Rattle.wirebase.proofs.ByteParts.{number_of-small}
 use Rattle.wirebase.proofs.Format.{IsFormat, rewrites, round_trips, same_text}
 use Rattle.wirebase.proofs.Pieces.{length-part}
 use Rattle.wirebase.proofs.WideParts.{number_of-small4}
+use Rattle.wirebase.proofs.Parses.{same_flag}
 use Rattle.neighbor_wire.specs.declared.kind.Kind.{Kind}
 use Rattle.neighbor_wire.specs.declared.nat64.Nat64Length.{Nat64Length}
 use Rattle.neighbor_wire.specs.Kind.{kind_of}
@@ -52,12 +53,6 @@ content-kind bytes (search_list lifetime octets) m = m.0
 content-kind bytes (portal octets) m = m.0
 content-kind bytes (nat64 scaled bits octets) m = m.kind
 content-kind bytes (other t octets) m = m.0
-
-same_flag : (a b : Bool) (P : Type 0) → (IsTrue a ↔ P) → (IsTrue b ↔ P) → a ≡ b
-same_flag true true P f g = refl
-same_flag false false P f g = refl
-same_flag true false P f g = absurd (let no = g.1 (f.0 refl) in cc)
-same_flag false true P f g = absurd (let no = f.1 (g.0 refl) in cc)
 
 -- the length of a code
 abbrev of_code : ℕ → Nat64Length

@@ -1,6 +1,6 @@
 //! Options as values.
 
-ghost use Rattle.std.specs.Prelude.{◌≡◌, length, IfOk, IfErr, IsOkAnd};
+ghost use Rattle.std.specs.Prelude.{◌≡◌, IfOk, IfErr, IsOkAnd};
 ghost use Rattle.wirebase.specs.Format.{Rewrites, SameText};
 ghost use Rattle.neighbor_wire.specs.Option.{Value, value_of, text_len, IsOption, Refuses};
 ghost use Rattle.neighbor_wire.specs.OptionFormat.{CanEmit, Emits, format};

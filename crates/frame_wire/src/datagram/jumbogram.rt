@@ -1,6 +1,6 @@
 //! Jumbograms (RFC 2675): datagrams of IPv6 with more than 65,535 bytes after the fixed header.
 
-ghost use Rattle.std.specs.Prelude.{◌≡◌, ◌↔◌, ℕ, IfSome, IsNone, IsTrue};
+ghost use Rattle.std.specs.Prelude.{◌↔◌, ℕ, IfSome, IsNone, IsTrue};
 ghost use Rattle.frame_wire.specs.DatagramHeaders.{HasFragment};
 ghost use Rattle.frame_wire.specs.DatagramJumbogram.{IsJumbo, OtherEndsAt, HasJumbo, HasJumboLen};
 

@@ -1,6 +1,6 @@
 //! Frames of frame relay (RFC 2427).
 
-ghost use Rattle.std.specs.Prelude.{◌≡◌, ◌≤◌, IfOk, IfErr, IsOkAnd, ℕ, drop, length, slice_index};
+ghost use Rattle.std.specs.Prelude.{◌≡◌, ◌≤◌, IfOk, IfErr, IsOkAnd, ℕ, length, slice_index};
 ghost use Rattle.frame_wire.specs.Link.{FrameValue, value_of, IsFrameRelay, IsAddress, IsUnnumbered, IsNlpid};
 ghost use Rattle.frame_wire.specs.Link.{network_of_nlpid, after_pad};
 ghost use Rattle.frame_wire.specs.LinkRefusal.{RefusesFrameRelay, RefusesAddress, RefusesUnnumbered, RefusesNlpid};
