@@ -16,7 +16,8 @@ pub enum Overload {
 
 impl Overload {
     /// The overload of the packet in these octets: what the first option 52 of its options field that has one byte, of
-    /// 1 to 3, says. None where there is no such option: then `file` and `sname` are names. Requires at least 240 bytes.
+    /// 1 to 3, says. None where there is no such option: then `file` and `sname` are names. Requires at least 240
+    /// bytes.
     ///
     /// # Panics
     ///

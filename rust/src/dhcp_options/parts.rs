@@ -70,8 +70,8 @@ pub struct Parts<'a> {
 
 impl<'a> Parts<'a> {
     /// The parts of the options of the packet in these octets; those of one kind have at most as many bytes as the
-    /// packet. Its other fields, as the magic cookie, are not looked at. Requires at least 240 bytes, as those of a view
-    /// that was checked: `Parts::of(packet.into_inner())`.
+    /// packet. Its other fields, as the magic cookie, are not looked at. Requires at least 240 bytes, as those of a
+    /// view that was checked: `Parts::of(packet.into_inner())`.
     ///
     /// # Panics
     ///

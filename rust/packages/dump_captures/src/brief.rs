@@ -69,16 +69,11 @@ fn show_front<W: Write>(
 
 // Prints what a packet says, behind the checksum of the IPv4 header, where it is wrong.
 fn show_packet<W: Write>(output: &mut W, is_strict: bool, headers: &Headers<'_>) -> io::Result<()> {
-    if is_header_refused(is_strict, headers) {
+    if headers.is_header_refused(is_strict) {
         return show_refused(output, &headers.content, &Refusal::Header);
     }
     show_header(output, headers.is_header_bad)?;
     show_content(output, is_strict, &headers.content)
-}
-
-// Whether a packet is refused for the checksum of its IPv4 header.
-fn is_header_refused(is_strict: bool, headers: &Headers<'_>) -> bool {
-    is_strict && headers.is_header_bad
 }
 
 // Prints that the checksum of the IPv4 header is wrong, where it is.
@@ -113,18 +108,13 @@ fn show_whole<W: Write>(
     message: &Message<'_>,
 ) -> io::Result<()> {
     let state = message.checksum();
-    if is_refused(is_strict, state) {
+    if state.is_refused(is_strict) {
         let refusal = Refusal::Message(message_fields::Refusal::Checksum);
         return show_refused(output, content, &refusal);
     }
     show_checksum(output, state)?;
     show_kind(output, content)?;
     show_brief(output, message)
-}
-
-// Whether a message of this checksum is refused.
-fn is_refused(is_strict: bool, state: ChecksumState) -> bool {
-    is_strict && state == ChecksumState::Bad
 }
 
 // Prints that a checksum does not hold, where it is so.

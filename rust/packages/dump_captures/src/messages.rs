@@ -22,7 +22,7 @@ pub fn show_listing<W: Write>(
     output: &mut W,
     headers: &Headers<'_>,
 ) -> Result<Option<Reason>, Fault> {
-    if is_header_refused(options, headers) {
+    if headers.is_header_refused(options.is_strict) {
         let reason = header_reason(&headers.content);
         return refuse(output, options.form, reason, &Refusal::Header);
     }
@@ -30,11 +30,6 @@ pub fn show_listing<W: Write>(
     show_hop_by_hop(output, options.form, headers.hop_by_hop)?;
     let told = show_content(options, output, &headers.content)?;
     Ok(first_of(headers.is_header_bad, &headers.content, told))
-}
-
-// Whether a packet is refused for the checksum of its IPv4 header.
-fn is_header_refused(options: &Options, headers: &Headers<'_>) -> bool {
-    options.is_strict && headers.is_header_bad
 }
 
 // Prints that the checksum of the IPv4 header is wrong, where it is.

@@ -57,6 +57,14 @@ pub struct Headers<'a> {
     pub content: Content<'a>,
 }
 
+impl Headers<'_> {
+    /// Whether the packet is refused for the checksum of its IPv4 header: where that is asked, and the checksum is
+    /// wrong.
+    pub(crate) fn is_header_refused(&self, is_strict: bool) -> bool {
+        is_strict && self.is_header_bad
+    }
+}
+
 /// A segment of TCP with messages of DNS.
 #[derive(Debug, PartialEq, Eq, Clone, Copy)]
 pub struct Segment<'a> {

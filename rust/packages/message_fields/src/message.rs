@@ -61,6 +61,11 @@ impl ChecksumState {
             ChecksumState::Unverified => "unverified",
         }
     }
+
+    /// Whether a message of this checksum is refused: where that is asked, and the checksum does not hold.
+    pub fn is_refused(self, is_strict: bool) -> bool {
+        is_strict && self == ChecksumState::Bad
+    }
 }
 
 // The length of the header of ICMP and of IGMP up to the end of the checksum.

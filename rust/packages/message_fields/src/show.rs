@@ -21,7 +21,7 @@ pub fn show_message<W: Write>(
     is_strict: bool,
 ) -> io::Result<Option<Refusal>> {
     let state = message.checksum();
-    if is_refused(is_strict, state) {
+    if state.is_refused(is_strict) {
         show_refused(output, form, &Refusal::Checksum)?;
         return Ok(Some(Refusal::Checksum));
     }
@@ -41,11 +41,6 @@ pub fn show_cut_message<W: Write>(
     show_cut(output, form, missing)?;
     let _told = show_body(output, form, message, false)?;
     Ok(())
-}
-
-// Whether a message of this checksum is refused.
-fn is_refused(is_strict: bool, state: ChecksumState) -> bool {
-    is_strict && state == ChecksumState::Bad
 }
 
 // Prints how many bytes are missing.

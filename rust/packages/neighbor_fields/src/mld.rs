@@ -44,8 +44,8 @@ mod place {
 
 /// Prints a message of multicast listener discovery, by its octets from the type on. A query of 24 octets is one of
 /// version 1 (RFC 3810 section 8.1). What is cut says so: a message within its fields, with the octets that are there;
-/// its sources; a record, with its octets. Of a message of another type the octets are printed. Returns of what a message
-/// has less than it takes or counts.
+/// its sources; a record, with its octets. Of a message of another type the octets are printed. Returns of what a
+/// message has less than it takes or counts.
 pub fn show_mld<W: Write>(output: &mut W, form: Form, message: &[u8]) -> io::Result<Option<Lack>> {
     if message.len() < HEAD_LEN {
         show_cut(output, form, message)?;

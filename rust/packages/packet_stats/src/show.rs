@@ -12,11 +12,11 @@ use rattle_std::io;
 use rattle_std::io::Write;
 
 /// Prints a page of what was counted: a list for each kind of subjects. Names, outcomes and servers of DNS stand with
-/// the most frequent first, and of those that are equally frequent the first by its octets; the others stand in the order
-/// of their octets, so that the neighbors of one address stand together. Behind a list of which the table was full
-/// stands how many messages spoke of what has no row. Of a server's answers the median and the 99th percentile of their
-/// times are printed, by the nearest rank: the time in that place of the ascending order where the place is that part
-/// of their number, rounded up.
+/// the most frequent first, and of those that are equally frequent the first by its octets; the others stand in the
+/// order of their octets, so that the neighbors of one address stand together. Behind a list of which the table was
+/// full stands how many messages spoke of what has no row. Of a server's answers the median and the 99th percentile of
+/// their times are printed, by the nearest rank: the time in that place of the ascending order where the place is that
+/// part of their number, rounded up.
 pub fn show_stats<W: Write>(output: &mut W, form: Form, stats: &mut Stats) -> io::Result<()> {
     stats.sort();
     show_page(output, form, stats)
