@@ -1,6 +1,6 @@
 -- The entries of a message in turn, and the whole message.
 use Rattle.std.proofs.Common.{◌≡◌, [], ◌∷◌, ◌++◌, Bool, Err, IfOk, List, None, Ok, OnOk, Option, Result, Some, ℕ}
-use Rattle.std.proofs.Common.{append_assoc, false, refl, subst, sym, true}
+use Rattle.std.proofs.Common.{append_assoc, false, refl, subst, sym}
 use Rattle.std.proofs.lemmas.List.{append-nil}
 use Rattle.wirebase.specs.Bytes.{Reaches}
 use Rattle.dns_wire.specs.DnsPacket.{header}
@@ -23,7 +23,7 @@ use Rattle.packet_fields.specs.private.Entries.{PrintsEntries, PrintsSomeEntries
 use Rattle.dns_fields.specs.private.Parts.{ListIs, PrintsBroken, PrintsSomeFront}
 use Rattle.dns_fields.specs.declared.kind.Kind.{Kind}
 use Rattle.dns_fields.specs.declared.unread.Unread.{Unread}
-use Rattle.packet_fields.proofs.EntryChains.{entries_none, is_none, one_more}
+use Rattle.packet_fields.proofs.EntryChains.{is_none, one_more}
 
 -- values of an entry that are printed in a row with others
 infixl 20 ◌beside◌
@@ -72,9 +72,6 @@ module _ (form : Form) (kind : Kind) (message : List ℕ) where
   SoFar left all is_first unread a b =
       (done : List Entry) × (is_first ≡ is_none done) × PrintsEntries form a b done
       × AreLeft kind message left all unread done
-
-  pub none_so_far : (all : Left) (a : Option (List ℕ)) → SoFar all all true None a a
-  none_so_far all a = ([], refl, entries_none form a, (λ more later is. is))
 
   not_none : (es : List Entry) (e : Entry) → is_none (es ++ (e ∷ [])) ≡ false
   not_none [] e = refl

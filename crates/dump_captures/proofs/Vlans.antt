@@ -25,13 +25,6 @@ no_vlan first (a ∷ b ∷ []) few = refl
 no_vlan first (a ∷ b ∷ c ∷ []) few = refl
 no_vlan first (a ∷ b ∷ c ∷ d ∷ rest) few = absurd (omega (arith, few))
 
-pub no_vlans : (tags : List ℕ) → length tags < 4 → vlans_of tags ≡ []
-no_vlans [] few = refl
-no_vlans (a ∷ []) few = refl
-no_vlans (a ∷ b ∷ []) few = refl
-no_vlans (a ∷ b ∷ c ∷ []) few = refl
-no_vlans (a ∷ b ∷ c ∷ d ∷ rest) few = absurd (omega (arith, few))
-
 more_words : (tags : List ℕ) → run_from false tags ≡ flat_map (λ next. codes "," ++ next) (map decimal (vlans_of tags))
 more_words [] = refl
 more_words (a ∷ []) = refl

@@ -1,5 +1,5 @@
 -- What objects say of interfaces: one value, and what is read in the text of one.
-use Rattle.std.proofs.Common.{◌≡◌, ℕ, ◌+◌, ◌-◌, ◌*◌, ◌/◌, ◌%◌, ◌<◌, ◌≤◌, ◌==◌, Bool, true, false, List, [], ◌∷◌, ◌++◌}
+use Rattle.std.proofs.Common.{◌≡◌, ℕ, ◌+◌, ◌-◌, ◌*◌, ◌/◌, ◌%◌, ◌≤◌, ◌==◌, Bool, true, false, List, [], ◌∷◌, ◌++◌}
 use Rattle.std.proofs.Common.{length, take, Option, None, Some, refl, sym, ap, subst, ◌∙◌, arith, length-append}
 use Rattle.std.specs.Prelude.{replicate}
 use Rattle.std.proofs.lemmas.List.{append-nil, append_assoc, take_at, drop_at, length-replicate}
@@ -143,12 +143,6 @@ flag_read : {A : Type 0} (v : Option A) (n : ℕ) → n ≡ count v → is_there
 unfolding count
 flag_read None n e = rw e refl
 flag_read (Some a) n e = rw e refl
-
-role_few : (r : Role) → role_number r < 4
-role_few Role.Incoming = omega arith
-role_few Role.SubIp = omega arith
-role_few Role.Outgoing = omega arith
-role_few Role.NextHop = omega arith
 
 -- what the C-Type of a value tells
 record Told (v : InterfaceValue) : Type 0 where

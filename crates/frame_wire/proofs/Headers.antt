@@ -71,9 +71,6 @@ pub record FragmentSoFar (begin : IpProtocol) (all : List ℕ) (p : IpProtocol) 
   pub forth : HasFragment p rest → HasFragment begin all
   pub back : HasFragment begin all → HasFragment p rest
 
-pub fragment_so_far-init : (p : IpProtocol) (all : List ℕ) → FragmentSoFar p all p all
-fragment_so_far-init p all = record { forth = λ is. is; back = λ is. is }
-
 pub fragment_so_far-more : (begin : IpProtocol) (all : List ℕ) (p : IpProtocol) (rest : List ℕ) (q : IpProtocol)
     (behind : List ℕ) (end : ℕ) → FragmentSoFar begin all p rest → IsExtension p → EndsAt p rest end
     → q ≡ protocol_of (slice_index rest 0) → behind ≡ drop end rest → FragmentSoFar begin all q behind
@@ -90,11 +87,6 @@ torn_none : (p : IpProtocol) (bytes : List ℕ) → IsExtension p → (HasExtens
 torn_none p bytes is torn (this fragment) = no_extension p is fragment
 torn_none p bytes is torn (beyond end (extension too has e) more) = torn has
 torn_none p bytes is torn (beyond end (atomic fragment has e) more) = no_extension p is fragment
-
--- no fragment header is ahead of a header that is cut
-pub fragment_torn : (begin : IpProtocol) (all : List ℕ) (p : IpProtocol) (rest : List ℕ)
-    → FragmentSoFar begin all p rest → IsExtension p → (HasExtension rest → ⊥) → HasFragment begin all → ⊥
-fragment_torn begin all p rest so is torn has = torn_none p rest is torn (so.back has)
 
 last_one : (p : IpProtocol) (bytes : List ℕ) → (IsExtension p → ⊥) → HasFragment p bytes → p ≡ IpProtocol.Ipv6Frag
 last_one p bytes other (this fragment) = fragment

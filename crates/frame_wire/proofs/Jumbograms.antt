@@ -24,9 +24,6 @@ pub record JumboSoFar (all rest : List ℕ) : Type 0 where
   pub forth : (n : ℕ) → HasJumbo rest n → HasJumbo all n
   pub back : (n : ℕ) → HasJumbo all n → HasJumbo rest n
 
-pub jumbo_so_far-init : (all : List ℕ) → JumboSoFar all all
-jumbo_so_far-init all = record { forth = λ n is. is; back = λ n is. is }
-
 pub jumbo_so_far-more : (all rest behind : List ℕ) (end : ℕ) → JumboSoFar all rest → OtherEndsAt rest end
     → behind ≡ drop end rest → JumboSoFar all behind
 jumbo_so_far-more all rest behind end so ends b = record {

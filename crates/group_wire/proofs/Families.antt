@@ -6,14 +6,6 @@ use Rattle.wirebase.specs.Bytes.{part}
 use Rattle.group_wire.specs.declared.family.Family.{Family}
 use Rattle.group_wire.specs.Family.{width}
 
-pub width_some : (f : Family) → 4 ≤ width f
-width_some Family.Igmp = omega arith
-width_some Family.Mld = omega arith
-
-pub width_few : (f : Family) → width f ≤ 16
-width_few Family.Igmp = omega arith
-width_few Family.Mld = omega arith
-
 pub div_more : (f : Family) (n : ℕ) → width f ≤ n → n / width f ≡ suc ((n - width f) / width f)
 div_more Family.Igmp n h = omega (arith, h)
 div_more Family.Mld n h = omega (arith, h)

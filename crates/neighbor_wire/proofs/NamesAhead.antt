@@ -287,12 +287,6 @@ names_in bytes = all_within (length bytes) bytes (omega arith)
 pub next-end : (bytes : List ℕ) → Stops bytes → names_of bytes ≡ []
 next-end bytes s = names-unique bytes _ _ (names_in bytes) (stops s)
 
-pub name-whole : (bytes : List ℕ) (len : ℕ) → walk 0 bytes ≡ Ok len → len ≤ length bytes
-unfolding Told
-name-whole bytes len e =
-    let told = walk-told bytes (Ok len) e in
-    omega (arith, told.3, ap (λ (l : List ℕ). length l) told.4, length-append told.0 told.1)
-
 pub next-name : (bytes name rest : List ℕ) (len : ℕ) → (Stops bytes → ⊥) → walk 0 bytes ≡ Ok len
     → name ≡ take len bytes → rest ≡ drop len bytes → names_of bytes ≡ Ok name ∷ names_of rest
 unfolding Told

@@ -16,7 +16,7 @@ use Rattle.neighbor_wire.specs.Option.{nat64, other, units, whole_len, filled, f
 use Rattle.neighbor_wire.specs.Option.{kind_checks, IsContent, IsOption}
 use Rattle.neighbor_wire.specs.OptionFormat.{IsCanonical, norm}
 use Rattle.neighbor_wire.proofs.Zeros.{strip-zeros, filled-whole}
-use Rattle.neighbor_wire.proofs.OptionTexts.{shape, text-shape, HasAddress, length-shape}
+use Rattle.neighbor_wire.proofs.OptionTexts.{shape, text-shape, length-shape}
 
 not_true : IsTrue false → ⊥
 not_true holds = cc
@@ -68,20 +68,6 @@ code_few Nat64Length.Bits32 = omega arith
 
 four_read : (n : ℕ) → n < 2 ^ 32 → n ≡ big_number 4 (big_bytes 4 n ++ [])
 four_read n small = sym (big_number-reads_back 4 n [] (omega (arith, small)))
-
--- a value in normal form has the fields of an address where it has a prefix
-pub has_address : (v : Value) → IsCanonical v → HasAddress v
-has_address (prefix bits on_link autonomous router valid preferred octets) c = c.3
-has_address (source octets) c = tt
-has_address (target octets) c = tt
-has_address (mtu n) c = tt
-has_address (nonce octets) c = tt
-has_address (route bits preference lifetime octets) c = tt
-has_address (servers lifetime octets) c = tt
-has_address (search_list lifetime octets) c = tt
-has_address (portal octets) c = tt
-has_address (nat64 scaled bits octets) c = tt
-has_address (other t octets) c = tt
 
 -- the checks of the length of all options
 record IsWhole (bytes : List ℕ) : Type 0 where

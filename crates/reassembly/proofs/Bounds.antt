@@ -20,11 +20,6 @@ spaced_octets : (ps : List PieceValue) (start : ℕ) → AreSpaced start ps → 
 spaced_octets [] start s = omega (arith, s)
 spaced_octets (p ∷ ps) start s = omega (arith, s.0, spaced_octets ps (end_of p) s.2)
 
--- from an earlier byte on too
-spaced_from : (ps : List PieceValue) (start less : ℕ) → less ≤ start → AreSpaced start ps → AreSpaced less ps
-spaced_from [] start less h s = omega (arith, h, s)
-spaced_from (p ∷ ps) start less h s = (omega (arith, h, s.0), s.1, s.2)
-
 apart_first : (q : PieceValue) (qs : List PieceValue) (f : FragmentValue)
     → StandsToAll (q ∷ qs) f Standing.Apart → Stands q f Standing.Apart × StandsToAll qs f Standing.Apart
 apart_first q qs f (inl (h, other)) = absurd (other refl)

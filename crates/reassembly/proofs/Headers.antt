@@ -41,9 +41,6 @@ pub record LeadsLater (begin : IpProtocol) (all : List ℕ) (p : IpProtocol) (re
   pub forward : (header : List ℕ) → LeadsToFragment begin all header → LeadsToFragment p rest header
   pub back : (header : List ℕ) → LeadsToFragment p rest header → LeadsToFragment begin all header
 
-pub leads_first : (begin : IpProtocol) (all : List ℕ) → LeadsLater begin all begin all
-leads_first begin all = record { forward = λ header h. h; back = λ header h. h }
-
 pub leads_more : (begin : IpProtocol) (all : List ℕ) (p : IpProtocol) (rest : List ℕ) (q : IpProtocol)
     (behind : List ℕ) (end : ℕ) → LeadsLater begin all p rest → EndsAt p rest end
     → q ≡ protocol_of (slice_index rest 0) → behind ≡ drop end rest → LeadsLater begin all q behind

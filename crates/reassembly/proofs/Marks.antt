@@ -95,11 +95,6 @@ all_behind a [] goes bytes all = tt
 all_behind a (b ∷ rest) goes bytes all =
     (record { begins = all.0; goes = goes; bytes = bytes }, all_behind a rest goes bytes all.1)
 
-tiles-goes : (a : Arrival) (rest : List Arrival) (more : Bool) (start : ℕ) → TilesFrom more start (pieces_from rest)
-    → (rest ≡ [] → ⊥) → more ≡ true
-tiles-goes a [] more start t some = absurd (some refl)
-tiles-goes a (b ∷ rest) more start t some = t.0
-
 pub tiles-order : (key : Key) (arrivals : List Arrival) (more : Bool) (start : ℕ) → AreOf key arrivals
     → TilesFrom more start (pieces_from arrivals) → InOrder arrivals
 tiles-order key [] more start are t = tt

@@ -1,9 +1,9 @@
 -- Loops over the fragments that are kept of a datagram, and over datagrams.
 use Rattle.std.proofs.Common.{◌≡◌, ◌≢◌, ◌≤◌, ◌<◌, ◌+◌, ◌++◌, ◌∙◌, [], ◌∷◌, List, Bool, true, false, ℕ, ap, sym, subst}
 use Rattle.std.proofs.Common.{IsTrue, None, append_assoc, arith, drop, get_or, if◌then◌else◌, inl, inr, length, map}
-use Rattle.std.proofs.Common.{refl, set, suc, take}
+use Rattle.std.proofs.Common.{set, suc, take}
 use Rattle.std.proofs.lemmas.Bool.{eq-eqb, le-ltb, lt-ltb, ne_eqb}
-use Rattle.std.proofs.lemmas.List.{append-nil, drop_all, drop_more, drop-map, drop-set-lt, map-append, map_more}
+use Rattle.std.proofs.lemmas.List.{append-nil, drop_more, drop-map, drop-set-lt, map-append, map_more}
 use Rattle.std.proofs.lemmas.List.{map_push, set-get_or, set_split, take-map, take-set}
 use Rattle.std.proofs.lemmas.List.Concat.{flat_map-append}
 use Rattle.std.specs.List.{insert, remove}
@@ -68,12 +68,6 @@ placed_here p q ps i split before so =
     ∙ ap (λ l. take i ps ++ l) (placed_before p q (drop (i + 1) ps) before)
     ∙ ap (λ l. take i ps ++ (p ∷ l)) (sym split))
 
-pub placed_last : (p : PieceValue) (ps : List PieceValue) (i : ℕ) → length ps ≤ i → PlacedLater p ps i
-    → insert ps i p ≡ placed p ps
-placed_last p ps i all so =
-    sym (so.later ∙ ap (λ l. take i ps ++ placed p l) (drop_all i ps all)
-    ∙ ap (λ l. take i ps ++ (p ∷ l)) (sym (drop_all i ps all)))
-
 -- ---- how a fragment stands to those that are kept
 
 pub record StandsLater (f : FragmentValue) (all rest : List PieceValue) : Type 0 where
@@ -91,11 +85,6 @@ pub stands_here : (f : FragmentValue) (all ps : List PieceValue) (i : ℕ) (q : 
     → StandsToAll all f s
 stands_here f all ps i q s split stands other so =
     so.later s (subst (λ l. StandsToAll l f s) (sym split) (inl (stands, other)))
-
-pub stands_last : (f : FragmentValue) (all ps : List PieceValue) (i : ℕ) → length ps ≤ i
-    → StandsLater f all (drop i ps) → StandsToAll all f Standing.Apart
-stands_last f all ps i end so =
-    so.later Standing.Apart (subst (λ l. StandsToAll l f Standing.Apart) (sym (drop_all i ps end)) refl)
 
 -- ---- whether they tile
 
@@ -119,13 +108,6 @@ pub tiles_here : (more : Bool) (start : ℕ) (ps all : List PieceValue) (i : ℕ
 tiles_here more start ps all i q split so t =
     let k = subst (TilesFrom more start) split (so.forward t) in
     (k.0, k.1)
-
-pub tiles_last : (more : Bool) (start : ℕ) (ps all : List PieceValue) (i : ℕ) → length ps ≤ i
-    → TilesLater more start (drop i ps) all → (Tiles all → more ≡ false) × (more ≡ false → Tiles all)
-tiles_last more start ps all i end so = (
-  λ t. subst (TilesFrom more start) (drop_all i ps end) (so.forward t),
-  λ e. so.back (subst (TilesFrom more start) (sym (drop_all i ps end)) e),
-)
 
 -- ---- what they are together
 
