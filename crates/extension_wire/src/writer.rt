@@ -1,17 +1,16 @@
 //! What an error with extensions has behind its header, written (RFC 4884 sections 3 to 5, 7 and 8).
 
 ghost use Rattle.std.specs.Prelude.{◌≡◌, ◌≤◌, ◌<◌, ◌+◌, ◌^◌, ◌∷◌, [], map, length};
-ghost use Rattle.wirebase.specs.Bytes.{over};
-ghost use Rattle.wirebase.specs.ByteWriter.{fields, free, Puts};
-ghost use Rattle.extension_wire.specs.Object.{value_of as object_value, text as object_text, text_len as object_len};
+ghost use Rattle.wirebase.specs.ByteWriter.{free, Puts};
+ghost use Rattle.extension_wire.specs.Object.{value_of as object_value};
 ghost use Rattle.extension_wire.specs.Writer.{value_of, objects_len, quoted_words, padded_len, quoted_fields};
-ghost use Rattle.extension_wire.specs.Writer.{structure_fields, structure_text, text_len, Emits, CanEmit};
+ghost use Rattle.extension_wire.specs.Writer.{structure_text, text_len, Emits, CanEmit};
 
 use crate::family::Family;
 use crate::object::Object;
 use crate::split::LEAST_QUOTE;
 use crate::structure;
-use wirebase::{ByteWriter, checksum};
+use wirebase::ByteWriter;
 
 /// What an error with extensions has behind its header of 8 bytes: the original datagram, padded, and an extension
 /// structure with these objects. The error's own header has [`ErrorData::length`].
@@ -40,7 +39,7 @@ impl<'a> ErrorData<'a> {
         requires { text_len (value_of self.now) < 2 ^ 16 }
         ensures { result ≡ text_len (value_of self.now) }
     {
-        padded_len(self.family, self.quoted.len()) + structure_len(self.objects)
+        padded_len(self.family, self.quoted.len()) + structure::buffer_len(self.objects)
     }
 
     /// Writes the quote, padded with zeros to whole words and to 128 bytes at least, and the extension structure with
@@ -73,18 +72,6 @@ fn padded_len(family: Family, len: usize) -> usize
     family.unit() * quoted_words(family, len)
 }
 
-// The bytes of a structure with these objects.
-fn structure_len(objects: &[Object<'_>]) -> usize
-    requires { objects_len (map object_value objects.now) < 2 ^ 16 }
-    ensures { result ≡ 4 + objects_len (map object_value objects.now) }
-{
-    let mut len = structure::HEADER_LEN;
-    for object in objects {
-        len += object.buffer_len();
-    }
-    len
-}
-
 // Writes a quote and its padding.
 fn put_quoted(w: &mut ByteWriter<'_>, family: Family, quoted: &[u8])
     requires { padded_len family (length quoted.now) ≤ length (free w.old) }
@@ -102,52 +89,5 @@ fn put_structure(w: &mut ByteWriter<'_>, objects: &[Object<'_>])
     requires fits { objects_len (map object_value objects.now) < 2 ^ 16 }
     ensures { Puts w.old w.new (structure_text (map object_value objects.now) ∷ []) }
 {
-    write_structure(w.part(structure_len(objects)), objects);
-}
-
-// Writes a structure over the front of the octets, with the checksum of all of them.
-fn write_structure(octets: &mut [u8], objects: &[Object<'_>])
-    requires room { 4 + objects_len (map object_value objects.now) ≡ length octets.old }
-    requires fits { objects_len (map object_value objects.now) < 2 ^ 16 }
-    ensures { octets.new ≡ structure_text (map object_value objects.now) }
-{
-    write_fields(octets, objects);
-    checksum::fill(octets, structure::field::CHECKSUM, 0);
-}
-
-// Writes a structure over the octets, with a checksum of zero.
-#[tactic(auto, using(wirebase::proofs::Chains::chain))]
-fn write_fields(octets: &mut [u8], objects: &[Object<'_>])
-    requires room { 4 + objects_len (map object_value objects.now) ≤ length octets.old }
-    requires fits { objects_len (map object_value objects.now) < 2 ^ 16 }
-    ensures { octets.new ≡ over octets.old (fields (structure_fields (map object_value objects.now))) }
-{
-    let mut w = ByteWriter::new(octets);
-    w.put_u8(structure::VERSION * 16);
-    w.put_u8(0);
-    w.put_u16(0);
-    put_objects(&mut w, objects);
-}
-
-// Writes objects one after another.
-#[tactic(auto, using(std::proofs::lemmas::List::drop_all))]
-fn put_objects(w: &mut ByteWriter<'_>, objects: &[Object<'_>])
-    requires room { objects_len (map object_value objects.now) ≤ length (free w.old) }
-    requires fits { objects_len (map object_value objects.now) < 2 ^ 16 }
-    ensures { Puts w.old w.new (map object_text (map object_value objects.now)) }
-{
-    for object in objects {
-        put_object(w, object);
-    }
-}
-
-// Writes an object.
-fn put_object(w: &mut ByteWriter<'_>, object: &Object<'_>)
-    requires room { object_len (object_value object.now) ≤ length (free w.old) }
-    requires fits { object_len (object_value object.now) < 2 ^ 16 }
-    ensures puts { Puts w.old w.new (object_text (object_value object.now) ∷ []) }
-    ensures room { length (free w.old)
-        ≡ object_len (object_value object.now) + length (free w.new) }
-{
-    object.put(w);
+    structure::emit(objects, w.part(structure::buffer_len(objects)));
 }

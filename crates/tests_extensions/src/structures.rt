@@ -100,6 +100,37 @@ fn structures_have_their_objects(rt: HostRuntime) {
     }
 }
 
+// An interface by its name, as an extended echo request asks for it (RFC 8335 section 2.1).
+// 2000 + 0008 + 0301 + 6574 + 6830 = f0ad, and ffff - f0ad = 0f52.
+#[test]
+fn a_structure_is_written(rt: HostRuntime) {
+    let objects = [Object {
+        class: 3,
+        c_type: 1,
+        payload: b"eth0",
+    }];
+    let text: &[u8] = &[
+        0x20, 0x00, 0x0f, 0x52, 0x00, 0x08, 0x03, 0x01, 0x65, 0x74, 0x68, 0x30,
+    ];
+    same(&rt, structure::buffer_len(&objects), 12);
+    for &fill in FILLS {
+        let mut octets = [fill; 12];
+        structure::emit(&objects, &mut octets);
+        same_of(&rt, fill, &octets[..], text);
+    }
+    check_structure(&rt, text, &objects);
+}
+
+#[test]
+fn a_structure_without_objects_is_written(rt: HostRuntime) {
+    same(&rt, structure::buffer_len(&[]), 4);
+    for &fill in FILLS {
+        let mut octets = [fill; 4];
+        structure::emit(&[], &mut octets);
+        same_of(&rt, fill, &octets[..], &[0x20, 0x00, 0xdf, 0xff][..]);
+    }
+}
+
 #[test]
 fn what_is_refused_as_a_structure(rt: HostRuntime) {
     let rows: &[(&[u8], StructureRefusal)] = &[

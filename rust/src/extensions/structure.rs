@@ -1,9 +1,10 @@
 // Made from crates/extension_wire/src/structure.rt by rust/erase.
-//! The extension structure behind what an error quotes (RFC 4884 section 7).
+//! The extension structure: behind what an error quotes (RFC 4884 section 7), and all that an extended echo request has
+//! behind its header (RFC 8335 section 2).
 
-use crate::extensions::object::Objects;
+use crate::extensions::object::{Object, Objects};
 use crate::extensions::refusal::StructureRefusal;
-use crate::wirebase::{Octets, checksum};
+use crate::wirebase::{ByteWriter, Octets, checksum};
 
 // The fields of the structure's header.
 pub(crate) mod field {
@@ -40,4 +41,49 @@ pub fn parse(octets: &[u8]) -> Result<Objects<'_>, StructureRefusal> {
 // The version.
 pub(crate) fn version(octets: &[u8]) -> u8 {
     octets.u8_at(field::VERSION) / 16
+}
+
+/// The bytes of a structure with these objects. Requires that the objects have fewer than 65,536.
+///
+/// # Panics
+///
+/// May panic where what is asked for above does not hold.
+pub fn buffer_len(objects: &[Object<'_>]) -> usize {
+    let mut len = HEADER_LEN;
+    for object in objects {
+        len += object.buffer_len();
+    }
+    len
+}
+
+/// Writes a structure with these objects, and the checksum of all of it, over the octets. [`parse`] then gives the
+/// objects, each as it is where it is canonical. Requires exactly `buffer_len` bytes, and objects of fewer than 65,536.
+///
+/// # Panics
+///
+/// May panic where what is asked for above does not hold.
+pub fn emit(objects: &[Object<'_>], octets: &mut [u8]) {
+    write_fields(octets, objects);
+    checksum::fill(octets, field::CHECKSUM, 0);
+}
+
+// Writes a structure over the octets, with a checksum of zero.
+fn write_fields(octets: &mut [u8], objects: &[Object<'_>]) {
+    let mut w = ByteWriter::new(octets);
+    w.put_u8(VERSION * 16);
+    w.put_u8(0);
+    w.put_u16(0);
+    put_objects(&mut w, objects);
+}
+
+// Writes objects one after another.
+fn put_objects(w: &mut ByteWriter<'_>, objects: &[Object<'_>]) {
+    for object in objects {
+        put_object(w, object);
+    }
+}
+
+// Writes an object.
+fn put_object(w: &mut ByteWriter<'_>, object: &Object<'_>) {
+    object.put(w);
 }

@@ -5,7 +5,7 @@ use crate::extensions::family::Family;
 use crate::extensions::object::Object;
 use crate::extensions::split::LEAST_QUOTE;
 use crate::extensions::structure;
-use crate::wirebase::{ByteWriter, checksum};
+use crate::wirebase::ByteWriter;
 
 /// What an error with extensions has behind its header of 8 bytes: the original datagram, padded, and an extension
 /// structure with these objects. The error's own header has [`ErrorData::length`].
@@ -36,7 +36,7 @@ impl<'a> ErrorData<'a> {
     ///
     /// May panic where what is asked for above does not hold.
     pub fn buffer_len(&self) -> usize {
-        padded_len(self.family, self.quoted.len()) + structure_len(self.objects)
+        padded_len(self.family, self.quoted.len()) + structure::buffer_len(self.objects)
     }
 
     /// Writes the quote, padded with zeros to whole words and to 128 bytes at least, and the extension structure with
@@ -64,15 +64,6 @@ fn padded_len(family: Family, len: usize) -> usize {
     family.unit() * quoted_words(family, len)
 }
 
-// The bytes of a structure with these objects.
-fn structure_len(objects: &[Object<'_>]) -> usize {
-    let mut len = structure::HEADER_LEN;
-    for object in objects {
-        len += object.buffer_len();
-    }
-    len
-}
-
 // Writes a quote and its padding.
 fn put_quoted(w: &mut ByteWriter<'_>, family: Family, quoted: &[u8]) {
     w.put_bytes(quoted);
@@ -81,32 +72,5 @@ fn put_quoted(w: &mut ByteWriter<'_>, family: Family, quoted: &[u8]) {
 
 // Writes a structure.
 fn put_structure(w: &mut ByteWriter<'_>, objects: &[Object<'_>]) {
-    write_structure(w.part(structure_len(objects)), objects);
-}
-
-// Writes a structure over the front of the octets, with the checksum of all of them.
-fn write_structure(octets: &mut [u8], objects: &[Object<'_>]) {
-    write_fields(octets, objects);
-    checksum::fill(octets, structure::field::CHECKSUM, 0);
-}
-
-// Writes a structure over the octets, with a checksum of zero.
-fn write_fields(octets: &mut [u8], objects: &[Object<'_>]) {
-    let mut w = ByteWriter::new(octets);
-    w.put_u8(structure::VERSION * 16);
-    w.put_u8(0);
-    w.put_u16(0);
-    put_objects(&mut w, objects);
-}
-
-// Writes objects one after another.
-fn put_objects(w: &mut ByteWriter<'_>, objects: &[Object<'_>]) {
-    for object in objects {
-        put_object(w, object);
-    }
-}
-
-// Writes an object.
-fn put_object(w: &mut ByteWriter<'_>, object: &Object<'_>) {
-    object.put(w);
+    structure::emit(objects, w.part(structure::buffer_len(objects)));
 }

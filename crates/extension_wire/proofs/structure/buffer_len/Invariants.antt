@@ -1,7 +1,7 @@
 use Rattle.std.proofs.Common.{◌≡◌, ◌+◌, drop, map}
 use Rattle.extension_wire.specs.Object.{value_of}
 use Rattle.extension_wire.specs.Writer.{objects_len}
-use Rattle.extension_wire.proofs.writer.structure_len.Given as goal
+use Rattle.extension_wire.proofs.structure.buffer_len.Given as goal
 
 abbrev pub invariant-loop-object : goal.invariant-loop-object
 invariant-loop-object l =

@@ -2,7 +2,7 @@ use Rattle.std.proofs.Common.{◌≡◌, ◌≤◌, ◌<◌, ◌^◌, drop, leng
 use Rattle.wirebase.specs.ByteWriter.{sheet, free, put_all, the_slice}
 use Rattle.extension_wire.specs.Object.{value_of, text}
 use Rattle.extension_wire.specs.Writer.{objects_len}
-use Rattle.extension_wire.proofs.writer.put_objects.Given as goal
+use Rattle.extension_wire.proofs.structure.put_objects.Given as goal
 
 -- writing the rest gives the result of writing the whole
 abbrev pub invariant-loop-object : goal.invariant-loop-object

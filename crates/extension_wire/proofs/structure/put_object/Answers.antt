@@ -1,6 +1,6 @@
 use Rattle.std.proofs.Common.{sym, ◌∙◌}
 use Rattle.wirebase.proofs.Chains.{put-fields}
-use Rattle.extension_wire.proofs.writer.put_object.Goals as goal
+use Rattle.extension_wire.proofs.structure.put_object.Goals as goal
 
 pub returns-clause-puts : goal.returns-clause-puts
 returns-clause-puts c =
