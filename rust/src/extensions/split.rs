@@ -26,8 +26,8 @@ impl<'a> Parts<'a> {
     /// The parts of these octets, which are those behind the 8 bytes of an error's header. `length` is the error's own:
     /// byte 5 of an error of ICMPv4, of type 3, 11 or 12, and byte 4 of one of ICMPv6, of type 1 or 3; other types have
     /// none. It counts words of 4 or 8 bytes ([`Family::unit`]); where it is 0, no extension is claimed, and all is
-    /// quoted ([`Parts::split_by_content`] looks for one nevertheless). Refused where it is less than 128 bytes, or
-    /// more than there are. Where nothing follows the original datagram there is no structure.
+    /// quoted ([`Parts::split_by_content`] looks for one nevertheless). Refused where these words are fewer than 128
+    /// bytes, or more than there are. Where nothing follows the original datagram there is no structure.
     pub fn split(octets: &'a [u8], length: u8, family: Family) -> Result<Parts<'a>, SplitRefusal> {
         if length == 0 {
             return Ok(Parts {
