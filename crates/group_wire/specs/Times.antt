@@ -6,14 +6,19 @@ use Rattle.icmp6_wire.specs.MldPacket.{resp_millis}
 use Rattle.group_wire.specs.declared.family.Family.{Family}
 use Rattle.group_wire.specs.Membership.{Value, older_query, query, oldest_report, older_report, leave, report}
 
--- The milliseconds of the response code of a query of an older version: tenths of a second, and of a query of version
--- 1, which has none, ten seconds; in MLD, milliseconds.
+-- the tenths of a second of a query of version 2 of IGMP in milliseconds; a query of version 1 has the code 0, and asks
+-- for answers in ten seconds (RFC 2236 section 4)
+abbrev pub tenths_millis : ℕ → ℕ
+tenths_millis zero = 10000
+tenths_millis (suc code) = 100 * suc code
+
+-- The milliseconds of the response code of a query of an older version: in IGMP, where a code has 8 bits, tenths of a
+-- second, and in MLD milliseconds.
 abbrev pub older_millis : Family → ℕ → ℕ
-older_millis Family.Igmp zero = 10000
-older_millis Family.Igmp (suc code) = 100 * suc code
+older_millis Family.Igmp code = tenths_millis (code % 256)
 older_millis Family.Mld code = code
 
--- those of a query of the newest version, whose code in IGMP has 8 bits
+-- those of a query of the newest version
 abbrev pub query_millis : Family → ℕ → ℕ
 query_millis Family.Igmp code = code_millis (code % 256)
 query_millis Family.Mld code = resp_millis code
@@ -33,9 +38,13 @@ abbrev pub older_version : Family → ℕ
 older_version Family.Igmp = 2
 older_version Family.Mld = 1
 
+-- that of a query of an older version, by its code
+abbrev pub tenths_version : ℕ → ℕ
+tenths_version zero = 1
+tenths_version (suc code) = 2
+
 abbrev pub query_version : Family → ℕ → ℕ
-query_version Family.Igmp zero = 1
-query_version Family.Igmp (suc code) = 2
+query_version Family.Igmp code = tenths_version (code % 256)
 query_version Family.Mld code = 1
 
 abbrev pub newest_version : Family → ℕ

@@ -14,7 +14,7 @@ use crate::wirebase::Duration;
 impl<'a, A: Address> Message<A, Query<'a, A>, Records<'a, A>> {
     /// The maximum response time of a query, by its code; None of other messages. A query of version 1 of IGMP has no
     /// code: there it is 10 seconds (RFC 2236 section 4). Codes of IGMP are below 256; of a larger one the lower 8 bits
-    /// count.
+    /// count, which are what is written.
     pub fn max_resp_time(&self) -> Option<Duration> {
         match self {
             Message::OlderQuery { max_resp_code, .. } => {
@@ -25,17 +25,16 @@ impl<'a, A: Address> Message<A, Query<'a, A>, Records<'a, A>> {
         }
     }
 
-    /// The version of the protocol: 1, 2 or 3 of IGMP, 1 or 2 of MLD.
+    /// The version of the protocol: 1, 2 or 3 of IGMP, 1 or 2 of MLD. An older query of IGMP is of version 1 where its
+    /// code is 0 (RFC 3376 section 7.1), in the lower 8 bits, which are what is written.
     pub fn version(&self) -> u8 {
         let (older, newest) = match A::family() {
             Family::Igmp => (2, 3),
             Family::Mld => (1, 2),
         };
         match self {
-            Message::OlderQuery {
-                max_resp_code: 0, ..
-            }
-            | Message::OldestReport { .. } => 1,
+            Message::OldestReport { .. } => 1,
+            Message::OlderQuery { max_resp_code, .. } if *max_resp_code % 256 == 0 => 1,
             Message::OlderQuery { .. } | Message::OlderReport { .. } | Message::Leave { .. } => {
                 older
             }
@@ -59,8 +58,8 @@ fn interval_of_code(code: u8) -> Duration {
 // The time of a query of an older version.
 fn older_time(family: Family, code: u16) -> Duration {
     match family {
-        Family::Igmp if code == 0 => Duration::from_secs(10),
-        Family::Igmp => Duration::from_millis(100 * code as u64),
+        Family::Igmp if code % 256 == 0 => Duration::from_secs(10),
+        Family::Igmp => Duration::from_millis(100 * (code % 256) as u64),
         Family::Mld => Duration::from_millis(code as u64),
     }
 }

@@ -21,12 +21,14 @@ fn query_of(max_resp_code: u16, qqic: u8) -> Query<'static, Ipv4Address> {
 // 3 (RFC 3376 section 4.1.1).
 #[test]
 fn times_of_igmp() {
-    for (code, millis) in [
-        (0, 10_000),
-        (1, 100),
-        (100, 10_000),
-        (200, 20_000),
-        (255, 25_500),
+    for (code, millis, version) in [
+        (0, 10_000, 1),
+        (1, 100, 2),
+        (100, 10_000, 2),
+        (200, 20_000, 2),
+        (255, 25_500, 2),
+        (256, 10_000, 1),
+        (257, 100, 2),
     ] {
         let query: Membership<'_, Ipv4Address> = Message::OlderQuery {
             max_resp_code: code,
@@ -37,7 +39,7 @@ fn times_of_igmp() {
             query.max_resp_time(),
             Some(Duration::from_millis(millis)),
         );
-        same_of(code, query.version(), if code == 0 { 1 } else { 2 });
+        same_of(code, query.version(), version);
     }
     for (code, millis) in [
         (0, 0),
