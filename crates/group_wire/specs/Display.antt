@@ -73,5 +73,5 @@ abbrev pub refusal_display : Refusal → List ℕ
 refusal_display Refusal.Short = codes "fewer than 8 bytes"
 refusal_display Refusal.Checksum = codes "wrong checksum"
 refusal_display (Refusal.UnknownType t) = pieces (codes "type " ∷ decimal t ∷ codes " is not read" ∷ [])
-refusal_display Refusal.Length = codes "neither the length of an older version nor that of the newest"
+refusal_display Refusal.Length = codes "a length that no message of this type has"
 refusal_display Refusal.Cut = codes "more sources or records counted than there are"

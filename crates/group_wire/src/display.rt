@@ -43,9 +43,7 @@ impl fmt::Display for Refusal {
             Refusal::Short => f.write_str("fewer than 8 bytes"),
             Refusal::Checksum => f.write_str("wrong checksum"),
             Refusal::UnknownType(number) => write!(f, "type {number} is not read"),
-            Refusal::Length => {
-                f.write_str("neither the length of an older version nor that of the newest")
-            }
+            Refusal::Length => f.write_str("a length that no message of this type has"),
             Refusal::Cut => f.write_str("more sources or records counted than there are"),
         }
     }

@@ -3,8 +3,8 @@
 //! [`Membership`]: with the addresses of IPv4 it is a message of IGMP, with those of IPv6 one of MLD.
 //!
 //! Checksums are verified and written. What a packet around a message needs is up to the caller: a hop limit of 1, the
-//! router alert option, and in MLD a link-local source (RFC 3376 section 4, RFC 3810 section 5); and so are the checks
-//! of these.
+//! router alert option, in IGMPv3 a type of service of 0xc0 (RFC 3376 section 4), and in MLD a link-local source (RFC
+//! 3810 section 5); the caller also checks these on receipt.
 //!
 //! ```
 //! use control_wire::Ipv4Address;

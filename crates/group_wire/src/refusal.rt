@@ -10,7 +10,7 @@ pub enum Refusal {
     /// A type that is not read, by its number.
     UnknownType(u8),
     /// A query has neither the length of an older version nor that of the newest (RFC 3376 section 7.1, RFC 3810
-    /// section 8.1); or a report of an older version, or a message of one who leaves, ends before its group does.
+    /// section 8.1); or a report of an older version, or a leave message, ends before its group does.
     Length,
     /// A query counts more sources than there are, or a report more records.
     Cut,

@@ -296,10 +296,7 @@ fn texts_of_reasons_and_protocols(rt: HostRuntime) {
         (Refusal::Short, "fewer than 8 bytes"),
         (Refusal::Checksum, "wrong checksum"),
         (Refusal::UnknownType(0x13), "type 19 is not read"),
-        (
-            Refusal::Length,
-            "neither the length of an older version nor that of the newest",
-        ),
+        (Refusal::Length, "a length that no message of this type has"),
         (
             Refusal::Cut,
             "more sources or records counted than there are",
