@@ -79,7 +79,7 @@ impl<'a> Message<Ipv4Address, Query<'a, Ipv4Address>, Records<'a, Ipv4Address>> 
         ensures rewrites { length octets.now ≤ 65515
             → IfOk result (λ message. Rewrites (format Family.Igmp (λ len. 0)) (value_of octets_of message)) }
     {
-        reading::read_igmp(octets)
+        reading::read(octets, 0)
     }
 
     /// Writes the message over the front of the octets, with the checksum of all of them; the other octets are
@@ -115,7 +115,7 @@ impl<'a> Message<Ipv6Address, Query<'a, Ipv6Address>, Records<'a, Ipv6Address>> 
             → IfOk result (λ message. Rewrites
             (format Family.Mld (λ len. pseudo_sum src_addr.now dst_addr.now len)) (value_of octets_of message)) }
     {
-        reading::read_mld(octets, src_addr, dst_addr)
+        reading::read(octets, pseudo_sum(octets, src_addr, dst_addr))
     }
 
     /// Writes the message over the front of the octets, as one of ICMPv6, with the checksum of all of them; the other

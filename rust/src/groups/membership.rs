@@ -64,7 +64,7 @@ pub enum Message<A, Q, R> {
 impl<'a> Message<Ipv4Address, Query<'a, Ipv4Address>, Records<'a, Ipv4Address>> {
     /// The message of IGMP that these octets are; what follows it is ignored. Its checksum is verified.
     pub fn parse_igmp(octets: &'a [u8]) -> Result<Membership<'a, Ipv4Address>, Refusal> {
-        reading::read_igmp(octets)
+        reading::read(octets, 0)
     }
 
     /// Writes the message over the front of the octets, with the checksum of all of them; the other octets are
@@ -88,7 +88,7 @@ impl<'a> Message<Ipv6Address, Query<'a, Ipv6Address>, Records<'a, Ipv6Address>> 
         src_addr: &Ipv6Address,
         dst_addr: &Ipv6Address,
     ) -> Result<Membership<'a, Ipv6Address>, Refusal> {
-        reading::read_mld(octets, src_addr, dst_addr)
+        reading::read(octets, pseudo_sum(octets, src_addr, dst_addr))
     }
 
     /// Writes the message over the front of the octets, as one of ICMPv6, with the checksum of all of them; the other

@@ -4,60 +4,25 @@ ghost use Rattle.std.specs.Prelude.{◌≡◌, ◌≤◌, ◌<◌, ◌+◌, Some
 ghost use Rattle.wirebase.specs.Bytes.{number_of};
 ghost use Rattle.wirebase.specs.Checks.{Fails, Passes};
 ghost use Rattle.wirebase.specs.Format.{Rewrites};
-ghost use Rattle.wirebase.specs.Ipv4.{octets_of};
-ghost use Rattle.wirebase.specs.Ipv6Address.{octets_of as octets_of_v6};
 ghost use Rattle.group_wire.specs.Family.{group_at, older_len};
 ghost use Rattle.group_wire.specs.Membership.{Value, value_of, IsContent, IsMessage, Refuses, kind_checks, kind_in};
-ghost use Rattle.group_wire.specs.Membership.{code_in, group_in, record_count_field, report_len_in, format, pseudo_sum};
+ghost use Rattle.group_wire.specs.Membership.{code_in, group_in, record_count_field, report_len_in, format};
 ghost use Rattle.group_wire.specs.Records.{count_in, octets_in};
 ghost use Rattle.group_wire.specs.declared.family.Family.{Family};
 ghost use Rattle.group_wire.specs.declared.family.Kind.{Kind};
 ghost use Rattle.group_wire.specs.declared.refusal.Refusal.{Refusal};
 
-use super::{Membership, Message, field, pseudo_sum};
+use super::{Membership, Message, field};
 use crate::address::Address;
 use crate::family::{Family, Kind};
 use crate::query::{Query, S_FLAG};
 use crate::records::{Records, records_len};
 use crate::refusal::Refusal;
 use crate::sources::Sources;
-use wirebase::{Ipv4Address, Ipv6Address, Octets, are_bytes, checksum};
-
-// The message of IGMP that these octets are.
-pub(super) fn read_igmp(octets: &[u8]) -> Result<Membership<'_, Ipv4Address>, Refusal>
-    ensures sound { IfOk result (λ message.
-        IsMessage Family.Igmp 0 octets.now (value_of octets_of message)) }
-    ensures complete { (value : Value) → IsMessage Family.Igmp 0 octets.now value
-        → IsOkAnd result (λ message. value_of octets_of message ≡ value) }
-    ensures told { IfErr result (Refuses Family.Igmp 0 octets.now) }
-    ensures rewrites { length octets.now ≤ 65515
-        → IfOk result (λ message. Rewrites (format Family.Igmp (λ len. 0)) (value_of octets_of message)) }
-{
-    read(octets, 0)
-}
-
-// The message of MLD that these octets are.
-pub(super) fn read_mld<'a>(
-    octets: &'a [u8],
-    src_addr: &Ipv6Address,
-    dst_addr: &Ipv6Address,
-) -> Result<Membership<'a, Ipv6Address>, Refusal>
-    ensures sound { IfOk result (λ message. IsMessage Family.Mld
-        (pseudo_sum src_addr.now dst_addr.now (length octets.now)) octets.now (value_of octets_of_v6 message)) }
-    ensures complete { (value : Value)
-        → IsMessage Family.Mld (pseudo_sum src_addr.now dst_addr.now (length octets.now)) octets.now value
-        → IsOkAnd result (λ message. value_of octets_of_v6 message ≡ value) }
-    ensures told { IfErr result
-        (Refuses Family.Mld (pseudo_sum src_addr.now dst_addr.now (length octets.now)) octets.now) }
-    ensures rewrites { length octets.now ≤ 65515
-        → IfOk result (λ message. Rewrites
-        (format Family.Mld (λ len. pseudo_sum src_addr.now dst_addr.now len)) (value_of octets_of_v6 message)) }
-{
-    read(octets, pseudo_sum(octets, src_addr, dst_addr))
-}
+use wirebase::{Octets, are_bytes, checksum};
 
 // The message that these octets are, where `extra` is the sum of a pseudo header.
-fn read<A: Address>(octets: &[u8], extra: u16) -> Result<Membership<'_, A>, Refusal>
+pub(super) fn read<A: Address>(octets: &[u8], extra: u16) -> Result<Membership<'_, A>, Refusal>
     ensures sound { IfOk result (λ message.
         IsMessage A.family extra octets.now (value_of A.bytes message)) }
     ensures complete { (value : Value) → IsMessage A.family extra octets.now value

@@ -1,31 +1,17 @@
 // Made from crates/group_wire/src/membership/reading.rt by rust/erase.
 //! Messages read from octets.
 
-use super::{Membership, Message, field, pseudo_sum};
+use super::{Membership, Message, field};
 use crate::groups::address::Address;
 use crate::groups::family::{Family, Kind};
 use crate::groups::query::{Query, S_FLAG};
 use crate::groups::records::{Records, records_len};
 use crate::groups::refusal::Refusal;
 use crate::groups::sources::Sources;
-use crate::wirebase::{Ipv4Address, Ipv6Address, Octets, checksum};
-
-// The message of IGMP that these octets are.
-pub(super) fn read_igmp(octets: &[u8]) -> Result<Membership<'_, Ipv4Address>, Refusal> {
-    read(octets, 0)
-}
-
-// The message of MLD that these octets are.
-pub(super) fn read_mld<'a>(
-    octets: &'a [u8],
-    src_addr: &Ipv6Address,
-    dst_addr: &Ipv6Address,
-) -> Result<Membership<'a, Ipv6Address>, Refusal> {
-    read(octets, pseudo_sum(octets, src_addr, dst_addr))
-}
+use crate::wirebase::{Octets, checksum};
 
 // The message that these octets are, where `extra` is the sum of a pseudo header.
-fn read<A: Address>(octets: &[u8], extra: u16) -> Result<Membership<'_, A>, Refusal> {
+pub(super) fn read<A: Address>(octets: &[u8], extra: u16) -> Result<Membership<'_, A>, Refusal> {
     read_message(octets, extra)
 }
 
