@@ -1,10 +1,11 @@
 -- What holds of both protocols: arithmetic with the bytes of an address.
 use Rattle.std.proofs.Common.{◌≡◌, ℕ, suc, ◌+◌, ◌*◌, ◌/◌, ◌-◌, ◌≤◌, ◌<◌, List, length, take, drop, arith, refl}
-use Rattle.std.proofs.Common.{subst, sym}
-use Rattle.std.proofs.lemmas.List.{length-drop, take_all}
+use Rattle.std.proofs.Common.{min, subst, sym}
+use Rattle.std.proofs.lemmas.List.{length-drop, length-take-le, take_all}
 use Rattle.wirebase.specs.Bytes.{part}
 use Rattle.group_wire.specs.declared.family.Family.{Family}
 use Rattle.group_wire.specs.Family.{width}
+use Rattle.group_wire.specs.Sources.{AreAddresses, addresses_in}
 
 pub div_more : (f : Family) (n : ℕ) → width f ≤ n → n / width f ≡ suc ((n - width f) / width f)
 div_more Family.Igmp n h = omega (arith, h)
@@ -29,6 +30,16 @@ fits_in Family.Mld n len few = omega (arith, few)
 
 pub times_fits : (f : Family) (w n len : ℕ) → w ≡ width f → n ≤ len / w → w * n ≤ len
 times_fits f w n len is = subst (λ (k : ℕ). n ≤ len / k → k * n ≤ len) (sym is) (fits_in f n len)
+
+-- as many addresses as are whole and can be counted
+counted_fits : (f : Family) (n : ℕ) → width f * min (n / width f) 65535 ≤ n
+counted_fits Family.Igmp n = omega arith
+counted_fits Family.Mld n = omega arith
+
+pub addresses_whole : (f : Family) (bytes : List ℕ) → AreAddresses (width f) (addresses_in (width f) bytes)
+addresses_whole f bytes =
+    let n : ℕ = min (length bytes / width f) 65535 in
+    (n, length-take-le (width f * n) bytes (counted_fits f (length bytes)), omega arith)
 
 -- the bytes behind some others, as many as there are
 pub part_behind : (l : List ℕ) (i j n m : ℕ) → i ≡ j → n ≡ m → take (i + n - i) (drop i l) ≡ part l j (j + m)

@@ -1,12 +1,14 @@
 -- The format of messages about groups: what is read in their texts, and what was read.
 use Rattle.std.proofs.Common.{◌≡◌, ◌↔◌, ℕ, ◌+◌, ◌*◌, ◌/◌, ◌%◌, ◌-◌, ◌≤◌, ◌<◌, ◌^◌, Bool, true, false, IsTrue}
-use Rattle.std.proofs.Common.{List, [], ◌++◌, length, take, drop, Option, Some, inl, inr, refl, sym, ap, subst, ◌∙◌}
-use Rattle.std.proofs.Common.{arith}
-use Rattle.std.specs.Prelude.{slice_index}
+use Rattle.std.proofs.Common.{List, [], ◌∷◌, ◌++◌, length, take, drop, Option, Some, inl, inr, refl, sym, ap, subst}
+use Rattle.std.proofs.Common.{◌∙◌, arith}
+use Rattle.std.specs.Prelude.{nat_lt, slice_index, if◌then◌else◌}
+use Rattle.std.proofs.lemmas.Bool.{cases_lt}
 use Rattle.std.proofs.lemmas.List.{take_all, length-take-le}
 use Rattle.byteorder.specs.Endian.{big_bytes, big_number}
 use Rattle.byteorder.specs.Numbers.{big_number-reads_back}
 use Rattle.wirebase.specs.Bytes.{IsBytes, part}
+use Rattle.wirebase.specs.ByteWriter.{be8, be16, fields}
 use Rattle.wirebase.specs.Checks.{Passes}
 use Rattle.wirebase.specs.Checksum.{IsGood, sealed}
 use Rattle.wirebase.specs.Format.{SameText}
@@ -20,7 +22,7 @@ use Rattle.group_wire.specs.declared.family.Kind.{Kind}
 use Rattle.group_wire.specs.Family.{width, group_at, older_len, kind_of}
 use Rattle.group_wire.specs.Records.{records_len_in}
 use Rattle.group_wire.specs.Membership.{Value, older_query, query, oldest_report, older_report, leave, report}
-use Rattle.group_wire.specs.Membership.{sqrv, source_count, text, query_len}
+use Rattle.group_wire.specs.Membership.{header, stated_qrv, sqrv, source_count, text, query_len}
 use Rattle.group_wire.specs.Membership.{text_len, checksum_field, kind_in, code_in, code_end}
 use Rattle.group_wire.specs.Membership.{group_in, source_count_in, sources_len_in, report_len_in, kind_checks}
 use Rattle.group_wire.specs.Membership.{IsContent, IsMessage, IsCanonical, oldest_in, norm, packet_text, format}
@@ -47,19 +49,34 @@ group_passes f kind a b group whole t is passes =
     subst (λ (k : Option Kind). Passes (kind_checks f (head f kind 0 a b ++ (group ++ [])) k)) (sym is)
     (passes (omega (arith, length-message f kind 0 a b group [] whole)))
 
-flag_read : (flag : Bool) (qrv : ℕ) → qrv < 8 → IsTrue flag ↔ (sqrv flag qrv / 8 % 2 ≡ 1)
-flag_read true qrv small = (λ yes. omega arith, λ yes. refl)
-flag_read false qrv small = (λ no. cc, λ one. absurd (omega arith))
+-- the flag and the robustness variable in their byte
+stated_same : (qrv : ℕ) → qrv < 8 → stated_qrv qrv ≡ qrv
+stated_same qrv less = let small : nat_lt qrv 8 ≡ true = grind arith in rw small refl
 
-qrv_read : (flag : Bool) (qrv : ℕ) → qrv < 8 → qrv ≡ sqrv flag qrv % 8
-qrv_read true qrv small = omega arith
-qrv_read false qrv small = omega arith
+stated_small : (qrv : ℕ) → stated_qrv qrv < 8
+stated_small qrv =
+    elim (cases_lt qrv 8) [
+      | inl less ↦ subst (λ (n : ℕ). n < 8) (sym (stated_same qrv less)) less
+      | inr most ↦ let large : nat_lt qrv 8 ≡ false = grind arith in rw large (omega arith)
+    ]
+
+stated_twice : (qrv : ℕ) → stated_qrv (stated_qrv qrv) ≡ stated_qrv qrv
+stated_twice qrv = stated_same (stated_qrv qrv) (stated_small qrv)
+
+flag_in : (flag : Bool) (q : ℕ) → q < 8 → IsTrue flag ↔ (((if flag then 8 else 0) + q) / 8 % 2 ≡ 1)
+flag_in true q small = (λ yes. omega (arith, small), λ yes. refl)
+flag_in false q small = (λ no. cc, λ one. absurd (omega (arith, small, one)))
+
+qrv_in : (flag : Bool) (q : ℕ) → q < 8 → q ≡ ((if flag then 8 else 0) + q) % 8
+qrv_in true q small = omega (arith, small)
+qrv_in false q small = omega (arith, small)
 
 query_says : (f : Family) (code : ℕ) (group : List ℕ) (flag : Bool) (qrv qqic : ℕ) (sources : List ℕ) (a b : ℕ)
     → IsCanonical f (query code group flag qrv qqic sources)
-    → Says f (shape f (query code group flag qrv qqic sources) a b) (query code group flag qrv qqic sources)
+    → Says f (shape f (query code group flag qrv qqic sources) a b)
+    (query code group flag (stated_qrv qrv) qqic sources)
 unfolding part
-query_says f code group flag qrv qqic sources a b (small, whole, few, octet, (count, long, many)) =
+query_says f code group flag qrv qqic sources a b (small, whole, octet, (count, long, many)) =
     let rest : List ℕ = query_rest f flag qrv qqic sources in
     let bytes : List ℕ = head f Kind.Query code a b ++ (group ++ rest) in
     let kind : kind_in f bytes ≡ Some Kind.Query =
@@ -86,8 +103,8 @@ query_says f code group flag qrv qqic sources a b (small, whole, few, octet, (co
         long = omega (arith, room);
         code_is = code_read f Kind.Query code a b (group ++ rest) small;
         group_is = group_read f Kind.Query code a b group rest whole;
-        flag_is = rw at (flag_read flag qrv few);
-        qrv_is = rw at (qrv_read flag qrv few);
+        flag_is = rw at (flag_in flag (stated_qrv qrv) (stated_small qrv));
+        qrv_is = rw at (qrv_in flag (stated_qrv qrv) (stated_small qrv));
         qqic_is = sym (byte_behind f Kind.Query code a b group rest whole 1);
         sources_are =
             sym (ap (λ (n : ℕ). take n (drop (query_len f) bytes)) (omega (arith, all))
@@ -293,7 +310,6 @@ content-canonical f extra bytes (query code group flag qrv qqic sources) are m =
     ) in (
       omega (arith, is.code_is, code_small f bytes are),
       group_long f bytes group (omega (arith, is.long)) is.group_is,
-      omega (arith, is.qrv_is),
       omega (arith, is.qqic_is, are (older_len f + 1)),
       (source_count_in f bytes, long, two_small bytes (older_len f + 2) (query_len f) (omega arith) are),
     )
@@ -330,7 +346,8 @@ norm-norm : (f : Family) (v : Value) → norm f (norm f v) ≡ norm f v
 norm-norm Family.Igmp (oldest_report group) = refl
 norm-norm Family.Mld (oldest_report group) = refl
 norm-norm f (older_query code group) = refl
-norm-norm f (query code group flag qrv qqic sources) = refl
+norm-norm f (query code group flag qrv qqic sources) =
+    ap (λ (q : ℕ). query code group flag q qqic sources) (stated_twice qrv)
 norm-norm f (older_report group) = refl
 norm-norm f (leave group) = refl
 norm-norm f (report count records) = refl
@@ -339,7 +356,9 @@ norm-text : (f : Family) (v : Value) → text f (norm f v) ≡ text f v
 norm-text Family.Igmp (oldest_report group) = refl
 norm-text Family.Mld (oldest_report group) = refl
 norm-text f (older_query code group) = refl
-norm-text f (query code group flag qrv qqic sources) = refl
+norm-text f (query code group flag qrv qqic sources) =
+    ap (λ (q : ℕ). fields (header f Kind.Query code ++ group ∷ be8 ((if flag then 8 else 0) + q) ∷ be8 qqic
+    ∷ be16 (source_count f sources) ∷ sources ∷ [])) (stated_twice qrv)
 norm-text f (older_report group) = refl
 norm-text f (leave group) = refl
 norm-text f (report count records) = refl
@@ -352,7 +371,8 @@ norm-read : (f : Family) (bytes : List ℕ) (v : Value) → IsContent f bytes v 
 norm-read Family.Igmp bytes (oldest_report group) m = refl
 norm-read Family.Mld bytes (oldest_report group) m = absurd (not_oldest (slice_index bytes 0) m.0)
 norm-read f bytes (older_query code group) m = refl
-norm-read f bytes (query code group flag qrv qqic sources) m = refl
+norm-read f bytes (query code group flag qrv qqic sources) m =
+    ap (λ (q : ℕ). query code group flag q qqic sources) (stated_same qrv (omega (arith, m.qrv_is)))
 norm-read f bytes (older_report group) m = refl
 norm-read f bytes (leave group) m = refl
 norm-read f bytes (report count records) m = refl

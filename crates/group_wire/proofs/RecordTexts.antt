@@ -22,6 +22,7 @@ use Rattle.group_wire.specs.declared.family.Family.{Family}
 use Rattle.group_wire.specs.Family.{width}
 use Rattle.group_wire.specs.Record.{group_record, text, sources_at, auxiliary_at, record_len_in, IsRecord}
 use Rattle.group_wire.specs.Records.{records_len_in, records_ahead}
+use Rattle.group_wire.specs.Sources.{AreAddresses}
 use Rattle.group_wire.proofs.Families.{div_times}
 use Rattle.group_wire.proofs.RecordsAhead.{len_at, len-none, len-suc, none_ahead, ahead_more, record_of}
 
@@ -51,6 +52,15 @@ written_addresses bytes w whole xs old long =
     over-exact old (fields (map bytes xs))
     (long ∙ sym (length-addresses bytes w whole xs) ∙ ap (λ (l : List ℕ). length l) (sym same))
     ∙ same
+
+-- their bytes, where they can be counted
+pub counted_addresses : {A : Type 0} (bytes : A → List ℕ) (f : Family) → ((a : A) → length (bytes a) ≡ width f)
+    → (xs : List A) (all : List ℕ) → all ≡ concat (map bytes xs) → length xs ≤ 65535 → AreAddresses (width f) all
+counted_addresses bytes f whole xs all same few = (
+  length xs,
+  ap (λ (l : List ℕ). length l) same ∙ length-addresses bytes (width f) whole xs,
+  omega (arith, few),
+)
 
 -- the text of a record with these sources and without auxiliary data
 pub written_text : {A : Type 0} (bytes : A → List ℕ) (f : Family) → ((a : A) → length (bytes a) ≡ width f)

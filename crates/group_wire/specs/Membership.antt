@@ -26,7 +26,7 @@
 -- | records
 -- +- - - -
 use Rattle.std.specs.Prelude.{◌≡◌, ◌↔◌, ℕ, ◌+◌, ◌*◌, ◌/◌, ◌%◌, ◌^◌, ◌<◌, ◌≤◌, ◌⊎◌, Bool, IsTrue, List, [], ◌∷◌}
-use Rattle.std.specs.Prelude.{◌++◌, length, take, drop, slice_index, Option, Some, None, if◌then◌else◌}
+use Rattle.std.specs.Prelude.{◌++◌, length, take, drop, slice_index, Option, Some, None, if◌then◌else◌, nat_lt}
 use Rattle.byteorder.specs.Endian.{big_number}
 use Rattle.wirebase.specs.Bytes.{Field, field, part, over, number_of}
 use Rattle.wirebase.specs.ByteWriter.{be8, be16, fields}
@@ -43,12 +43,13 @@ use Rattle.group_wire.specs.declared.records.Records.{Records}
 use Rattle.group_wire.specs.declared.refusal.Refusal.{Refusal}
 use Rattle.group_wire.specs.Family.{width, group_at, older_len, kind_number, kind_of}
 use Rattle.group_wire.specs.Records.{records_len_in}
+use Rattle.group_wire.specs.Sources.{AreAddresses}
 
 -- ---- values
 
 -- A message by its content, addresses by their octets: a query of an older version with its response code and its
 -- group; a query with its response code, its group, the flag S, the robustness variable, the code of the querier's
--- interval and the octets of its sources; the oldest report, that of an older version, and one who leaves, each with
+-- interval and the octets of its sources; the oldest report, that of an older version, and a leave message, each with
 -- its group; and a report with the number of its records and their octets.
 pub data Value : Type 0 where
   older_query : ℕ → List ℕ → Value
@@ -76,11 +77,15 @@ abbrev pub header : Family → Kind → ℕ → List (List ℕ)
 header Family.Igmp kind code = be8 (kind_number Family.Igmp kind) ∷ be8 (code % 2 ^ 8) ∷ be16 0 ∷ []
 header Family.Mld kind code = be8 (kind_number Family.Mld kind) ∷ be8 0 ∷ be16 0 ∷ be16 code ∷ be16 0 ∷ []
 
+-- the robustness variable that a query states: one above 7 as 0 (RFC 3376 section 4.1.6, RFC 3810 section 5.1.8)
+abbrev pub stated_qrv : ℕ → ℕ
+stated_qrv qrv = if nat_lt qrv 8 then qrv else 0
+
 -- the flag S and the robustness variable in one byte
 abbrev pub sqrv : Bool → ℕ → ℕ
-sqrv flag qrv = (if flag then 8 else 0) + qrv % 8
+sqrv flag qrv = (if flag then 8 else 0) + stated_qrv qrv
 
--- the number of sources that a query states, in two bytes
+-- the number of sources that a query states, in two bytes; a value of the code has no more (see `AreAddresses`)
 abbrev pub source_count : Family → List ℕ → ℕ
 source_count f sources = length sources / width f % 2 ^ 16
 
@@ -199,14 +204,13 @@ Refuses f extra bytes why = Fails (checks f extra bytes) why
 abbrev pub IsCanonical : Family → Value → Type 0
 IsCanonical f (older_query code group) = (code < code_end f) × (length group ≡ width f)
 IsCanonical f (query code group flag qrv qqic sources) =
-    (code < code_end f) × (length group ≡ width f) × (qrv < 8) × (qqic < 256)
-    × ((count : ℕ) × (length sources ≡ width f * count) × (count < 2 ^ 16))
+    (code < code_end f) × (length group ≡ width f) × (qqic < 256) × AreAddresses (width f) sources
 IsCanonical f (report count records) = (count < 2 ^ 16) × (records_len_in (width f) count records ≡ length records)
 IsCanonical f (oldest_report group) = length group ≡ width f
 IsCanonical f (older_report group) = length group ≡ width f
 IsCanonical f (leave group) = length group ≡ width f
 
--- the normal form: MLD has one type of older report
+-- the normal form: MLD has one type of older report, and a robustness variable above 7 is 0
 abbrev pub oldest_in : Family → List ℕ → Value
 oldest_in Family.Igmp group = oldest_report group
 oldest_in Family.Mld group = older_report group
@@ -214,7 +218,7 @@ oldest_in Family.Mld group = older_report group
 abbrev pub norm : Family → Value → Value
 norm f (oldest_report group) = oldest_in f group
 norm f (older_query code group) = older_query code group
-norm f (query code group flag qrv qqic sources) = query code group flag qrv qqic sources
+norm f (query code group flag qrv qqic sources) = query code group flag (stated_qrv qrv) qqic sources
 norm f (older_report group) = older_report group
 norm f (leave group) = leave group
 norm f (report count records) = report count records

@@ -1,12 +1,21 @@
 -- The sources of a record or of a query, in turn (RFC 3376 sections 4.1.9 and 4.2.9, RFC 3810 sections 5.1.11 and
 -- 5.2.9).
-use Rattle.std.specs.Prelude.{◌≡◌, ℕ, zero, suc, ◌*◌, ◌/◌, List, [], ◌∷◌, length, take, drop, Option, None, Some}
+use Rattle.std.specs.Prelude.{◌≡◌, ℕ, zero, suc, ◌*◌, ◌/◌, ◌^◌, ◌<◌, min, List, [], ◌∷◌, length, take, drop}
+use Rattle.std.specs.Prelude.{Option, None, Some}
 use Rattle.std.specs.List.{AllByRecursion, concat}
 use Rattle.group_wire.specs.declared.sources.Sources.{Sources}
 
 -- the octets of sources
 abbrev pub octets_in : {A : Type 0} → Sources A → List ℕ
 octets_in sources = sources.octets.now
+
+-- whole addresses of `w` bytes, no more than a query or a record can count in its two bytes
+abbrev pub AreAddresses : ℕ → List ℕ → Type 0
+AreAddresses w bytes = (count : ℕ) × (length bytes ≡ w * count) × (count < 2 ^ 16)
+
+-- such addresses at the front of some bytes, as many as are whole and can be counted
+abbrev pub addresses_in : ℕ → List ℕ → List ℕ
+addresses_in w bytes = take (w * min (length bytes / w) 65535) bytes
 
 -- The sources in some bytes: addresses of `w` bytes, as many as are whole, one after another.
 pub record AreSources (w : ℕ) (bytes : List ℕ) (sources : List (List ℕ)) : Type 0 where

@@ -16,7 +16,8 @@ pub struct Query<'a, A: Address> {
     pub group: A,
     /// Routers that hear it do not change their timers.
     pub s_flag: bool,
-    /// The querier's robustness variable, 0 to 7; 0 says that it is larger than 7.
+    /// The querier's robustness variable, 0 to 7; 0 says that it is larger than 7, and a larger one is written as 0
+    /// (RFC 3376 section 4.1.6, RFC 3810 section 5.1.8).
     pub qrv: u8,
     /// The code of the querier's interval, in seconds.
     pub qqic: u8,

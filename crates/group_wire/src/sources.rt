@@ -10,7 +10,7 @@ use crate::address::Address;
 use std::marker::{Model, PhantomData};
 use wirebase::ByteWriter;
 
-/// The sources of a record or of a query: addresses, one after another.
+/// The sources of a record or of a query: addresses, one after another, at most 65,535 of them.
 #[derive(Debug, PartialEq, Eq, Clone, Copy)]
 pub struct Sources<'a, A: Address> {
     pub(crate) octets: &'a [u8],
@@ -20,17 +20,17 @@ pub struct Sources<'a, A: Address> {
 impl<'a, A: Address> Sources<'a, A> {
     ghost use Rattle.std.specs.Prelude.{◌/◌, [], ◌↔◌, IsSome, IfSome, IsTrue};
     ghost use Rattle.std.specs.List.{concat};
-    ghost use Rattle.group_wire.specs.Sources.{octets_in, AreSources, sources_in};
+    ghost use Rattle.group_wire.specs.Sources.{octets_in, AreAddresses, addresses_in, AreSources, sources_in};
 
     /// No sources.
     pub const fn none() -> Sources<'a, A>
         ensures { octets_in result ≡ [] }
     {
-        Sources::new(&[])
+        Sources::of_octets(&[])
     }
 
-    /// The sources in these octets; fewer octets than an address has, at the end, are ignored.
-    pub const fn new(octets: &'a [u8]) -> Sources<'a, A>
+    // The sources that these octets are, whole addresses, at most 65,535 of them.
+    pub(crate) const fn of_octets(octets: &'a [u8]) -> Sources<'a, A>
         ensures { octets_in result ≡ octets.now }
     {
         Sources {
@@ -39,19 +39,35 @@ impl<'a, A: Address> Sources<'a, A> {
         }
     }
 
-    /// Writes these addresses over the front of the octets, and gives them as sources. None where the octets are fewer
-    /// than the addresses take; then nothing changes.
-    pub fn write(addresses: &[A], octets: &'a mut [u8]) -> Option<Sources<'a, A>>
-        ensures accepts { IsSome result ↔ (width A.family * length addresses.now ≤ length octets.old) }
-        ensures sources { IfSome result (λ sources. octets_in sources ≡ concat (map A.bytes addresses.now)) }
+    /// The sources in these octets: as many addresses as are whole, and the first 65,535 of more, since a query or a
+    /// record counts them in two bytes. The octets behind them are ignored.
+    pub fn new(octets: &'a [u8]) -> Sources<'a, A>
+        ensures octets { octets_in result ≡ addresses_in (width A.family) octets.now }
+        ensures addresses { AreAddresses (width A.family) (octets_in result) }
     {
+        let count = (octets.len() / A::width()).min(u16::MAX as usize);
+        let len = A::width() * count;
+        Sources::of_octets(&octets[..len])
+    }
+
+    /// Writes these addresses over the front of the octets, and gives them as sources. None where they are more than
+    /// 65,535, or where the octets are fewer than they take; then nothing changes.
+    pub fn write(addresses: &[A], octets: &'a mut [u8]) -> Option<Sources<'a, A>>
+        ensures accepts { IsSome result
+            ↔ (length addresses.now ≤ 65535) × (width A.family * length addresses.now ≤ length octets.old) }
+        ensures sources { IfSome result (λ sources. octets_in sources ≡ concat (map A.bytes addresses.now)) }
+        ensures addresses { IfSome result (λ sources. AreAddresses (width A.family) (octets_in sources)) }
+    {
+        if addresses.len() > u16::MAX as usize {
+            return None;
+        }
         if addresses.len() > octets.len() / A::width() {
             return None;
         }
         let len = A::width() * addresses.len();
         let front = &mut octets[..len];
         write_addresses(front, addresses);
-        Some(Sources::new(front))
+        Some(Sources::of_octets(front))
     }
 
     /// How many they are.

@@ -4,6 +4,8 @@
 #[cfg(test)]
 mod messages;
 #[cfg(test)]
+mod queries;
+#[cfg(test)]
 mod records;
 #[cfg(test)]
 mod testing;

@@ -70,7 +70,7 @@ impl<'a> Message<Ipv4Address, Query<'a, Ipv4Address>, Records<'a, Ipv4Address>> 
     /// Writes the message over the front of the octets, with the checksum of all of them; the other octets are
     /// unchanged. Requires at least `buffer_len` bytes; give exactly as many: in a longer buffer the checksum covers
     /// what follows, and a query of an older version is told by its length. Of a response code the lower 8 bits are
-    /// written, and of a robustness variable the lower 3.
+    /// written, and a robustness variable above 7 is written as 0 (RFC 3376 section 4.1.6).
     ///
     /// # Panics
     ///
@@ -93,8 +93,8 @@ impl<'a> Message<Ipv6Address, Query<'a, Ipv6Address>, Records<'a, Ipv6Address>> 
 
     /// Writes the message over the front of the octets, as one of ICMPv6, with the checksum of all of them; the other
     /// octets are unchanged. Requires at least `buffer_len` bytes; give exactly as many: in a longer buffer the
-    /// checksum covers what follows, and a query of version 1 is told by its length. Of a robustness variable the lower
-    /// 3 bits are written.
+    /// checksum covers what follows, and a query of version 1 is told by its length. A robustness variable above 7 is
+    /// written as 0 (RFC 3810 section 5.1.8).
     ///
     /// # Panics
     ///

@@ -51,7 +51,7 @@ pub(crate) fn read_record<A: Address>(octets: &[u8]) -> Record<'_, A> {
     Record {
         record_type: RecordType::from(octets.u8_at(field::RECORD_TYPE)),
         group: A::read(octets.range(4, sources_at)),
-        sources: Sources::new(&octets[sources_at..auxiliary_at]),
+        sources: Sources::of_octets(&octets[sources_at..auxiliary_at]),
         auxiliary: &octets[auxiliary_at..],
     }
 }

@@ -6,7 +6,7 @@ use crate::groups::address::Address;
 use crate::wirebase::ByteWriter;
 use core::marker::PhantomData;
 
-/// The sources of a record or of a query: addresses, one after another.
+/// The sources of a record or of a query: addresses, one after another, at most 65,535 of them.
 #[derive(Debug, PartialEq, Eq, Clone, Copy)]
 pub struct Sources<'a, A: Address> {
     pub(crate) octets: &'a [u8],
@@ -16,27 +16,38 @@ pub struct Sources<'a, A: Address> {
 impl<'a, A: Address> Sources<'a, A> {
     /// No sources.
     pub const fn none() -> Sources<'a, A> {
-        Sources::new(&[])
+        Sources::of_octets(&[])
     }
 
-    /// The sources in these octets; fewer octets than an address has, at the end, are ignored.
-    pub const fn new(octets: &'a [u8]) -> Sources<'a, A> {
+    // The sources that these octets are, whole addresses, at most 65,535 of them.
+    pub(crate) const fn of_octets(octets: &'a [u8]) -> Sources<'a, A> {
         Sources {
             octets,
             address: PhantomData,
         }
     }
 
-    /// Writes these addresses over the front of the octets, and gives them as sources. None where the octets are fewer
-    /// than the addresses take; then nothing changes.
+    /// The sources in these octets: as many addresses as are whole, and the first 65,535 of more, since a query or a
+    /// record counts them in two bytes. The octets behind them are ignored.
+    pub fn new(octets: &'a [u8]) -> Sources<'a, A> {
+        let count = (octets.len() / A::width()).min(u16::MAX as usize);
+        let len = A::width() * count;
+        Sources::of_octets(&octets[..len])
+    }
+
+    /// Writes these addresses over the front of the octets, and gives them as sources. None where they are more than
+    /// 65,535, or where the octets are fewer than they take; then nothing changes.
     pub fn write(addresses: &[A], octets: &'a mut [u8]) -> Option<Sources<'a, A>> {
+        if addresses.len() > u16::MAX as usize {
+            return None;
+        }
         if addresses.len() > octets.len() / A::width() {
             return None;
         }
         let len = A::width() * addresses.len();
         let front = &mut octets[..len];
         write_addresses(front, addresses);
-        Some(Sources::new(front))
+        Some(Sources::of_octets(front))
     }
 
     /// How many they are.

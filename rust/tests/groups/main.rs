@@ -7,6 +7,8 @@ mod rattle_std;
 #[cfg(test)]
 mod messages;
 #[cfg(test)]
+mod queries;
+#[cfg(test)]
 mod records;
 #[cfg(test)]
 mod testing;

@@ -5,7 +5,7 @@ ghost use Rattle.wirebase.specs.Bytes.{over};
 ghost use Rattle.wirebase.specs.ByteWriter.{free, Puts};
 ghost use Rattle.group_wire.specs.Family.{group_at, older_len};
 ghost use Rattle.group_wire.specs.Membership.{value_of, query_value, report, Emits, text};
-ghost use Rattle.group_wire.specs.Membership.{text_len, message_fields, header};
+ghost use Rattle.group_wire.specs.Membership.{text_len, message_fields, header, sqrv};
 ghost use Rattle.group_wire.specs.Records.{count_in, octets_in};
 
 use super::{Membership, Message, field};
@@ -83,11 +83,20 @@ fn put_query<A: Address>(w: &mut ByteWriter<'_>, query: &Query<'_, A>)
     ensures { Puts w.old w.new (message_fields A.family (query_value A.bytes query.now)) }
 {
     put_group(w, Kind::Query, query.max_resp_code, &query.group);
-    let s_flag = if query.s_flag { S_FLAG } else { 0 };
-    w.put_u8(s_flag + query.qrv % S_FLAG);
+    w.put_u8(sqrv(query.s_flag, query.qrv));
     w.put_u8(query.qqic);
     w.put_u16((query.sources.len() % (1 << 16)) as u16);
     w.put_bytes(query.sources.octets);
+}
+
+// The flag S and the robustness variable in one byte: one above 7 is stated as 0 (RFC 3376 section 4.1.6, RFC 3810
+// section 5.1.8).
+fn sqrv(s_flag: bool, qrv: u8) -> u8
+    ensures { result ≡ sqrv s_flag qrv }
+{
+    let high = if s_flag { S_FLAG } else { 0 };
+    let low = if qrv < S_FLAG { qrv } else { 0 };
+    high + low
 }
 
 // Writes the fields of a report.

@@ -79,7 +79,7 @@ fn read_query<A: Address>(octets: &[u8]) -> Result<Membership<'_, A>, Refusal> {
         s_flag: sqrv / S_FLAG % 2 == 1,
         qrv: sqrv % S_FLAG,
         qqic: octets[older_len + 1],
-        sources: Sources::new(&octets[sources_at..sources_at + sources_len]),
+        sources: Sources::of_octets(&octets[sources_at..sources_at + sources_len]),
     }))
 }
 

@@ -57,11 +57,18 @@ fn put_header(w: &mut ByteWriter<'_>, family: Family, kind: Kind, code: u16) {
 // Writes the fields of a query.
 fn put_query<A: Address>(w: &mut ByteWriter<'_>, query: &Query<'_, A>) {
     put_group(w, Kind::Query, query.max_resp_code, &query.group);
-    let s_flag = if query.s_flag { S_FLAG } else { 0 };
-    w.put_u8(s_flag + query.qrv % S_FLAG);
+    w.put_u8(sqrv(query.s_flag, query.qrv));
     w.put_u8(query.qqic);
     w.put_u16((query.sources.len() % (1 << 16)) as u16);
     w.put_bytes(query.sources.octets);
+}
+
+// The flag S and the robustness variable in one byte: one above 7 is stated as 0 (RFC 3376 section 4.1.6, RFC 3810
+// section 5.1.8).
+fn sqrv(s_flag: bool, qrv: u8) -> u8 {
+    let high = if s_flag { S_FLAG } else { 0 };
+    let low = if qrv < S_FLAG { qrv } else { 0 };
+    high + low
 }
 
 // Writes the fields of a report.

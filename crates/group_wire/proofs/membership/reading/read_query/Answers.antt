@@ -17,5 +17,5 @@ returns-clause-sound g c =
       qrv_is = search rules;
       qqic_is = search rules;
       sources_are =
-          c.new.ensures ∙ part_behind c.args.octets.now _ _ _ _ (ap (λ n. n + 4) at) (search rules);
+          c.of_octets.ensures ∙ part_behind c.args.octets.now _ _ _ _ (ap (λ n. n + 4) at) (search rules);
     }
