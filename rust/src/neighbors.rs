@@ -1,6 +1,7 @@
 // Made from crates/neighbor_wire/src/lib.rt by rust/erase.
-//! The options of messages of neighbor discovery as values (RFC 4861 section 4.6), also those of later RFCs: routes,
-//! DNS servers and search lists, captive portals, prefixes of NAT64, and any other as its octets.
+//! The options of messages of neighbor discovery as values (RFC 4861 section 4.6): link-layer addresses, prefixes and
+//! MTUs, and of later RFCs nonces, routes, DNS servers and search lists, captive portals and prefixes of NAT64. A
+//! redirected header (type 4), which `ndiscoption` reads, and any other option are given by their octets.
 //!
 //! ```
 //! use control_wire::neighbors::{NeighborOption, NeighborOptions, Refusal};

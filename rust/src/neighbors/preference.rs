@@ -8,12 +8,12 @@ use core::fmt;
 pub enum Preference {
     /// High, the bits 01.
     High,
-    /// Medium, the bits 00: that of one who says nothing.
+    /// Medium, the bits 00, which a router sends that states no preference.
     Medium,
     /// Low, the bits 11.
     Low,
-    /// The bits 10, which are not to be sent. Who receives them treats a default router as one of medium preference,
-    /// and ignores a route.
+    /// The bits 10, which are not to be sent (RFC 4191 section 2.1). A receiver treats a default router with these bits
+    /// as of medium preference (section 2.2), and ignores a route (section 2.3).
     Reserved,
 }
 
@@ -57,7 +57,8 @@ pub fn router_preference(flags: u8) -> Preference {
     Preference::of(flags / 8 % 4)
 }
 
-/// The byte of flags with this preference in bits 3 and 4; the other bits are unchanged.
+/// The byte of flags with this preference in bits 3 and 4; the other bits are unchanged. Set it in byte 5 of a router
+/// advertisement after `icmpv6::Repr::emit_into`, and then fill in the checksum again.
 pub fn with_preference(flags: u8, preference: Preference) -> u8 {
     flags / 32 * 32 + preference.bits() * 8 + flags % 8
 }
