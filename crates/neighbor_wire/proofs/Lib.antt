@@ -1,6 +1,7 @@
 pub mod Embedded
 pub mod NamesAhead
 pub mod OptionBlocks
+pub mod OptionChecks
 pub mod OptionFormat
 pub mod OptionReading
 pub mod OptionTexts

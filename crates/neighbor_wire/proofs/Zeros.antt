@@ -55,6 +55,20 @@ unfolding strip
 length-strip [] = omega arith
 length-strip (x ∷ xs) = omega (arith, length-first (strip xs) x, length-strip xs)
 
+first_all : (xs rest : List ℕ) (x : ℕ) → (length xs ≡ length rest → xs ≡ rest)
+    → length (strip_first xs x) ≡ suc (length rest) → strip_first xs x ≡ x ∷ rest
+first_all [] [] zero same long = absurd (omega (arith, long))
+first_all [] [] (suc n) same long = refl
+first_all [] (y ∷ rest) zero same long = absurd (omega (arith, long))
+first_all [] (y ∷ rest) (suc n) same long = absurd (omega (arith, long))
+first_all (y ∷ xs) rest x same long = ap (λ (l : List ℕ). x ∷ l) (same (omega (arith, long)))
+
+-- where none is taken off
+pub strip_all : (xs : List ℕ) → length (strip xs) ≡ length xs → strip xs ≡ xs
+unfolding strip
+strip_all [] long = refl
+strip_all (x ∷ xs) long = first_all (strip xs) xs x (strip_all xs) long
+
 -- the octets up to a place, of which the last is a zero or is none
 front_last : (xs : List ℕ) (n : ℕ) → 0 < n → n ≤ length xs → take n xs ≡ take (n - 1) xs ++ slice_index xs (n - 1) ∷ []
 front_last xs zero some fits = absurd (omega (arith, some))

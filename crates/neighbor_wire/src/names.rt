@@ -22,9 +22,9 @@ pub enum NameRefusal {
 /// A short phrase, as `a label of length 64`.
 impl fmt::Display for NameRefusal {
     ghost use Rattle.std.specs.Prelude.{Some};
-    ghost use Rattle.neighbor_wire.specs.NameRefusal.{refusal_text};
+    ghost use Rattle.neighbor_wire.specs.NameRefusal.{refusal_display};
 
-    ghost output = { λ refusal. Some (refusal_text refusal) };
+    ghost output = { λ refusal. Some (refusal_display refusal) };
 
     fn fmt<W: fmt::Write>(&self, f: &mut fmt::Formatter<W>) -> fmt::Result {
         match *self {

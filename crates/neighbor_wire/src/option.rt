@@ -5,7 +5,7 @@ ghost use Rattle.wirebase.specs.Format.{Rewrites, SameText};
 ghost use Rattle.neighbor_wire.specs.Option.{Value, value_of, text_len, IsOption, Refuses};
 ghost use Rattle.neighbor_wire.specs.OptionFormat.{CanEmit, Emits, format};
 
-mod reading;
+pub(crate) mod reading;
 pub(crate) mod writing;
 
 use crate::names::Names;
@@ -81,7 +81,7 @@ pub enum NeighborOption<'a> {
     CaptivePortal(&'a [u8]),
     /// The prefix of a NAT64: type 38 (RFC 8781 section 4).
     Nat64Prefix(Nat64Prefix<'a>),
-    /// An option of any other type.
+    /// An option of any other type, also a redirected header: type 4 (RFC 4861 section 4.6.3).
     Other {
         /// The type.
         kind: u8,
@@ -113,13 +113,15 @@ impl<'a> NeighborOption<'a> {
 
     /// Writes the option over the front of the octets, with zeros behind it up to a whole unit of 8 bytes, and zeros
     /// in its reserved fields; the other octets are unchanged. Requires at least `buffer_len` bytes, that those are no
-    /// more than 255 units, and a scaled lifetime below 8192.
+    /// more than 255 units, and a scaled lifetime below 8192. An option that [`crate::OptionsWriter::push`] refuses for
+    /// another reason is written, but its octets are not read back as it is.
     pub fn emit_into(&self, octets: &mut [u8])
         requires { CanEmit (value_of self.now) octets.old }
         ensures { Emits (value_of self.now) octets.old octets.new }
     {
         writing::write(self, octets);
     }
+
     /// Does nothing; its contract states, of two options that a message can hold, that equal texts mean equal normal
     /// forms, and conversely.
     #[tactic(auto, using(crate::proofs::OptionFormat::option_same_text))]

@@ -24,9 +24,9 @@ pub enum Refusal {
 /// A short phrase, as `a length of 3 is not allowed for type 5`.
 impl fmt::Display for Refusal {
     ghost use Rattle.std.specs.Prelude.{Some};
-    ghost use Rattle.neighbor_wire.specs.Refusal.{refusal_text};
+    ghost use Rattle.neighbor_wire.specs.Refusal.{refusal_display};
 
-    ghost output = { λ refusal. Some (refusal_text refusal) };
+    ghost output = { λ refusal. Some (refusal_display refusal) };
 
     fn fmt<W: fmt::Write>(&self, f: &mut fmt::Formatter<W>) -> fmt::Result {
         match *self {

@@ -2,12 +2,12 @@
 
 ghost use Rattle.std.specs.Prelude.{◌≡◌, ◌≤◌, ◌++◌, ◌∷◌, [], ◌↔◌, List, ℕ, length, drop, IsOk, IsTrue, IfErr, OnOk};
 ghost use Rattle.std.specs.Prelude.{OnErr};
-ghost use Rattle.wirebase.specs.Checks.{Passes, Fails};
+ghost use Rattle.wirebase.specs.Checks.{Fails};
 ghost use Rattle.wirebase.specs.Format.{RoundTrips};
-ghost use Rattle.neighbor_wire.specs.Option.{value_of, text, text_len};
-ghost use Rattle.neighbor_wire.specs.OptionFormat.{format};
+ghost use Rattle.neighbor_wire.specs.Option.{value_of, text, text_len, IsOption};
+ghost use Rattle.neighbor_wire.specs.OptionFormat.{IsCanonical, norm, format};
 ghost use Rattle.neighbor_wire.specs.Options.{AreBlocks};
-ghost use Rattle.neighbor_wire.specs.Unwritten.{value_checks, push_checks};
+ghost use Rattle.neighbor_wire.specs.Unwritten.{push_checks};
 
 use crate::option::NeighborOption;
 use crate::unwritten::{Unwritten, check_value};
@@ -55,16 +55,19 @@ impl<'a> OptionsWriter<'a> {
         self.position == 0
     }
 
-    /// Writes an option behind those that are written; [`crate::NeighborOptions`] then gives it after them. Refused
-    /// where it has more than 255 units, or a scaled lifetime of 8192 or more, and where fewer bytes are free than it
-    /// takes; then nothing changes.
+    /// Writes an option behind those that are written; [`crate::NeighborOptions`] then gives it after them, with the
+    /// zeros that fill its last unit. An option that would be refused or read as another is refused, with the reason,
+    /// and so is one where fewer bytes are free than it takes; then nothing changes.
+    #[tactic(auto, using(crate::proofs::OptionChecks::refused_first, crate::proofs::OptionChecks::refused_last))]
     pub fn push(&mut self, option: &NeighborOption<'_>) -> Result<(), Unwritten>
-        ensures accepts { IsOk result ↔ Passes (push_checks (length (free self.old)) (value_of option.now)) }
+        ensures accepts { IsOk result ↔ (IsCanonical (value_of option.now)
+            × (text_len (value_of option.now) ≤ length (free self.old))) }
         ensures told { IfErr result (Fails (push_checks (length (free self.old)) (value_of option.now))) }
         ensures settled { OnOk result (settled self.new ≡ settled self.old ++ text (value_of option.now)) }
         ensures free { OnOk result (free self.new ≡ drop (text_len (value_of option.now)) (free self.old)) }
         ensures blocks { OnOk result ((blocks : List (List ℕ)) → AreBlocks (settled self.old) blocks
             → AreBlocks (settled self.new) (blocks ++ text (value_of option.now) ∷ [])) }
+        ensures given { OnOk result (IsOption (text (value_of option.now)) (norm (value_of option.now))) }
         ensures round_trips { OnOk result (RoundTrips format (value_of option.now)) }
         ensures refused { OnErr result (IsUnchanged self.old self.new) }
         ensures same_slice { the_slice self.new ≡ the_slice self.old }
@@ -83,8 +86,9 @@ impl<'a> OptionsWriter<'a> {
 }
 
 // Writes the option over octets of its length.
+#[tactic(auto, using(crate::proofs::OptionChecks::can_write))]
 fn write_whole(option: &NeighborOption<'_>, octets: &mut [u8])
-    requires sound { Passes (value_checks (value_of option.now)) }
+    requires canonical { IsCanonical (value_of option.now) }
     requires room { length octets.old ≡ text_len (value_of option.now) }
     ensures { octets.new ≡ text (value_of option.now) }
 {

@@ -1,17 +1,17 @@
 //! Options written one after another, or over the front of octets, and what the octets then are.
 
-use crate::testing::{prints, same, takes_writes};
+use crate::testing::{prints, same, same_of, takes_writes};
 use neighbor_wire::{
     Names, Nat64Length, Nat64Prefix, NeighborOption, NeighborOptions, OptionsWriter, Preference,
-    Prefix, Route, Unwritten,
+    Prefix, Route, Servers, Unwritten,
 };
 use std::process::Abort;
 use wirebase::Ipv6Address;
 
-// A prefix of 64 bits.
-fn prefix() -> NeighborOption<'static> {
+// A prefix of so many bits.
+fn prefix(prefix_len: u8) -> NeighborOption<'static> {
     NeighborOption::Prefix(Prefix {
-        prefix_len: 64,
+        prefix_len,
         on_link: true,
         autonomous: false,
         router_address: false,
@@ -28,7 +28,7 @@ fn options_that_are_written_are_read(rt: HostRuntime) {
     let mtu = NeighborOption::Mtu(1500);
     let mut writer = OptionsWriter::new(&mut octets);
     same(&rt, writer.is_empty(), true);
-    same(&rt, writer.push(&prefix()), Ok(()));
+    same(&rt, writer.push(&prefix(64)), Ok(()));
     same(&rt, writer.is_empty(), false);
     same(&rt, writer.len(), 32);
     same(&rt, writer.push(&mtu), Ok(()));
@@ -36,7 +36,7 @@ fn options_that_are_written_are_read(rt: HostRuntime) {
     same(&rt, writer.push(&nonce), Err(Unwritten::Full));
     same(&rt, writer.len(), 40);
     let mut options = NeighborOptions::new(&octets);
-    same(&rt, options.next(), Some(Ok(prefix())));
+    same(&rt, options.next(), Some(Ok(prefix(64))));
     same(&rt, options.next(), Some(Ok(mtu)));
     same(&rt, options.next(), None);
 }
@@ -203,20 +203,136 @@ fn a_scaled_lifetime_of_14_bits_is_not_written(rt: HostRuntime) {
     same(&rt, octets, [0xa5; 4]);
 }
 
+// A route of so many bits and these octets.
+fn route_of(prefix_len: u8, prefix: &[u8]) -> NeighborOption<'_> {
+    NeighborOption::Route(Route {
+        prefix_len,
+        preference: Preference::High,
+        lifetime: 1800,
+        prefix,
+    })
+}
+
+// DNS servers in these octets.
+fn servers_of(octets: &[u8]) -> NeighborOption<'_> {
+    NeighborOption::DnsServers {
+        lifetime: 600,
+        servers: Servers::new(octets),
+    }
+}
+
+// A NAT64 prefix of these octets.
+fn nat64_of(prefix: &[u8]) -> NeighborOption<'_> {
+    NeighborOption::Nat64Prefix(Nat64Prefix {
+        scaled_lifetime: 225,
+        length: Nat64Length::Bits96,
+        prefix,
+    })
+}
+
+// An option by its octets.
+fn other(kind: u8) -> NeighborOption<'static> {
+    NeighborOption::Other {
+        kind,
+        data: &[0, 0, 0, 0, 5, 0xdc],
+    }
+}
+
+// Of what a reader would refuse, or take for another option, nothing is written.
+#[test]
+fn what_would_not_be_read_back_is_not_written(rt: HostRuntime) {
+    let zeros: &[u8] = &[0; 24];
+    let no_names = NeighborOption::SearchList {
+        lifetime: 600,
+        names: Names::new(&[]),
+    };
+    let rows: &[(NeighborOption<'_>, Unwritten)] = &[
+        (prefix(129), Unwritten::PrefixLength(129)),
+        (prefix(255), Unwritten::PrefixLength(255)),
+        (route_of(0, &zeros[..7]), Unwritten::Octets(24, 7)),
+        (route_of(64, zeros), Unwritten::Octets(24, 24)),
+        (route_of(1, &[]), Unwritten::PrefixLength(1)),
+        (route_of(65, &zeros[..8]), Unwritten::PrefixLength(65)),
+        (route_of(129, &zeros[..16]), Unwritten::PrefixLength(129)),
+        (servers_of(&[]), Unwritten::Octets(25, 0)),
+        (servers_of(&zeros[..8]), Unwritten::Octets(25, 8)),
+        (servers_of(zeros), Unwritten::Octets(25, 24)),
+        (no_names, Unwritten::Octets(31, 0)),
+        (
+            NeighborOption::CaptivePortal(b"https://portal.example/\0"),
+            Unwritten::LastZero,
+        ),
+        (NeighborOption::CaptivePortal(&[0]), Unwritten::LastZero),
+        (nat64_of(&zeros[..8]), Unwritten::Octets(38, 8)),
+        (nat64_of(&zeros[..20]), Unwritten::Octets(38, 20)),
+        (other(3), Unwritten::Kind(3)),
+        (other(5), Unwritten::Kind(5)),
+        (other(38), Unwritten::Kind(38)),
+    ];
+    for (option, unwritten) in rows {
+        let mut octets = [0xa5; 40];
+        let mut writer = OptionsWriter::new(&mut octets);
+        same_of(&rt, *option, writer.push(option), Err(*unwritten));
+        same(&rt, writer.is_empty(), true);
+        same(&rt, octets, [0xa5; 40]);
+    }
+}
+
+// The most that is written, and the least.
+#[test]
+fn what_is_at_a_bound_is_written_and_read_back(rt: HostRuntime) {
+    let zeros: &[u8] = &[0; 24];
+    for option in [
+        prefix(128),
+        route_of(0, &[]),
+        route_of(64, &zeros[..8]),
+        route_of(128, &zeros[..16]),
+        servers_of(&zeros[..16]),
+        nat64_of(&zeros[..12]),
+        NeighborOption::CaptivePortal(b"\0\0https"),
+        other(4),
+        other(255),
+    ] {
+        let mut octets = [0xa5; 40];
+        let mut writer = OptionsWriter::new(&mut octets);
+        same_of(&rt, option, writer.push(&option), Ok(()));
+        let mut options = NeighborOptions::new(&octets);
+        same(&rt, options.next(), Some(Ok(option)));
+    }
+}
+
 #[test]
 fn texts_of_what_is_not_written(rt: HostRuntime) {
-    for (unwritten, text) in [
-        (Unwritten::Long, "more than 255 units of 8 bytes"),
+    for (unwritten, text, writes) in [
+        (Unwritten::Long, "more than 255 units of 8 bytes", 1),
+        (
+            Unwritten::Octets(38, 20),
+            "20 octets are not allowed for type 38",
+            3,
+        ),
+        (
+            Unwritten::PrefixLength(129),
+            "129 bits are too many for the prefix",
+            2,
+        ),
+        (Unwritten::LastZero, "a URI with a zero at its end", 1),
         (
             Unwritten::ScaledLifetime,
             "a scaled lifetime of 8192 or more",
+            1,
+        ),
+        (
+            Unwritten::Kind(3),
+            "type 3 is not written by its octets alone",
+            3,
         ),
         (
             Unwritten::Full,
             "fewer bytes are free than the option takes",
+            1,
         ),
     ] {
         prints(&rt, rt.alloc(), &unwritten, text);
-        takes_writes(&rt, &unwritten, 1);
+        takes_writes(&rt, &unwritten, writes);
     }
 }

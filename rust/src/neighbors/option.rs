@@ -1,7 +1,7 @@
 // Made from crates/neighbor_wire/src/option.rt by rust/erase.
 //! Options as values.
 
-mod reading;
+pub(crate) mod reading;
 pub(crate) mod writing;
 
 use crate::neighbors::names::Names;
@@ -77,7 +77,7 @@ pub enum NeighborOption<'a> {
     CaptivePortal(&'a [u8]),
     /// The prefix of a NAT64: type 38 (RFC 8781 section 4).
     Nat64Prefix(Nat64Prefix<'a>),
-    /// An option of any other type.
+    /// An option of any other type, also a redirected header: type 4 (RFC 4861 section 4.6.3).
     Other {
         /// The type.
         kind: u8,
@@ -100,7 +100,8 @@ impl<'a> NeighborOption<'a> {
 
     /// Writes the option over the front of the octets, with zeros behind it up to a whole unit of 8 bytes, and zeros
     /// in its reserved fields; the other octets are unchanged. Requires at least `buffer_len` bytes, that those are no
-    /// more than 255 units, and a scaled lifetime below 8192.
+    /// more than 255 units, and a scaled lifetime below 8192. An option that [`crate::neighbors::OptionsWriter::push`] refuses for
+    /// another reason is written, but its octets are not read back as it is.
     ///
     /// # Panics
     ///

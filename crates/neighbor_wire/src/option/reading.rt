@@ -75,7 +75,7 @@ fn data_in(octets: &[u8]) -> &[u8]
 }
 
 // The octets without the zeros at their end.
-fn without_zeros(octets: &[u8]) -> &[u8]
+pub(crate) fn without_zeros(octets: &[u8]) -> &[u8]
     ensures { result.now ≡ strip octets.now }
 {
     let mut end = octets.len();

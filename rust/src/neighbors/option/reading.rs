@@ -57,7 +57,7 @@ fn data_in(octets: &[u8]) -> &[u8] {
 }
 
 // The octets without the zeros at their end.
-fn without_zeros(octets: &[u8]) -> &[u8] {
+pub(crate) fn without_zeros(octets: &[u8]) -> &[u8] {
     let mut end = octets.len();
     while end > 0 && octets[end - 1] == 0 {
         end -= 1;
