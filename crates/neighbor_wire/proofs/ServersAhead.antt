@@ -1,11 +1,16 @@
--- The addresses of DNS servers in turn: they are what is computed, and that alone.
+-- The addresses of DNS servers in turn: they are what is computed, and that alone; and addresses as they are written.
 use Rattle.std.proofs.Common.{◌≡◌, ℕ, zero, suc, ◌+◌, ◌*◌, ◌/◌, ◌-◌, ◌≤◌, ◌<◌, List, [], ◌∷◌, ◌++◌, length, take, drop}
-use Rattle.std.proofs.Common.{refl, sym, ap, ◌∙◌, arith}
+use Rattle.std.proofs.Common.{refl, sym, ap, ◌∙◌, arith, length-append}
+use Rattle.std.specs.Prelude.{map}
 use Rattle.std.specs.List.{AllByRecursion, concat}
 use Rattle.std.proofs.Math.Seq.{take-add}
 use Rattle.std.proofs.lemmas.List.{length-take-le, length-drop}
-use Rattle.neighbor_wire.specs.Servers.{AreServers}
-use Rattle.neighbor_wire.specs.Servers.{servers_ahead, servers_in}
+use Rattle.wirebase.specs.Bytes.{over}
+use Rattle.wirebase.specs.ByteWriter.{fields}
+use Rattle.wirebase.specs.Ipv6Address.{octets_of}
+use Rattle.wirebase.specs.declared.ipv6.address.Ipv6Address.{Ipv6Address}
+use Rattle.wirebase.proofs.Pieces.{over-exact}
+use Rattle.neighbor_wire.specs.Servers.{AreServers, servers_ahead, servers_in}
 
 length-servers : (n : ℕ) (bytes : List ℕ) → length (servers_ahead n bytes) ≡ n
 unfolding servers_ahead
@@ -53,3 +58,24 @@ pub no_server_ahead : (bytes : List ℕ) → length bytes < 16 → servers_in by
 unfolding servers_ahead
 no_server_ahead bytes few =
     let none : length bytes / 16 ≡ 0 = omega (arith, few) in ap (λ (k : ℕ). servers_ahead k bytes) none
+
+-- ---- written
+
+length-addresses : (xs : List Ipv6Address) → length (concat (map octets_of xs)) ≡ 16 * length xs
+length-addresses [] = refl
+length-addresses (x ∷ xs) =
+    omega (arith, length-append (octets_of x) (concat (map octets_of xs)), x.whole, length-addresses xs)
+
+fields-concat : (fs : List (List ℕ)) → fields fs ≡ concat fs
+unfolding fields
+fields-concat [] = refl
+fields-concat (f ∷ fs) = ap (λ (l : List ℕ). f ++ l) (fields-concat fs)
+
+-- addresses that are written into as many bytes
+pub written_addresses : (xs : List Ipv6Address) (old : List ℕ) → length old ≡ 16 * length xs
+    → over old (fields (map octets_of xs)) ≡ concat (map octets_of xs)
+written_addresses xs old long =
+    let same = fields-concat (map octets_of xs) in
+    over-exact old (fields (map octets_of xs))
+    (long ∙ sym (length-addresses xs) ∙ ap (λ (l : List ℕ). length l) (sym same))
+    ∙ same

@@ -82,6 +82,7 @@ fn servers_in_turn(rt: HostRuntime) {
     let second = Ipv6Address::new(0x2001, 0xdb8, 0, 0, 0, 0, 0, 0x54);
     let servers = Servers::new(&octets);
     same(&rt, servers.len(), 2);
+    same(&rt, servers.is_empty(), false);
     let mut turns = servers.iter();
     same(&rt, turns.next(), Some(first));
     let Ok(mut copy) = turns.clone() else {
@@ -94,6 +95,39 @@ fn servers_in_turn(rt: HostRuntime) {
     prints(&rt, rt.alloc(), &servers, " 2001:db8::53 2001:db8::54");
     let none = Servers::new(&octets[..15]);
     same(&rt, none.len(), 0);
+    same(&rt, none.is_empty(), true);
     same(&rt, none.iter().next(), None);
     prints(&rt, rt.alloc(), &none, "");
+}
+
+#[test]
+fn servers_that_are_written(rt: HostRuntime) {
+    let first = Ipv6Address::new(0x2001, 0xdb8, 0, 0, 0, 0, 0, 0x53);
+    let second = Ipv6Address::new(0xfe80, 0, 0, 0, 0, 0, 0, 1);
+    let mut octets = [0xa5; 34];
+    same(
+        &rt,
+        Servers::write(&[first, second], &mut octets[..31]),
+        None,
+    );
+    same(&rt, octets, [0xa5; 34]);
+    let Some(servers) = Servers::write(&[first, second], &mut octets) else {
+        return same(&rt, "no servers", "two servers");
+    };
+    same(&rt, servers.len(), 2);
+    let mut turns = servers.iter();
+    same(&rt, turns.next(), Some(first));
+    same(&rt, turns.next(), Some(second));
+    same(&rt, turns.next(), None);
+    same(
+        &rt,
+        octets,
+        [
+            0x20, 0x01, 0x0d, 0xb8, 0x00, 0x00, 0x00, 0x00, 0x00, 0x00, 0x00, 0x00, 0x00, 0x00,
+            0x00, 0x53, 0xfe, 0x80, 0x00, 0x00, 0x00, 0x00, 0x00, 0x00, 0x00, 0x00, 0x00, 0x00,
+            0x00, 0x00, 0x00, 0x01, 0xa5, 0xa5,
+        ],
+    );
+    let none = Servers::write(&[], &mut []);
+    same(&rt, none, Some(Servers::new(&[])));
 }

@@ -84,6 +84,7 @@ fn servers_in_turn() {
     let second = Ipv6Address::new(0x2001, 0xdb8, 0, 0, 0, 0, 0, 0x54);
     let servers = Servers::new(&octets);
     same(servers.len(), 2);
+    same(servers.is_empty(), false);
     let mut turns = servers.iter();
     same(turns.next(), Some(first));
     let Ok(mut copy) = turns.try_clone() else {
@@ -96,6 +97,34 @@ fn servers_in_turn() {
     prints(&servers, " 2001:db8::53 2001:db8::54");
     let none = Servers::new(&octets[..15]);
     same(none.len(), 0);
+    same(none.is_empty(), true);
     same(none.iter().next(), None);
     prints(&none, "");
+}
+
+#[test]
+fn servers_that_are_written() {
+    let first = Ipv6Address::new(0x2001, 0xdb8, 0, 0, 0, 0, 0, 0x53);
+    let second = Ipv6Address::new(0xfe80, 0, 0, 0, 0, 0, 0, 1);
+    let mut octets = [0xa5; 34];
+    same(Servers::write(&[first, second], &mut octets[..31]), None);
+    same(octets, [0xa5; 34]);
+    let Some(servers) = Servers::write(&[first, second], &mut octets) else {
+        return same("no servers", "two servers");
+    };
+    same(servers.len(), 2);
+    let mut turns = servers.iter();
+    same(turns.next(), Some(first));
+    same(turns.next(), Some(second));
+    same(turns.next(), None);
+    same(
+        octets,
+        [
+            0x20, 0x01, 0x0d, 0xb8, 0x00, 0x00, 0x00, 0x00, 0x00, 0x00, 0x00, 0x00, 0x00, 0x00,
+            0x00, 0x53, 0xfe, 0x80, 0x00, 0x00, 0x00, 0x00, 0x00, 0x00, 0x00, 0x00, 0x00, 0x00,
+            0x00, 0x00, 0x00, 0x01, 0xa5, 0xa5,
+        ],
+    );
+    let none = Servers::write(&[], &mut []);
+    same(none, Some(Servers::new(&[])));
 }
