@@ -117,15 +117,18 @@ impl Host {
     }
 
     /// Joins groups of IPv6: says so twice.
-    pub fn join_v6(&mut self, groups: Vec<Ipv6Address>) {
+    pub fn join_v6(&mut self, mut groups: Vec<Ipv6Address>) {
         self.change_v6(&groups);
-        self.later(part_of(STEP), move |host| host.change_v6(&groups));
+        self.later(part_of(STEP), move |host| {
+            groups.retain(|group| host.groups_v6().contains(group));
+            host.change_v6(&groups);
+        });
     }
 
     fn change_v6(&mut self, groups: &[Ipv6Address]) {
         let (own, mut out) = (self.listener(), vec![0; 8 + 20 * groups.len()]);
         let records: Vec<_> = groups.iter().copied().map(listener::joins).collect();
-        if listener::report(&own, &records, &mut out).is_some() {
+        if !groups.is_empty() && listener::report(&own, &records, &mut out).is_some() {
             self.report_v6(own, groups, &out);
         }
     }

@@ -38,9 +38,10 @@ struct Host {
     group_v4: Ipv4Address,
     link_local: Ipv6Address,
     group_v6: Ipv6Address,
-    /// The addresses of IPv6 that are its own, the link-local one first, and those of which it is not known yet.
+    /// The addresses of IPv6 that are its own, those of which it is not known yet, and those that others have.
     own: Vec<Ipv6Address>,
     tentative: Vec<Ipv6Address>,
+    taken: Vec<Ipv6Address>,
     /// The older versions of IGMP and of MLD that a querier speaks, and until when.
     older: [(u8, Instant); 2],
     neighbors: HashMap<IpAddr, EthernetAddress>,
@@ -137,6 +138,7 @@ fn main() -> Result<(), Box<dyn Error>> {
         group_v6: group_v6.parse()?,
         own: Vec::new(),
         tentative: Vec::new(),
+        taken: Vec::new(),
         older: [(0, now); 2],
         neighbors: HashMap::new(),
         waiting: Waiting::new(),

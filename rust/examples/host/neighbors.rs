@@ -27,7 +27,13 @@ impl Host {
 
     /// Looks whether an address is free: it is this host's if nobody says otherwise for a second (RFC 4862 section 5.4).
     fn detect(&mut self, address: Ipv6Address) {
-        if self.own.contains(&address) || self.tentative.contains(&address) {
+        let [own, tentative, taken] = [&self.own, &self.tentative, &self.taken];
+        if own
+            .iter()
+            .chain(tentative)
+            .chain(taken)
+            .any(|it| *it == address)
+        {
             return;
         }
         println!("tentative {address}");
@@ -54,6 +60,7 @@ impl Host {
     fn give_up(&mut self, address: Ipv6Address) {
         println!("duplicate {address}");
         self.tentative.retain(|it| *it != address);
+        self.taken.push(address);
     }
 
     /// Solicits routers up to so many times, until one answers (RFC 4861 section 6.3.7).
@@ -201,7 +208,7 @@ impl Host {
             self.set_way(valid, way);
         }
         let forms = prefix.autonomous && prefix.prefix_len == 64 && 0 < valid && preferred <= valid;
-        if forms && self.own.len() < MOST_ADDRESSES {
+        if forms && self.own.len() + self.taken.len() < MOST_ADDRESSES {
             let rest = self.link_local.to_bits() & u128::from(u64::MAX);
             self.detect(Ipv6Address::from_bits(prefix_of(prefix.prefix, 64) | rest));
         }

@@ -51,7 +51,7 @@ impl Host {
         let mut out = vec![0; payload.len().max(600)];
         let len = match header.protocol {
             IpProtocol::Igmp => return self.receive_igmp(payload),
-            IpProtocol::Icmp if to == self.v4 => {
+            IpProtocol::Icmp if to != ALL_HOSTS => {
                 let len = ping::answer(payload, &mut out)?;
                 println!("echo {from} {len}");
                 len
