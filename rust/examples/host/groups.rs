@@ -75,11 +75,11 @@ impl Host {
                 (IGMP_ROUTERS, report.buffer_len())
             }
         };
+        self.send_v4(to, IpProtocol::Igmp, &octets[..len]);
         println!(
             "report IGMP version {} {group}",
             self.older(IGMP).unwrap_or(3)
         );
-        self.send_v4(to, IpProtocol::Igmp, &octets[..len]);
     }
 
     pub fn receive_igmp(&mut self, octets: &[u8]) -> Option<()> {
@@ -136,15 +136,15 @@ impl Host {
     /// Sends this report about groups, or where the querier speaks version 1 one for each group.
     fn report_v6(&mut self, own: Ipv6Address, groups: &[Ipv6Address], report: &[u8]) {
         let version = self.older(MLD).unwrap_or(2);
+        if version == 2 {
+            self.send_v6(own, MLD_ROUTERS, 1, report);
+        }
         for group in groups {
-            println!("report MLD version {version} {group}");
             let mut out = [0; version1::MESSAGE_LEN];
             if version == 1 && version1::report(&own, group, &mut out).is_some() {
                 self.send_v6(own, *group, 1, &out);
             }
-        }
-        if version == 2 {
-            self.send_v6(own, MLD_ROUTERS, 1, report);
+            println!("report MLD version {version} {group}");
         }
     }
 

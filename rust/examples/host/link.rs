@@ -55,11 +55,14 @@ pub fn prefix_of(address: Ipv6Address, len: u8) -> u128 {
 }
 
 impl Host {
-    fn transmit(&mut self, to: EthernetAddress, kind: u16, payload: &[u8]) {
+    /// Sends a frame, and says whether the device took it: one that is down does not.
+    fn transmit(&mut self, to: EthernetAddress, kind: u16, payload: &[u8]) -> bool {
         let frame = [&to.0[..], &self.hardware.0, &kind.to_be_bytes(), payload].concat();
-        if let Err(error) = self.device.write_all(&frame) {
+        let sent = self.device.write_all(&frame);
+        if let Err(error) = &sent {
             println!("not sent: {error}");
         }
+        sent.is_ok()
     }
 
     /// Sends a packet to a neighbor, or keeps it for a second, in which the neighbor is looked for.
@@ -77,11 +80,12 @@ impl Host {
         };
         let kind = if next.is_ipv4() { 0x0800 } else { 0x86dd };
         if let Some(to) = to {
-            return self.transmit(to, kind, &packet);
+            self.transmit(to, kind, &packet);
+            return;
         }
         if !self.waiting.iter().any(|(other, _)| *other == next) {
             match next {
-                IpAddr::V4(to) => self.send_arp(1, EthernetAddress::BROADCAST, to.into()),
+                IpAddr::V4(to) => drop(self.send_arp(1, EthernetAddress::BROADCAST, to.into())),
                 IpAddr::V6(to) => self.solicit(self.link_local, to.into()),
             }
             let forget = move |host: &mut Host| host.waiting.retain(|(other, _)| *other != next);
@@ -111,11 +115,16 @@ impl Host {
     }
 
     /// Asks for a neighbor (operation 1) or answers one (2).
-    fn send_arp(&mut self, operation: u8, to: EthernetAddress, target: Ipv4Address) {
+    fn send_arp(&mut self, operation: u8, to: EthernetAddress, target: Ipv4Address) -> bool {
         let head = [0, 1, 8, 0, 6, 4, 0, operation];
         let sender = [&self.hardware.0[..], &self.v4.octets()].concat();
         let packet = [&head[..], &sender, &to.0, &target.octets()].concat();
-        self.transmit(to, 0x0806, &packet);
+        self.transmit(to, 0x0806, &packet)
+    }
+
+    /// Announces the address of IPv4 (RFC 5227 section 2.3).
+    pub fn announce(&mut self) -> bool {
+        self.send_arp(1, EthernetAddress::BROADCAST, self.v4)
     }
 
     pub fn receive_arp(&mut self, packet: &[u8]) -> Option<()> {

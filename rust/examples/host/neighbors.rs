@@ -19,8 +19,11 @@ const SOLICITATION_LEN: usize = 24;
 const MOST_ADDRESSES: usize = 16;
 
 impl Host {
-    /// Begins with the link-local address (RFC 4862 section 5.3).
+    /// Begins, as soon as the device is up, with the address of IPv4 and the link-local one (RFC 4862 section 5.3).
     pub fn begin(&mut self) {
+        if !self.announce() {
+            return self.later(Duration::from_secs(1), |host| host.begin());
+        }
         self.join_v4();
         self.detect(self.link_local);
     }

@@ -51,7 +51,7 @@ impl Host {
         let mut out = vec![0; payload.len().max(600)];
         let len = match header.protocol {
             IpProtocol::Igmp => return self.receive_igmp(payload),
-            IpProtocol::Icmp if to != ALL_HOSTS => {
+            IpProtocol::Icmp if to != ALL_HOSTS && !from.is_unspecified() => {
                 let len = ping::answer(payload, &mut out)?;
                 println!("echo {from} {len}");
                 len
@@ -117,6 +117,10 @@ impl Host {
                 return self.receive_neighbor(&datagram);
             }
             _ => {}
+        }
+        // Nobody is there to be answered (RFC 4443 section 2.4).
+        if from.is_unspecified() {
+            return None;
         }
         let own = match self.own.contains(&to) {
             true => to,
