@@ -3,15 +3,19 @@
 use super::Host;
 use control_wire::frames::{Addresses, Datagram};
 use control_wire::groups::{Membership, Message, RecordType, RecordsWriter};
-use control_wire::{IpProtocol, Ipv4Address, Ipv6Address, Ipv6OptionRepr};
+use control_wire::{
+    IPV6_LINK_LOCAL_ALL_ROUTERS, IpProtocol, Ipv4Address, Ipv6Address, Ipv6OptionRepr,
+};
 use control_wire::{ipv6hbh, ipv6option::RouterAlert};
 use examples::listener::{self, version1};
 use examples::{member, neighbor};
 use std::hash::{BuildHasher, Hasher, RandomState};
 use std::time::{Duration, Instant};
 
-/// Where reports go (RFC 3376 section 4.2.14, RFC 3810 section 5.2.14).
+/// Where reports go, and the leaves of older versions (RFC 3376 section 4.2.14, RFC 2236 section 3, RFC 3810 section
+/// 5.2.14).
 const IGMP_ROUTERS: Ipv4Address = Ipv4Address::new(224, 0, 0, 22);
+const ALL_ROUTERS: Ipv4Address = Ipv4Address::new(224, 0, 0, 2);
 const MLD_ROUTERS: Ipv6Address = Ipv6Address::new(0xff02, 0, 0, 0, 0, 0, 0, 0x16);
 
 /// How long a querier of an older version counts after its query (RFC 3376 section 8.12, RFC 3810 section 9.12).
@@ -38,7 +42,8 @@ impl Host {
 
     /// Notes the version of a query, and prints it.
     fn note(&mut self, protocol: usize, version: u8, is_older: bool) {
-        if is_older {
+        // That of the oldest querier counts (RFC 3376 section 7.2.1).
+        if is_older && self.older(protocol).is_none_or(|older| version <= older) {
             self.older[protocol] = (version, Instant::now() + OLDER_TIME);
         }
         println!("query {} version {version}", ["IGMP", "MLD"][protocol]);
@@ -54,7 +59,10 @@ impl Host {
 
     /// Says that the host is a member, in the version of the querier.
     fn report_v4(&mut self, record_type: RecordType, sources: &[Ipv4Address]) {
-        let (group, mut octets) = (self.group_v4, vec![0; 20 + 4 * sources.len()]);
+        let Some(group) = self.group_v4 else {
+            return;
+        };
+        let mut octets = vec![0; 20 + 4 * sources.len()];
         let (to, len) = match self.older(IGMP) {
             Some(1) => {
                 Message::OldestReport { group }.emit_igmp(&mut octets[..8]);
@@ -91,7 +99,7 @@ impl Host {
             _ => return None,
         };
         self.note(IGMP, query.version(), query.version() < 3);
-        if group.is_unspecified() || group == self.group_v4 {
+        if group.is_unspecified() || Some(group) == self.group_v4 {
             let record_type = match sources.is_empty() {
                 true => RecordType::ModeIsExclude,
                 false => RecordType::ModeIsInclude,
@@ -105,7 +113,7 @@ impl Host {
     pub fn groups_v6(&self) -> Vec<Ipv6Address> {
         let addresses = self.own.iter().chain(&self.tentative);
         let mut groups: Vec<_> = addresses.map(neighbor::solicited_node).collect();
-        groups.push(self.group_v6);
+        groups.extend(self.group_v6);
         groups.dedup();
         groups
     }
@@ -133,8 +141,13 @@ impl Host {
         }
     }
 
-    /// Sends this report about groups, or where the querier speaks version 1 one for each group.
+    /// Sends this report about groups, or where the querier speaks version 1 one for each group; none where the host
+    /// has left one.
     fn report_v6(&mut self, own: Ipv6Address, groups: &[Ipv6Address], report: &[u8]) {
+        let listening = self.groups_v6();
+        if !groups.iter().all(|group| listening.contains(group)) {
+            return;
+        }
         let version = self.older(MLD).unwrap_or(2);
         if version == 2 {
             self.send_v6(own, MLD_ROUTERS, 1, report);
@@ -146,6 +159,35 @@ impl Host {
             }
             println!("report MLD version {version} {group}");
         }
+    }
+
+    /// Leaves the groups of both families, and says so; version 1 of IGMP has no message for it.
+    pub fn leave(&mut self) {
+        match (self.group_v4, self.older(IGMP)) {
+            (Some(_), None) => self.report_v4(RecordType::ChangeToInclude, &[]),
+            (Some(group), Some(2)) => {
+                let mut out = [0; member::MESSAGE_LEN];
+                member::leave(group, &mut out);
+                self.send_v4(ALL_ROUTERS, IpProtocol::Igmp, &out);
+            }
+            _ => {}
+        }
+        if let Some(group) = self.group_v6 {
+            let (own, mut out) = (self.listener(), [0; 28]);
+            let (to, len) = match self.older(MLD) {
+                None => {
+                    let record = listener::leaves(group);
+                    (MLD_ROUTERS, listener::report(&own, &[record], &mut out))
+                }
+                Some(_) => (
+                    IPV6_LINK_LOCAL_ALL_ROUTERS,
+                    version1::done(&own, &group, &mut out),
+                ),
+            };
+            self.send_v6(own, to, 1, &out[..len.unwrap_or(0)]);
+        }
+        (self.group_v4, self.group_v6) = (None, None);
+        println!("left");
     }
 
     pub fn receive_mld(&mut self, datagram: &Datagram<'_>) -> Option<()> {

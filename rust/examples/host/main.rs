@@ -3,8 +3,8 @@
 //!     host [DEVICE [HARDWARE-ADDRESS [IPV4-ADDRESS [LINK-LOCAL-ADDRESS [IPV4-GROUP [IPV6-GROUP]]]]]]
 //!
 //! It answers echoes, also those in fragments; tells that no port has a listener; looks for neighbors and for routers;
-//! sees whether its addresses are free; and is a member of the groups, in the version that the querier speaks. Each
-//! event is a line. It keeps no time of neighbors, and has all of IPv4 on its link.
+//! sees whether its addresses are free; and is a member of the groups, in the version that the querier speaks, until it
+//! reads the line `leave`. Each event is a line. It keeps no time of neighbors, and has all of IPv4 on its link.
 
 mod device;
 mod groups;
@@ -20,13 +20,20 @@ use std::collections::HashMap;
 use std::error::Error;
 use std::fs::File;
 use std::hash::{BuildHasher, Hasher, RandomState};
-use std::io::Read;
+use std::io::{self, Read};
 use std::net::IpAddr;
 use std::sync::mpsc::{Receiver, RecvTimeoutError, sync_channel};
 use std::time::{Duration, Instant};
 
 /// How many neighbors, packets, ways and deeds are kept: a flood takes no more memory.
 const MOST: usize = 256;
+
+/// What comes from outside: a frame, the word that the host is to leave its groups, or that the device is gone.
+enum Event {
+    Frame(Vec<u8>),
+    Leave,
+    Gone,
+}
 
 /// What is to be done later.
 type Deed = Box<dyn FnOnce(&mut Host)>;
@@ -35,9 +42,9 @@ struct Host {
     device: File,
     hardware: EthernetAddress,
     v4: Ipv4Address,
-    group_v4: Ipv4Address,
+    group_v4: Option<Ipv4Address>,
     link_local: Ipv6Address,
-    group_v6: Ipv6Address,
+    group_v6: Option<Ipv6Address>,
     /// The addresses of IPv6 that are its own, those of which it is not known yet, and those that others have.
     own: Vec<Ipv6Address>,
     tentative: Vec<Ipv6Address>,
@@ -79,7 +86,7 @@ impl Host {
     }
 
     /// Takes the frames as they come, and does what is to be done at its time.
-    fn run(&mut self, frames: &Receiver<Vec<u8>>) -> Result<(), Box<dyn Error>> {
+    fn run(&mut self, events: &Receiver<Event>) -> Result<(), Box<dyn Error>> {
         loop {
             let now = Instant::now();
             let mut times = self.deeds.iter().map(|(time, _)| *time);
@@ -90,10 +97,13 @@ impl Host {
             }
             let first = self.deeds.iter().map(|(time, _)| *time).min();
             let wait = first.map_or(Duration::MAX, |time| time - now);
-            match frames.recv_timeout(wait) {
-                Ok(frame) => drop(self.receive(&frame)),
+            match events.recv_timeout(wait) {
+                Ok(Event::Frame(frame)) => drop(self.receive(&frame)),
+                Ok(Event::Leave) => self.leave(),
                 Err(RecvTimeoutError::Timeout) => {}
-                Err(RecvTimeoutError::Disconnected) => return Err("the device is gone".into()),
+                Ok(Event::Gone) | Err(RecvTimeoutError::Disconnected) => {
+                    return Err("the device is gone".into());
+                }
             }
         }
     }
@@ -119,13 +129,21 @@ fn main() -> Result<(), Box<dyn Error>> {
     let device = device::open(&name)?;
     let mut reader = device.try_clone()?;
     // A frame that comes while so many wait stays with the kernel.
-    let (sender, frames) = sync_channel(MOST);
+    let (sender, events) = sync_channel(MOST);
+    let asker = sender.clone();
     std::thread::spawn(move || {
         let mut octets = vec![0; 65_536];
         while let Ok(len) = reader.read(&mut octets) {
-            if sender.send(octets[..len].to_vec()).is_err() {
+            if sender.send(Event::Frame(octets[..len].to_vec())).is_err() {
                 break;
             }
+        }
+        let _ = sender.send(Event::Gone);
+    });
+    std::thread::spawn(move || {
+        let is_leave = |line: io::Result<String>| line.is_ok_and(|line| line == "leave");
+        if io::stdin().lines().any(is_leave) {
+            let _ = asker.send(Event::Leave);
         }
     });
     let now = Instant::now();
@@ -133,9 +151,9 @@ fn main() -> Result<(), Box<dyn Error>> {
         device,
         hardware: EthernetAddress(octets),
         v4: v4.parse()?,
-        group_v4: group_v4.parse()?,
+        group_v4: Some(group_v4.parse()?),
         link_local: link_local.parse()?,
-        group_v6: group_v6.parse()?,
+        group_v6: Some(group_v6.parse()?),
         own: Vec::new(),
         tentative: Vec::new(),
         taken: Vec::new(),
@@ -153,5 +171,5 @@ fn main() -> Result<(), Box<dyn Error>> {
     println!("host {name} {hardware} {v4}");
     // The longest wait of RFC 4862 section 5.4.2: a bridge takes a part of it until it has the device.
     host.later(Duration::from_secs(1), |host| host.begin());
-    host.run(&frames)
+    host.run(&events)
 }

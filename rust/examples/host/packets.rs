@@ -19,7 +19,7 @@ impl Host {
         let (header, payload) = Header::parse(packet).ok()?;
         let (from, to) = (header.src_addr, header.dst_addr);
         let is_ours = match to_many {
-            true => [ALL_HOSTS, self.group_v4].contains(&to),
+            true => to == ALL_HOSTS || Some(to) == self.group_v4,
             false => to == self.v4,
         };
         if !is_ours || from.is_multicast() || from.is_broadcast() {
