@@ -153,7 +153,7 @@ impl Host {
     pub fn send_v4(&mut self, to: Ipv4Address, protocol: IpProtocol, message: &[u8]) {
         let (hop_limit, options) = match protocol {
             IpProtocol::Igmp => (1, &ROUTER_ALERT[..]),
-            _ => (self.hop_limit, &[][..]),
+            _ => (64, &[][..]),
         };
         self.ident = self.ident.wrapping_add(1);
         let room = (MTU - 20 - options.len()) / 8 * 8;
@@ -178,7 +178,7 @@ impl Host {
         }
     }
 
-    /// Sends a message of ICMPv6. With hop limit 1 it is one of MLD, which has a router alert (RFC 3810 section 5).
+    /// Sends a message of ICMPv6, that of MLD with a router alert (RFC 3810 section 5).
     pub fn send_v6(&mut self, own: Ipv6Address, to: Ipv6Address, hop_limit: u8, message: &[u8]) {
         self.ident = self.ident.wrapping_add(1);
         let is_whole = message.len() <= self.mtu - IPV6_HEADER_LEN;
@@ -187,7 +187,7 @@ impl Host {
         for (place, part) in message.chunks(room).enumerate() {
             let mut extension = Vec::new();
             let mut next_header = IpProtocol::Icmpv6;
-            if hop_limit == 1 {
+            if let [130..=132 | 143, ..] = message {
                 extension.resize(8, 0);
                 listener::router_alert(&mut extension);
                 next_header = IpProtocol::HopByHop;

@@ -4,7 +4,8 @@
 //!
 //! It answers echoes, also those in fragments; tells that no port has a listener; looks for neighbors and for routers;
 //! sees whether its addresses are free; and is a member of the groups, in the version that the querier speaks, until it
-//! reads the line `leave`. Each event is a line. It keeps no time of neighbors, and has all of IPv4 on its link.
+//! reads the line `leave`. Each event is a line. It keeps no time of neighbors and of addresses, and has all of IPv4 on
+//! its link.
 
 mod device;
 mod groups;
@@ -63,10 +64,12 @@ struct Host {
 }
 
 impl Host {
-    /// Does this after a time.
+    /// Does this after a time. Where there is too much to do, what is farthest away is not done.
     fn later(&mut self, wait: Duration, deed: impl FnOnce(&mut Host) + 'static) {
-        if self.deeds.len() < MOST {
-            self.deeds.push((Instant::now() + wait, Box::new(deed)));
+        self.deeds.push((Instant::now() + wait, Box::new(deed)));
+        if self.deeds.len() > MOST {
+            self.deeds.sort_by_key(|(time, _)| *time);
+            self.deeds.truncate(MOST);
         }
     }
 

@@ -15,7 +15,7 @@ use std::time::{Duration, Instant};
 /// The bytes of a solicitation before its options.
 const SOLICITATION_LEN: usize = 24;
 
-/// How many addresses the host forms at most, whatever routers advertise.
+/// How many addresses the host tries at most, whatever routers advertise.
 const MOST_ADDRESSES: usize = 16;
 
 impl Host {
@@ -30,13 +30,8 @@ impl Host {
 
     /// Looks whether an address is free: it is this host's if nobody says otherwise for a second (RFC 4862 section 5.4).
     fn detect(&mut self, address: Ipv6Address) {
-        let [own, tentative, taken] = [&self.own, &self.tentative, &self.taken];
-        if own
-            .iter()
-            .chain(tentative)
-            .chain(taken)
-            .any(|it| *it == address)
-        {
+        let known = [&self.own[..], &self.tentative, &self.taken].concat();
+        if known.contains(&address) || known.len() >= MOST_ADDRESSES {
             return;
         }
         println!("tentative {address}");
@@ -211,7 +206,7 @@ impl Host {
             self.set_way(valid, way);
         }
         let forms = prefix.autonomous && prefix.prefix_len == 64 && 0 < valid && preferred <= valid;
-        if forms && self.own.len() + self.taken.len() < MOST_ADDRESSES {
+        if forms {
             let rest = self.link_local.to_bits() & u128::from(u64::MAX);
             self.detect(Ipv6Address::from_bits(prefix_of(prefix.prefix, 64) | rest));
         }
