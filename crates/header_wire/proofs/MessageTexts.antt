@@ -266,7 +266,7 @@ says (mask_reply m) a b c = record {
 says solicitation a b c = record { passes = (refl, (omega arith, tt)); content = refl }
 says (advertisement v) a b c = advert_says v a b c
 says (extended_request r) a b c = record {
-  passes = (refl, (omega arith, tt));
+  passes = tt;
   content = (refl, request_read r a b c);
 }
 says (extended_reply r) a b c = record { passes = tt; content = (refl, reply_read r a b c) }

@@ -211,7 +211,8 @@ advert_checks bytes =
     ∷ check (8 + entries_len bytes ≤ length bytes) Refusal.Cut
     ∷ []
 
--- The checks after that of the checksum, in their order.
+-- The checks after that of the checksum, in their order. The code of an extended echo request is ignored (RFC 8335
+-- section 2), and that of a reply says how it went.
 abbrev pub kind_checks : List ℕ → Option Kind → List (Check Refusal)
 kind_checks bytes (Some Kind.Timestamp) = fixed_checks 20 bytes
 kind_checks bytes (Some Kind.TimestampReply) = fixed_checks 20 bytes
@@ -219,7 +220,7 @@ kind_checks bytes (Some Kind.AddressMaskRequest) = fixed_checks 12 bytes
 kind_checks bytes (Some Kind.AddressMaskReply) = fixed_checks 12 bytes
 kind_checks bytes (Some Kind.RouterSolicitation) = fixed_checks 8 bytes
 kind_checks bytes (Some Kind.RouterAdvertisement) = advert_checks bytes
-kind_checks bytes (Some Kind.ExtendedEchoRequest) = fixed_checks 8 bytes
+kind_checks bytes (Some Kind.ExtendedEchoRequest) = []
 kind_checks bytes (Some Kind.ExtendedEchoReply) = []
 kind_checks bytes None = check ⊥ (Refusal.UnknownType (slice_index bytes 0)) ∷ []
 

@@ -161,7 +161,7 @@ pub enum Refusal {
     Checksum,
     /// A type that is not read, by its number.
     UnknownType(u8),
-    /// The code is not 0, and the message is no answer about an interface; this is its number.
+    /// The code is not 0, in a message of another kind than an extended echo: this is its number.
     Code(u8),
     /// Fewer bytes than a message of this type has.
     Length,
@@ -223,7 +223,7 @@ pub(crate) fn kind_numbered(number: u8) -> Option<Kind>
 
 impl<'a> Message<'a> {
     /// The message that these octets are; what follows its fields is ignored. Its checksum, of all the octets, is
-    /// verified. Reserved bits are not looked at.
+    /// verified. Reserved bits are not looked at, and neither is the code of an extended request.
     pub fn parse(octets: &'a [u8]) -> Result<Message<'a>, Refusal>
         ensures sound { IfOk result (λ message. IsMessage octets.now (value_of message)) }
         ensures complete { (value : Value) → IsMessage octets.now value

@@ -51,7 +51,6 @@ fn read_content(octets: &[u8]) -> Result<Message<'_>, Refusal>
             Ok(Message::RouterAdvertisement(read_advertisement(octets)?))
         }
         Some(Kind::ExtendedEchoRequest) => {
-            check_fixed(octets, field::HEADER_END)?;
             Ok(Message::ExtendedEchoRequest(read_extended_request(octets)))
         }
         Some(Kind::ExtendedEchoReply) => {
