@@ -1,3 +1,4 @@
+pub mod ExtendedEchoes
 pub mod HeaderFormat
 pub mod HeaderTexts
 pub mod MessageFormat

@@ -1,5 +1,5 @@
 -- The format of messages of ICMPv4: what is read in their texts, and what was read.
-use Rattle.std.proofs.Common.{◌≡◌, ℕ, ◌+◌, ◌*◌, Bool, List, length, Option, Some, refl, sym}
+use Rattle.std.proofs.Common.{◌≡◌, ℕ, ◌+◌, ◌*◌, List, length, Option, Some, refl, sym}
 use Rattle.std.proofs.Common.{ap, subst, ◌∙◌, arith}
 use Rattle.std.specs.Prelude.{Result}
 use Rattle.std.specs.Result.{IfOk}
@@ -15,7 +15,6 @@ use Rattle.wirebase.proofs.Ipv4Header.{same_address}
 use Rattle.wirebase.proofs.Pieces.{length-part, over-exact}
 use Rattle.wirebase.proofs.WideParts.{number_of-small4}
 use Rattle.wirebase.specs.declared.ipv4.Ipv4Address.{Ipv4Address}
-use Rattle.wirebase.proofs.Parses.{same_flag}
 use Rattle.header_wire.specs.declared.icmpv4.AddressMask.{AddressMask}
 use Rattle.header_wire.specs.declared.icmpv4.Kind.{Kind}
 use Rattle.header_wire.specs.declared.icmpv4.Message.{Message}
@@ -23,11 +22,10 @@ use Rattle.header_wire.specs.declared.icmpv4.Refusal.{Refusal}
 use Rattle.header_wire.specs.declared.icmpv4.Timestamp.{Timestamp}
 use Rattle.header_wire.specs.Icmpv4.{Value, timestamp, timestamp_reply, mask_request, mask_reply, solicitation}
 use Rattle.header_wire.specs.Icmpv4.{value_of, kind_in, text, kind_checks, IsTimestamp, IsAddressMask, IsContent}
-use Rattle.header_wire.specs.Icmpv4.{IsMessage, TimesFit, MaskFits, IsCanonical, format, Emits, Request}
-use Rattle.header_wire.specs.Icmpv4.{extended_request, extended_reply, IsExtendedRequest, IsExtendedReply, Advert}
-use Rattle.header_wire.specs.Icmpv4.{advertisement, count_of, words_of, entries_len, advert_checks, IsAdvertisement}
-use Rattle.header_wire.specs.Icmpv4.{AdvertFits}
-use Rattle.header_wire.specs.declared.icmpv4.ExtendedEchoReply.{ExtendedEchoReply}
+use Rattle.header_wire.specs.Icmpv4.{IsMessage, TimesFit, MaskFits, IsCanonical, format, Emits, Advert, advertisement}
+use Rattle.header_wire.specs.Icmpv4.{extended_request, extended_reply, count_of, words_of, entries_len, advert_checks}
+use Rattle.header_wire.specs.Icmpv4.{IsAdvertisement, AdvertFits}
+use Rattle.header_wire.proofs.ExtendedEchoes.{request-one, reply-one, request_fits, reply_fits}
 use Rattle.header_wire.proofs.MessageTexts.{length-text, message_read}
 
 -- ---- what was read
@@ -70,46 +68,6 @@ advert-one bytes v w a b =
     let four = a.entries ∙ sym b.entries in
     let same : an_advert v.count v.words v.lifetime v.entries ≡ an_advert w.count w.words w.lifetime w.entries =
     rw (one, two, three, four) refl in
-    same
-
-abbrev a_request : ℕ → ℕ → Bool → List ℕ → Request
-a_request ident seq_no local structure =
-    record { ident = ident; seq_no = seq_no; local = local; structure = structure }
-
-request-one : (bytes : List ℕ) (r s : Request) → IsExtendedRequest bytes r → IsExtendedRequest bytes s → r ≡ s
-request-one bytes r s a b =
-    let one = a.ident ∙ sym b.ident in
-    let two = a.seq_no ∙ sym b.seq_no in
-    let three = same_flag r.local s.local _ a.local b.local in
-    let four = a.structure ∙ sym b.structure in
-    let same : a_request r.ident r.seq_no r.local r.structure ≡ a_request s.ident s.seq_no s.local s.structure =
-    rw (one, two, three, four) refl in
-    same
-
-abbrev a_reply : ℕ → ℕ → ℕ → ℕ → Bool → Bool → Bool → ExtendedEchoReply
-a_reply code ident seq_no state active four six =
-    record {
-      code = code;
-      ident = ident;
-      seq_no = seq_no;
-      state = state;
-      active = active;
-      ipv4 = four;
-      ipv6 = six;
-    }
-
-reply-one : (bytes : List ℕ) (r s : ExtendedEchoReply) → IsExtendedReply bytes r → IsExtendedReply bytes s → r ≡ s
-reply-one bytes r s a b =
-    let one = a.code ∙ sym b.code in
-    let two = a.ident ∙ sym b.ident in
-    let three = a.seq_no ∙ sym b.seq_no in
-    let four = a.state ∙ sym b.state in
-    let five = same_flag r.active s.active _ a.active b.active in
-    let six = same_flag r.ipv4 s.ipv4 _ a.ipv4 b.ipv4 in
-    let seven = same_flag r.ipv6 s.ipv6 _ a.ipv6 b.ipv6 in
-    let same : a_reply r.code r.ident r.seq_no r.state r.active r.ipv4 r.ipv6
-    ≡ a_reply s.code s.ident s.seq_no s.state s.active s.ipv4 s.ipv6 =
-    rw (one, two, three, four, five, six, seven) refl in
     same
 
 kind_of_value : Value → Kind
@@ -198,16 +156,8 @@ accepted bytes (mask_reply n) are m = mask_fits bytes n are m.content.1
 accepted bytes solicitation are m = tt
 accepted bytes (advertisement v) are m =
     advert_fits bytes v are (passes_of bytes (advertisement v) m) m.content.1
-accepted bytes (extended_request r) are m =
-    let is = m.content.1 in
-    (omega (arith, is.ident, number_of-small 4 6 bytes refl are), omega (arith, is.seq_no, are 6))
-accepted bytes (extended_reply r) are m =
-    let is = m.content.1 in (
-      omega (arith, is.code, are 1),
-      omega (arith, is.ident, number_of-small 4 6 bytes refl are),
-      omega (arith, is.seq_no, are 6),
-      omega (arith, is.state, are 7),
-    )
+accepted bytes (extended_request r) are m = request_fits bytes r are m.content.1
+accepted bytes (extended_reply r) are m = reply_fits bytes r are m.content.1
 
 -- ---- the format
 

@@ -1,6 +1,6 @@
 -- The texts of messages of ICMPv4, and what is read in them.
-use Rattle.std.proofs.Common.{◌≡◌, ◌↔◌, ℕ, ◌+◌, ◌*◌, ◌/◌, ◌%◌, ◌-◌, ◌≤◌, Bool, true, false, IsTrue, List, [], ◌∷◌, ◌++◌}
-use Rattle.std.proofs.Common.{length, take, refl, sym, ap, subst, ◌∙◌, arith}
+use Rattle.std.proofs.Common.{◌≡◌, ℕ, ◌+◌, ◌*◌, ◌-◌, ◌≤◌, List, [], ◌∷◌, ◌++◌, length, take, refl, sym, ap, subst}
+use Rattle.std.proofs.Common.{◌∙◌, arith}
 use Rattle.std.proofs.lemmas.List.{append-nil, take_all}
 use Rattle.byteorder.specs.Endian.{big_bytes}
 use Rattle.byteorder.specs.Numbers.{big_number-reads_back}
@@ -16,10 +16,11 @@ use Rattle.header_wire.specs.declared.icmpv4.Kind.{Kind}
 use Rattle.header_wire.specs.declared.icmpv4.Timestamp.{Timestamp}
 use Rattle.header_wire.specs.Icmpv4.{Value, timestamp, timestamp_reply, mask_request, mask_reply, solicitation}
 use Rattle.header_wire.specs.Icmpv4.{kind_number, kind_in, text, text_len, kind_checks, IsTimestamp, IsAddressMask}
-use Rattle.header_wire.specs.Icmpv4.{IsContent, IsMessage, TimesFit, MaskFits, IsCanonical, packet_text, Request, bit}
-use Rattle.header_wire.specs.Icmpv4.{flags_number, extended_request, extended_reply, IsExtendedRequest, IsExtendedReply}
-use Rattle.header_wire.specs.Icmpv4.{RequestFits, ReplyFits, Advert, advertisement, AdvertFits}
-use Rattle.header_wire.specs.declared.icmpv4.ExtendedEchoReply.{ExtendedEchoReply}
+use Rattle.header_wire.specs.Icmpv4.{IsContent, IsMessage, TimesFit, MaskFits, IsCanonical, packet_text, Advert}
+use Rattle.header_wire.specs.Icmpv4.{extended_request, extended_reply, advertisement, AdvertFits}
+use Rattle.header_wire.specs.ExtendedEcho.{Request}
+use Rattle.header_wire.specs.declared.extended_echo.ExtendedEchoReply.{ExtendedEchoReply}
+use Rattle.header_wire.proofs.ExtendedEchoes.{request_rest, reply_rest, request-text, request_read, reply_read}
 
 -- ---- the texts, a and b the bytes of the checksum
 
@@ -38,14 +39,10 @@ advert_shape v a b =
     kind_number Kind.RouterAdvertisement ∷ 0 ∷ a ∷ b ∷ v.count ∷ v.words ∷ (big_bytes 2 v.lifetime ++ v.entries)
 
 abbrev request_shape : Request → ℕ → ℕ → List ℕ
-request_shape r a b =
-    kind_number Kind.ExtendedEchoRequest ∷ 0 ∷ a ∷ b
-    ∷ (big_bytes 2 r.ident ++ (r.seq_no ∷ bit r.local 1 ∷ r.structure))
+request_shape r a b = kind_number Kind.ExtendedEchoRequest ∷ 0 ∷ a ∷ b ∷ request_rest r
 
 abbrev reply_shape : ExtendedEchoReply → ℕ → ℕ → List ℕ
-reply_shape r a b =
-    kind_number Kind.ExtendedEchoReply ∷ r.code ∷ a ∷ b
-    ∷ (big_bytes 2 r.ident ++ (r.seq_no ∷ flags_number r ∷ []))
+reply_shape r a b = kind_number Kind.ExtendedEchoReply ∷ r.code ∷ a ∷ b ∷ reply_rest r
 
 abbrev shape : Value → ℕ → ℕ → List ℕ
 shape (timestamp t) a b = timestamp_shape Kind.Timestamp t a b
@@ -70,10 +67,7 @@ text-shape (advertisement v) =
     ∷ (big_bytes 2 v.lifetime ++ l))
     (append-nil v.entries)
 text-shape (extended_request r) =
-    ap
-    (λ (l : List ℕ). kind_number Kind.ExtendedEchoRequest ∷ 0 ∷ 0 ∷ 0
-    ∷ (big_bytes 2 r.ident ++ (r.seq_no ∷ bit r.local 1 ∷ l)))
-    (append-nil r.structure)
+    ap (λ (l : List ℕ). kind_number Kind.ExtendedEchoRequest ∷ 0 ∷ 0 ∷ 0 ∷ l) (request-text r)
 text-shape (extended_reply r) = refl
 
 shape-sealed : (v : Value) → (a : ℕ) × (b : ℕ) × (sealed checksum_field (shape v 0 0) 0 ≡ shape v a b)
@@ -135,74 +129,6 @@ mask_read kind m a b (one, two) = record {
   mask = refl;
 }
 
--- a flag that is set, and one that is not
-set : {P : Type 0} → P → IsTrue true ↔ P
-set p = (λ yes. p, λ yes. refl)
-
-unset : {P : Type 0} → (P → ⊥) → IsTrue false ↔ P
-unset none = (λ no. cc, λ p. absurd (none p))
-
-local_read : (flag : Bool) → IsTrue flag ↔ (bit flag 1 % 2 ≡ 1)
-local_read true = set refl
-local_read false = unset (λ e. omega (arith, e))
-
-record Flags (state : ℕ) (active four six : Bool) (n : ℕ) : Type 0 where
-  state_is : state ≡ n / 32
-  active_is : IsTrue active ↔ (n / 4 % 2 ≡ 1)
-  four_is : IsTrue four ↔ (n / 2 % 2 ≡ 1)
-  six_is : IsTrue six ↔ (n % 2 ≡ 1)
-
-flags_read : (state : ℕ) (active four six : Bool)
-    → Flags state active four six (32 * state + bit active 4 + bit four 2 + bit six 1)
-flags_read state true true true = record {
-  state_is = omega arith;
-  active_is = set (omega arith);
-  four_is = set (omega arith);
-  six_is = set (omega arith);
-}
-flags_read state true true false = record {
-  state_is = omega arith;
-  active_is = set (omega arith);
-  four_is = set (omega arith);
-  six_is = unset (λ e. omega (arith, e));
-}
-flags_read state true false true = record {
-  state_is = omega arith;
-  active_is = set (omega arith);
-  four_is = unset (λ e. omega (arith, e));
-  six_is = set (omega arith);
-}
-flags_read state true false false = record {
-  state_is = omega arith;
-  active_is = set (omega arith);
-  four_is = unset (λ e. omega (arith, e));
-  six_is = unset (λ e. omega (arith, e));
-}
-flags_read state false true true = record {
-  state_is = omega arith;
-  active_is = unset (λ e. omega (arith, e));
-  four_is = set (omega arith);
-  six_is = set (omega arith);
-}
-flags_read state false true false = record {
-  state_is = omega arith;
-  active_is = unset (λ e. omega (arith, e));
-  four_is = set (omega arith);
-  six_is = unset (λ e. omega (arith, e));
-}
-flags_read state false false true = record {
-  state_is = omega arith;
-  active_is = unset (λ e. omega (arith, e));
-  four_is = unset (λ e. omega (arith, e));
-  six_is = set (omega arith);
-}
-flags_read state false false false = record {
-  state_is = omega arith;
-  active_is = unset (λ e. omega (arith, e));
-  four_is = unset (λ e. omega (arith, e));
-  six_is = unset (λ e. omega (arith, e));
-}
-
 advert_says : (v : Advert) (a b : ℕ) → AdvertFits v → Says (advert_shape v a b) (advertisement v)
 unfolding part
 advert_says v a b c =
@@ -221,29 +147,6 @@ advert_says v a b c =
               sym (ap (λ (n : ℕ). take n v.entries) wide ∙ take_all (length v.entries) v.entries (omega arith));
         },
       );
-    }
-
-request_read : (r : Request) (a b : ℕ) → RequestFits r → IsExtendedRequest (request_shape r a b) r
-unfolding part
-request_read r a b (one, two) = record {
-  ident = sym (big_number-reads_back 2 r.ident [] (omega (arith, one)));
-  seq_no = refl;
-  local = local_read r.local;
-  structure = refl;
-}
-
-reply_read : (r : ExtendedEchoReply) (a b : ℕ) → ReplyFits r → IsExtendedReply (reply_shape r a b) r
-unfolding part
-reply_read r a b (code, one, two, three) =
-    let flags = flags_read r.state r.active r.ipv4 r.ipv6 in
-    record {
-      code = refl;
-      ident = sym (big_number-reads_back 2 r.ident [] (omega (arith, one)));
-      seq_no = refl;
-      state = flags.state_is;
-      active = flags.active_is;
-      ipv4 = flags.four_is;
-      ipv6 = flags.six_is;
     }
 
 says : (v : Value) (a b : ℕ) → IsCanonical v → Says (shape v a b) v
@@ -267,9 +170,12 @@ says solicitation a b c = record { passes = (refl, (omega arith, tt)); content =
 says (advertisement v) a b c = advert_says v a b c
 says (extended_request r) a b c = record {
   passes = tt;
-  content = (refl, request_read r a b c);
+  content = (refl, request_read r (kind_number Kind.ExtendedEchoRequest) 0 a b c);
 }
-says (extended_reply r) a b c = record { passes = tt; content = (refl, reply_read r a b c) }
+says (extended_reply r) a b c = record {
+  passes = tt;
+  content = (refl, reply_read r (kind_number Kind.ExtendedEchoReply) a b c);
+}
 
 pub message_read : (v : Value) → IsCanonical v → IsMessage (packet_text v) v
 message_read v c =

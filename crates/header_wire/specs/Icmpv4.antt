@@ -21,15 +21,9 @@
 -- |number of addrs| words of each |       lifetime in seconds     |
 -- +---------------+---------------+-------------------------------+
 --
--- An extended request and its reply (RFC 8335 sections 2 and 3), behind the checksum; data follows a request:
---
--- +-------------------------------+---------------+-------------+-+
--- |          identifier           |sequence number|  reserved   |L|
--- +-------------------------------+---------------+-----+---+-+-+-+
--- |          identifier           |sequence number|state|res|A|4|6|
--- +-------------------------------+---------------+-----+---+-+-+-+
-use Rattle.std.specs.Prelude.{◌≡◌, ◌↔◌, ℕ, ◌+◌, ◌*◌, ◌/◌, ◌%◌, ◌^◌, ◌<◌, ◌≤◌, ◌==◌, if◌then◌else◌, Bool, IsTrue}
-use Rattle.std.specs.Prelude.{List, [], ◌∷◌, ◌++◌, length, drop, slice_index, Option, Some, None}
+-- Extended requests and their replies are those of ExtendedEcho.antt.
+use Rattle.std.specs.Prelude.{◌≡◌, ℕ, ◌+◌, ◌*◌, ◌^◌, ◌<◌, ◌≤◌, ◌==◌, if◌then◌else◌, List, [], ◌∷◌, ◌++◌, length}
+use Rattle.std.specs.Prelude.{slice_index, Option, Some, None}
 use Rattle.wirebase.specs.Bytes.{field, over, bytes_of, number_of}
 use Rattle.wirebase.specs.ByteWriter.{be8, be16, be32, fields}
 use Rattle.wirebase.specs.Checks.{Check, Fails, Passes, check}
@@ -38,13 +32,14 @@ use Rattle.wirebase.specs.Format.{Format, RoundTrips}
 use Rattle.wirebase.specs.Icmp.{checksum_field, ident_field, seq_no_field}
 use Rattle.wirebase.specs.Ipv4.{octets_of}
 use Rattle.header_wire.specs.declared.icmpv4.AddressMask.{AddressMask}
-use Rattle.header_wire.specs.declared.icmpv4.ExtendedEchoReply.{ExtendedEchoReply}
-use Rattle.header_wire.specs.declared.icmpv4.ExtendedEchoRequest.{ExtendedEchoRequest}
+use Rattle.header_wire.specs.declared.extended_echo.ExtendedEchoReply.{ExtendedEchoReply}
 use Rattle.header_wire.specs.declared.icmpv4.Kind.{Kind}
 use Rattle.header_wire.specs.declared.icmpv4.Message.{Message}
 use Rattle.header_wire.specs.declared.icmpv4.Refusal.{Refusal}
 use Rattle.header_wire.specs.declared.icmpv4.RouterAdvertisement.{RouterAdvertisement}
 use Rattle.header_wire.specs.declared.icmpv4.Timestamp.{Timestamp}
+use Rattle.header_wire.specs.ExtendedEcho.{Request, request_of, request_fields, reply_fields, IsExtendedRequest}
+use Rattle.header_wire.specs.ExtendedEcho.{IsExtendedReply, RequestFits, ReplyFits}
 use Rattle.header_wire.specs.Routers.{count_in, words_in, octets_in}
 
 -- ---- types
@@ -71,16 +66,6 @@ abbrev pub kind_in : List ℕ → Option Kind
 kind_in bytes = kind_of (slice_index bytes 0)
 
 -- ---- values
-
--- an extended request by its content: the structure is its data
-pub record Request : Type 0 where
-  pub ident : ℕ
-  pub seq_no : ℕ
-  pub local : Bool
-  pub structure : List ℕ
-
-abbrev pub request_of : ExtendedEchoRequest → Request
-request_of r = record { ident = r.ident; seq_no = r.seq_no; local = r.local; structure = r.«data».now }
 
 -- an advertisement by its content: the number of its routers, the words of each, how long they are valid, and their
 -- octets
@@ -140,22 +125,11 @@ abbrev pub advert_fields : Advert → List (List ℕ)
 advert_fields a =
     header_fields Kind.RouterAdvertisement 0 ++ be8 a.count ∷ be8 a.words ∷ be16 a.lifetime ∷ a.entries ∷ []
 
--- a flag in its place
-abbrev pub bit : Bool → ℕ → ℕ
-bit flag value = if flag then value else 0
-
--- the state and the flags of an extended reply, with zeros in the reserved bits
-abbrev pub flags_number : ExtendedEchoReply → ℕ
-flags_number r = 32 * r.state + bit r.active 4 + bit r.ipv4 2 + bit r.ipv6 1
-
 abbrev pub extended_request_fields : Request → List (List ℕ)
-extended_request_fields r =
-    header_fields Kind.ExtendedEchoRequest 0
-    ++ be16 r.ident ∷ be8 r.seq_no ∷ be8 (bit r.local 1) ∷ r.structure ∷ []
+extended_request_fields r = header_fields Kind.ExtendedEchoRequest 0 ++ request_fields r
 
 abbrev pub extended_reply_fields : ExtendedEchoReply → List (List ℕ)
-extended_reply_fields r =
-    header_fields Kind.ExtendedEchoReply r.code ++ be16 r.ident ∷ be8 r.seq_no ∷ be8 (flags_number r) ∷ []
+extended_reply_fields r = header_fields Kind.ExtendedEchoReply r.code ++ reply_fields r
 
 abbrev pub message_fields : Value → List (List ℕ)
 message_fields (timestamp t) = timestamp_fields Kind.Timestamp t
@@ -249,21 +223,6 @@ pub record IsAdvertisement (bytes : List ℕ) (a : Advert) : Type 0 where
   pub lifetime : a.lifetime ≡ number_of (field 6 8) bytes
   pub entries : a.entries ≡ bytes_of (field 8 (8 + entries_len bytes)) bytes
 
-pub record IsExtendedRequest (bytes : List ℕ) (r : Request) : Type 0 where
-  pub ident : r.ident ≡ number_of ident_field bytes
-  pub seq_no : r.seq_no ≡ slice_index bytes 6
-  pub local : IsTrue r.local ↔ (slice_index bytes 7 % 2 ≡ 1)
-  pub structure : r.structure ≡ drop 8 bytes
-
-pub record IsExtendedReply (bytes : List ℕ) (r : ExtendedEchoReply) : Type 0 where
-  pub code : r.code ≡ code_in bytes
-  pub ident : r.ident ≡ number_of ident_field bytes
-  pub seq_no : r.seq_no ≡ slice_index bytes 6
-  pub state : r.state ≡ slice_index bytes 7 / 32
-  pub active : IsTrue r.active ↔ (slice_index bytes 7 / 4 % 2 ≡ 1)
-  pub ipv4 : IsTrue r.ipv4 ↔ (slice_index bytes 7 / 2 % 2 ≡ 1)
-  pub ipv6 : IsTrue r.ipv6 ↔ (slice_index bytes 7 % 2 ≡ 1)
-
 -- What the bytes say; what follows is not looked at, and neither are reserved bits. The data of an extended request is
 -- all that follows its fields.
 abbrev pub IsContent : List ℕ → Value → Type 0
@@ -309,12 +268,6 @@ pub record AdvertFits (a : Advert) : Type 0 where
   pub words : a.words < 2 ^ 8
   pub lifetime : a.lifetime < 2 ^ 16
   pub entries : length a.entries ≡ 4 * (a.words * a.count)
-
-abbrev pub RequestFits : Request → Type 0
-RequestFits r = (r.ident < 2 ^ 16) × (r.seq_no < 2 ^ 8)
-
-abbrev pub ReplyFits : ExtendedEchoReply → Type 0
-ReplyFits r = (r.code < 2 ^ 8) × (r.ident < 2 ^ 16) × (r.seq_no < 2 ^ 8) × (r.state < 8)
 
 -- a message that its own text gives back
 abbrev pub IsCanonical : Value → Type 0

@@ -1,11 +1,11 @@
 -- What messages and their refusals print.
-use Rattle.std.specs.Prelude.{ℕ, List, [], ◌∷◌, codes, decimal, length}
-use Rattle.wirebase.specs.Display.{pieces, truth_text}
+use Rattle.std.specs.Prelude.{ℕ, List, [], ◌∷◌, codes, decimal}
+use Rattle.wirebase.specs.Display.{pieces}
 use Rattle.wirebase.specs.Ipv4.{address_text}
 use Rattle.header_wire.specs.Icmpv4.{Value, timestamp, timestamp_reply, mask_request, mask_reply, solicitation}
-use Rattle.header_wire.specs.Icmpv4.{advertisement, extended_request, extended_reply, Advert, Request}
+use Rattle.header_wire.specs.Icmpv4.{advertisement, extended_request, extended_reply, Advert}
+use Rattle.header_wire.specs.ExtendedEchoDisplay.{request_display, reply_display}
 use Rattle.header_wire.specs.declared.icmpv4.AddressMask.{AddressMask}
-use Rattle.header_wire.specs.declared.icmpv4.ExtendedEchoReply.{ExtendedEchoReply}
 use Rattle.header_wire.specs.declared.icmpv4.Refusal.{Refusal}
 use Rattle.header_wire.specs.declared.icmpv4.Timestamp.{Timestamp}
 
@@ -25,23 +25,6 @@ mask_display m =
 
 abbrev pub advert_display : Advert → List ℕ
 advert_display a = pieces (codes "lifetime=" ∷ decimal a.lifetime ∷ codes " routers=" ∷ decimal a.count ∷ [])
-
-abbrev pub request_display : Request → List ℕ
-request_display r =
-    pieces (codes "id=" ∷ decimal r.ident
-    ∷ codes " seq=" ∷ decimal r.seq_no
-    ∷ codes " local=" ∷ truth_text r.local
-    ∷ codes " len=" ∷ decimal (length r.structure) ∷ [])
-
-abbrev pub reply_display : ExtendedEchoReply → List ℕ
-reply_display r =
-    pieces (codes "code=" ∷ decimal r.code
-    ∷ codes " id=" ∷ decimal r.ident
-    ∷ codes " seq=" ∷ decimal r.seq_no
-    ∷ codes " state=" ∷ decimal r.state
-    ∷ codes " active=" ∷ truth_text r.active
-    ∷ codes " ipv4=" ∷ truth_text r.ipv4
-    ∷ codes " ipv6=" ∷ truth_text r.ipv6 ∷ [])
 
 abbrev pub message_display : Value → List ℕ
 message_display (timestamp t) = pieces (codes "ICMPv4 timestamp " ∷ times_display t ∷ [])

@@ -1,3 +1,5 @@
+pub mod ExtendedEcho
+pub mod ExtendedEchoDisplay
 pub mod Icmpv4
 pub mod Icmpv4Display
 pub mod Ipv4

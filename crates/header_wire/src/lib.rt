@@ -2,6 +2,7 @@
 //! RFC 950, RFC 1256, RFC 8335), read and written with their checksums.
 #![tactic(auto)]
 
+mod extended_echo;
 pub mod icmpv4;
 pub mod ipv4;
 pub mod options;

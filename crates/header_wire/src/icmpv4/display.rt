@@ -1,14 +1,11 @@
 //! What messages and their refusals print.
 
 ghost use Rattle.std.specs.Prelude.{Some};
-ghost use Rattle.header_wire.specs.Icmpv4.{value_of, advert_of, request_of};
-ghost use Rattle.header_wire.specs.Icmpv4Display.{times_display, mask_display, advert_display, request_display};
-ghost use Rattle.header_wire.specs.Icmpv4Display.{reply_display, message_display, refusal_display};
+ghost use Rattle.header_wire.specs.Icmpv4.{value_of, advert_of};
+ghost use Rattle.header_wire.specs.Icmpv4Display.{times_display, mask_display, advert_display, message_display};
+ghost use Rattle.header_wire.specs.Icmpv4Display.{refusal_display};
 
-use super::{
-    AddressMask, ExtendedEchoReply, ExtendedEchoRequest, Message, Refusal, RouterAdvertisement,
-    Timestamp,
-};
+use super::{AddressMask, Message, Refusal, RouterAdvertisement, Timestamp};
 use std::fmt;
 
 /// The numbers and the times.
@@ -48,38 +45,6 @@ impl fmt::Display for RouterAdvertisement<'_> {
         let lifetime = self.lifetime;
         let routers = self.routers.len();
         write!(f, "lifetime={lifetime} routers={routers}")
-    }
-}
-
-/// The numbers, the flag, and the number of bytes of the data.
-impl fmt::Display for ExtendedEchoRequest<'_> {
-    ghost output = { λ request. Some (request_display (request_of request)) };
-
-    fn fmt<W: fmt::Write>(&self, f: &mut fmt::Formatter<W>) -> fmt::Result {
-        let ident = self.ident;
-        let seq_no = self.seq_no;
-        let local = self.local;
-        let len = self.data.len();
-        write!(f, "id={ident} seq={seq_no} local={local} len={len}")
-    }
-}
-
-/// The code, the numbers, the state and the flags.
-impl fmt::Display for ExtendedEchoReply {
-    ghost output = { λ reply. Some (reply_display reply) };
-
-    fn fmt<W: fmt::Write>(&self, f: &mut fmt::Formatter<W>) -> fmt::Result {
-        let code = self.code;
-        let ident = self.ident;
-        let seq_no = self.seq_no;
-        let state = self.state;
-        let active = self.active;
-        let ipv4 = self.ipv4;
-        let ipv6 = self.ipv6;
-        write!(
-            f,
-            "code={code} id={ident} seq={seq_no} state={state} active={active} ipv4={ipv4} ipv6={ipv6}"
-        )
     }
 }
 

@@ -3,15 +3,15 @@
 ghost use Rattle.std.specs.Prelude.{◌≡◌, ◌≤◌, length, IfOk, IfErr, IsOkAnd};
 ghost use Rattle.wirebase.specs.Checks.{Fails, Passes};
 ghost use Rattle.header_wire.specs.Icmpv4.{Value, value_of, IsMessage, Refuses, IsContent, kind_in, kind_checks};
-ghost use Rattle.header_wire.specs.Icmpv4.{fixed_checks, IsTimestamp, IsAddressMask, request_of};
-ghost use Rattle.header_wire.specs.Icmpv4.{IsExtendedRequest, IsExtendedReply, advert_of, advert_checks};
-ghost use Rattle.header_wire.specs.Icmpv4.{IsAdvertisement};
+ghost use Rattle.header_wire.specs.Icmpv4.{fixed_checks, IsTimestamp, IsAddressMask, IsAdvertisement, advert_of};
+ghost use Rattle.header_wire.specs.Icmpv4.{advert_checks};
 
 use super::routers::ENTRY_WORDS;
 use super::{
-    ACTIVE, AddressMask, ExtendedEchoReply, ExtendedEchoRequest, IPV4, Kind, Message, Refusal,
-    RouterAdvertisement, Routers, STATE_UNIT, Timestamp, field, kind_numbered,
+    AddressMask, Kind, Message, Refusal, RouterAdvertisement, Routers, Timestamp, field,
+    kind_numbered,
 };
+use crate::extended_echo;
 use wirebase::{Ipv4Address, Octets, checksum};
 
 // The message that these octets are.
@@ -51,10 +51,10 @@ fn read_content(octets: &[u8]) -> Result<Message<'_>, Refusal>
             Ok(Message::RouterAdvertisement(read_advertisement(octets)?))
         }
         Some(Kind::ExtendedEchoRequest) => {
-            Ok(Message::ExtendedEchoRequest(read_extended_request(octets)))
+            Ok(Message::ExtendedEchoRequest(extended_echo::read_request(octets)))
         }
         Some(Kind::ExtendedEchoReply) => {
-            Ok(Message::ExtendedEchoReply(read_extended_reply(octets)))
+            Ok(Message::ExtendedEchoReply(extended_echo::read_reply(octets)))
         }
         None => Err(Refusal::UnknownType(number)),
     }
@@ -139,34 +139,4 @@ fn read_advertisement(octets: &[u8]) -> Result<RouterAdvertisement<'_>, Refusal>
             octets: &octets[field::HEADER_END..end],
         },
     })
-}
-
-// The request about an interface.
-fn read_extended_request(octets: &[u8]) -> ExtendedEchoRequest<'_>
-    requires { 8 ≤ length octets.now }
-    ensures { IsExtendedRequest octets.now (request_of result) }
-{
-    ExtendedEchoRequest {
-        ident: octets.u16_at(field::IDENT),
-        seq_no: octets[field::EXTENDED_SEQ_NO],
-        local: octets[field::FLAGS] % 2 == 1,
-        data: &octets[field::HEADER_END..],
-    }
-}
-
-// The answer about an interface.
-fn read_extended_reply(octets: &[u8]) -> ExtendedEchoReply
-    requires { 8 ≤ length octets.now }
-    ensures { IsExtendedReply octets.now result }
-{
-    let flags = octets[field::FLAGS];
-    ExtendedEchoReply {
-        code: octets[field::CODE],
-        ident: octets.u16_at(field::IDENT),
-        seq_no: octets[field::EXTENDED_SEQ_NO],
-        state: flags / STATE_UNIT,
-        active: flags / ACTIVE % 2 == 1,
-        ipv4: flags / IPV4 % 2 == 1,
-        ipv6: flags % 2 == 1,
-    }
 }

@@ -4,14 +4,16 @@ ghost use Rattle.std.specs.Prelude.{◌≡◌, ◌≤◌, ◌<◌, ◌+◌, leng
 ghost use Rattle.wirebase.specs.Bytes.{over};
 ghost use Rattle.wirebase.specs.ByteWriter.{free, Puts};
 ghost use Rattle.header_wire.specs.Icmpv4.{value_of, CanEmit, text, timestamp_fields, mask_fields, solicitation_fields};
-ghost use Rattle.header_wire.specs.Icmpv4.{header_fields, request_of, extended_request_fields, extended_reply_fields};
-ghost use Rattle.header_wire.specs.Icmpv4.{bit, flags_number, advert_of, advert_fields};
+ghost use Rattle.header_wire.specs.Icmpv4.{header_fields, extended_request_fields, extended_reply_fields, advert_of};
+ghost use Rattle.header_wire.specs.Icmpv4.{advert_fields};
+ghost use Rattle.header_wire.specs.ExtendedEcho.{request_of};
 
 use super::routers::ENTRY_WORDS;
 use super::{
-    ACTIVE, AddressMask, ExtendedEchoReply, ExtendedEchoRequest, IPV4, IPV6, Kind, LOCAL, Message,
-    RouterAdvertisement, STATE_UNIT, Timestamp,
+    AddressMask, ExtendedEchoReply, ExtendedEchoRequest, Kind, Message, RouterAdvertisement,
+    Timestamp,
 };
+use crate::extended_echo;
 use wirebase::ByteWriter;
 
 // Writes the fields of the message over the front of the octets, with a checksum of zero.
@@ -101,10 +103,7 @@ fn put_extended_request(w: &mut ByteWriter<'_>, request: &ExtendedEchoRequest<'_
     ensures { Puts w.old w.new (extended_request_fields (request_of request.now)) }
 {
     put_header(w, Kind::ExtendedEchoRequest, 0);
-    w.put_u16(request.ident);
-    w.put_u8(request.seq_no);
-    w.put_u8(bit(request.local, LOCAL));
-    w.put_bytes(request.data);
+    extended_echo::put_request(w, request);
 }
 
 // Writes the fields of an answer about an interface.
@@ -114,26 +113,5 @@ fn put_extended_reply(w: &mut ByteWriter<'_>, reply: &ExtendedEchoReply)
     ensures { Puts w.old w.new (extended_reply_fields reply.now) }
 {
     put_header(w, Kind::ExtendedEchoReply, reply.code);
-    w.put_u16(reply.ident);
-    w.put_u8(reply.seq_no);
-    w.put_u8(reply_flags(reply));
-}
-
-// The state and the flags of an answer.
-fn reply_flags(reply: &ExtendedEchoReply) -> u8
-    requires { reply.now.state < 8 }
-    ensures { result ≡ flags_number reply.now }
-{
-    STATE_UNIT * reply.state
-        + bit(reply.active, ACTIVE)
-        + bit(reply.ipv4, IPV4)
-        + bit(reply.ipv6, IPV6)
-}
-
-// A flag of this value.
-fn bit(flag: bool, value: u8) -> u8
-    ensures value { result ≡ bit flag value }
-    ensures small { result ≤ value }
-{
-    if flag { value } else { 0 }
+    extended_echo::put_reply(w, reply);
 }

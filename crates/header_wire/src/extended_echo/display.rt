@@ -1,0 +1,40 @@
+//! What requests about an interface and their answers print.
+
+ghost use Rattle.std.specs.Prelude.{Some};
+ghost use Rattle.header_wire.specs.ExtendedEcho.{request_of};
+ghost use Rattle.header_wire.specs.ExtendedEchoDisplay.{request_display, reply_display};
+
+use super::{ExtendedEchoReply, ExtendedEchoRequest};
+use std::fmt;
+
+/// The numbers, the flag, and the number of bytes of the data.
+impl fmt::Display for ExtendedEchoRequest<'_> {
+    ghost output = { λ request. Some (request_display (request_of request)) };
+
+    fn fmt<W: fmt::Write>(&self, f: &mut fmt::Formatter<W>) -> fmt::Result {
+        let ident = self.ident;
+        let seq_no = self.seq_no;
+        let local = self.local;
+        let len = self.data.len();
+        write!(f, "id={ident} seq={seq_no} local={local} len={len}")
+    }
+}
+
+/// The code, the numbers, the state and the flags.
+impl fmt::Display for ExtendedEchoReply {
+    ghost output = { λ reply. Some (reply_display reply) };
+
+    fn fmt<W: fmt::Write>(&self, f: &mut fmt::Formatter<W>) -> fmt::Result {
+        let code = self.code;
+        let ident = self.ident;
+        let seq_no = self.seq_no;
+        let state = self.state;
+        let active = self.active;
+        let ipv4 = self.ipv4;
+        let ipv6 = self.ipv6;
+        write!(
+            f,
+            "code={code} id={ident} seq={seq_no} state={state} active={active} ipv4={ipv4} ipv6={ipv6}"
+        )
+    }
+}
