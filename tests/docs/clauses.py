@@ -336,7 +336,9 @@ class Crate:
         of = next((it for it in (owner, *re.findall(r"\w+", trait)) if it in self.types), None)
         if not of:
             return None
-        whole = "::".join((*(path if path in self.types[of] else self.types[of][0]), of))
+        # Of types of one name that of the source's own module, or of one around it.
+        around = [at for at in self.types[of] if path[: len(at)] == at]
+        whole = "::".join((*max(around, key=len, default=self.types[of][0]), of))
         if not trait:
             return (whole, call) if call else None
         named = lambda text: re.sub(rf"\b{of}\b", whole, text)
