@@ -2,6 +2,8 @@ pub mod ExtendedEcho
 pub mod ExtendedEchoDisplay
 pub mod Icmpv4
 pub mod Icmpv4Display
+pub mod Icmpv6
+pub mod Icmpv6Display
 pub mod Ipv4
 pub mod Ipv4Display
 pub mod Options

@@ -4,6 +4,8 @@
 #[cfg(test)]
 mod headers;
 #[cfg(test)]
+mod icmpv6;
+#[cfg(test)]
 mod messages;
 #[cfg(test)]
 mod options;
