@@ -7,6 +7,7 @@ mod reading;
 mod routers;
 mod writing;
 
+pub use crate::headers::extended_echo::{ExtendedEchoReply, ExtendedEchoRequest};
 use crate::wirebase::{Ipv4Address, checksum};
 pub use routers::{Router, Routers, RoutersIterator};
 
@@ -31,30 +32,13 @@ mod field {
 
     pub const MASK: Field = 8..12;
 
-    pub const EXTENDED_SEQ_NO: usize = 6;
-
     // the number of routers, the words of each, and how long they are valid
     pub const ROUTER_COUNT: usize = 4;
 
     pub const ENTRY_WORDS: usize = 5;
 
     pub const LIFETIME: Field = 6..8;
-
-    // the flag L of an extended request; the state and the flags of its reply
-    pub const FLAGS: usize = 7;
 }
-
-// The unit of the state of an extended reply, and the flags below it.
-const STATE_UNIT: u8 = 32;
-
-const ACTIVE: u8 = 4;
-
-const IPV4: u8 = 2;
-
-const IPV6: u8 = 1;
-
-// The flag of an extended request.
-const LOCAL: u8 = 1;
 
 /// A message.
 #[derive(Debug, PartialEq, Eq, Clone, Copy)]
@@ -113,41 +97,6 @@ pub struct RouterAdvertisement<'a> {
     pub routers: Routers<'a>,
 }
 
-/// A request about an interface.
-#[derive(Debug, PartialEq, Eq, Clone, Copy)]
-pub struct ExtendedEchoRequest<'a> {
-    /// The identifier, which the answer has too.
-    pub ident: u16,
-    /// The sequence number, which the answer has too.
-    pub seq_no: u8,
-    /// The flag L: the interface is one of the receiver itself, and not of a node beside it.
-    pub local: bool,
-    /// The extension structure with the object that names the interface (RFC 4884 section 7, RFC 8335 section 2.1): all
-    /// that follows the fields.
-    pub data: &'a [u8],
-}
-
-/// The answer about an interface.
-#[derive(Debug, PartialEq, Eq, Clone, Copy)]
-pub struct ExtendedEchoReply {
-    /// The code: 0 where the interface was found; 1 for a malformed query, 2 where there is no such interface, 3 where
-    /// there is no such table entry, and 4 where several interfaces are meant.
-    pub code: u8,
-    /// The identifier of the request.
-    pub ident: u16,
-    /// The sequence number of the request.
-    pub seq_no: u8,
-    /// The state of the table entry of a node beside the receiver, below 8: 1 incomplete, 2 reachable, 3 stale, 4
-    /// delay, 5 probe, 6 failed.
-    pub state: u8,
-    /// The flag A: the interface is active.
-    pub active: bool,
-    /// The flag 4: the interface runs IPv4.
-    pub ipv4: bool,
-    /// The flag 6: the interface runs IPv6.
-    pub ipv6: bool,
-}
-
 /// Why octets are refused as a message: the first check that fails.
 #[derive(Debug, PartialEq, Eq, Clone, Copy)]
 #[non_exhaustive]
@@ -158,7 +107,7 @@ pub enum Refusal {
     Checksum,
     /// A type that is not read, by its number.
     UnknownType(u8),
-    /// The code is not 0, and the message is no answer about an interface; this is its number.
+    /// The code is not 0, in a message of another kind than an extended echo: this is its number.
     Code(u8),
     /// Fewer bytes than a message of this type has.
     Length,
@@ -216,7 +165,7 @@ pub(crate) fn kind_numbered(number: u8) -> Option<Kind> {
 
 impl<'a> Message<'a> {
     /// The message that these octets are; what follows its fields is ignored. Its checksum, of all the octets, is
-    /// verified. Reserved bits are not looked at.
+    /// verified. Reserved bits are not looked at, and neither is the code of an extended request.
     pub fn parse(octets: &'a [u8]) -> Result<Message<'a>, Refusal> {
         reading::read(octets)
     }

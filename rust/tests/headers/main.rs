@@ -7,6 +7,8 @@ mod rattle_std;
 #[cfg(test)]
 mod headers;
 #[cfg(test)]
+mod icmpv6;
+#[cfg(test)]
 mod messages;
 #[cfg(test)]
 mod options;

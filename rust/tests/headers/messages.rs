@@ -164,7 +164,7 @@ fn fields_of_messages() {
     }
 }
 
-// What is reserved and what follows the fields are not looked at.
+// What is reserved, the code of an extended request, and what follows the fields are not looked at.
 #[test]
 fn messages_with_more_than_their_fields() {
     // A message, and the same with more.
@@ -176,6 +176,10 @@ fn messages_with_more_than_their_fields() {
         (
             b"\x2a\x00\xd0\xfd\x01\x02\x04\x00",
             b"\x2a\x00\xcf\xff\x01\x02\x04\xfe",
+        ),
+        (
+            b"\x2a\x00\xd0\xfd\x01\x02\x04\x00",
+            b"\x2a\x07\xd0\xf6\x01\x02\x04\x00",
         ),
         (
             b"\x2b\x00\xd0\xb7\x01\x02\x03\x46",

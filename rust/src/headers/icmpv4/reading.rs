@@ -3,9 +3,10 @@
 
 use super::routers::ENTRY_WORDS;
 use super::{
-    ACTIVE, AddressMask, ExtendedEchoReply, ExtendedEchoRequest, IPV4, Kind, Message, Refusal,
-    RouterAdvertisement, Routers, STATE_UNIT, Timestamp, field, kind_numbered,
+    AddressMask, Kind, Message, Refusal, RouterAdvertisement, Routers, Timestamp, field,
+    kind_numbered,
 };
+use crate::headers::extended_echo;
 use crate::wirebase::{Ipv4Address, Octets, checksum};
 
 // The message that these octets are.
@@ -34,13 +35,12 @@ fn read_content(octets: &[u8]) -> Result<Message<'_>, Refusal> {
         Some(Kind::RouterAdvertisement) => {
             Ok(Message::RouterAdvertisement(read_advertisement(octets)?))
         }
-        Some(Kind::ExtendedEchoRequest) => {
-            check_fixed(octets, field::HEADER_END)?;
-            Ok(Message::ExtendedEchoRequest(read_extended_request(octets)))
-        }
-        Some(Kind::ExtendedEchoReply) => {
-            Ok(Message::ExtendedEchoReply(read_extended_reply(octets)))
-        }
+        Some(Kind::ExtendedEchoRequest) => Ok(Message::ExtendedEchoRequest(
+            extended_echo::read_request(octets),
+        )),
+        Some(Kind::ExtendedEchoReply) => Ok(Message::ExtendedEchoReply(extended_echo::read_reply(
+            octets,
+        ))),
         None => Err(Refusal::UnknownType(number)),
     }
 }
@@ -105,28 +105,4 @@ fn read_advertisement(octets: &[u8]) -> Result<RouterAdvertisement<'_>, Refusal>
             octets: &octets[field::HEADER_END..end],
         },
     })
-}
-
-// The request about an interface.
-fn read_extended_request(octets: &[u8]) -> ExtendedEchoRequest<'_> {
-    ExtendedEchoRequest {
-        ident: octets.u16_at(field::IDENT),
-        seq_no: octets[field::EXTENDED_SEQ_NO],
-        local: octets[field::FLAGS] % 2 == 1,
-        data: &octets[field::HEADER_END..],
-    }
-}
-
-// The answer about an interface.
-fn read_extended_reply(octets: &[u8]) -> ExtendedEchoReply {
-    let flags = octets[field::FLAGS];
-    ExtendedEchoReply {
-        code: octets[field::CODE],
-        ident: octets.u16_at(field::IDENT),
-        seq_no: octets[field::EXTENDED_SEQ_NO],
-        state: flags / STATE_UNIT,
-        active: flags / ACTIVE % 2 == 1,
-        ipv4: flags / IPV4 % 2 == 1,
-        ipv6: flags % 2 == 1,
-    }
 }

@@ -3,9 +3,10 @@
 
 use super::routers::ENTRY_WORDS;
 use super::{
-    ACTIVE, AddressMask, ExtendedEchoReply, ExtendedEchoRequest, IPV4, IPV6, Kind, LOCAL, Message,
-    RouterAdvertisement, STATE_UNIT, Timestamp,
+    AddressMask, ExtendedEchoReply, ExtendedEchoRequest, Kind, Message, RouterAdvertisement,
+    Timestamp,
 };
+use crate::headers::extended_echo;
 use crate::wirebase::ByteWriter;
 
 // Writes the fields of the message over the front of the octets, with a checksum of zero.
@@ -69,29 +70,11 @@ fn put_advertisement(w: &mut ByteWriter<'_>, advertisement: &RouterAdvertisement
 // Writes the fields of a request about an interface.
 fn put_extended_request(w: &mut ByteWriter<'_>, request: &ExtendedEchoRequest<'_>) {
     put_header(w, Kind::ExtendedEchoRequest, 0);
-    w.put_u16(request.ident);
-    w.put_u8(request.seq_no);
-    w.put_u8(bit(request.local, LOCAL));
-    w.put_bytes(request.data);
+    extended_echo::put_request(w, request);
 }
 
 // Writes the fields of an answer about an interface.
 fn put_extended_reply(w: &mut ByteWriter<'_>, reply: &ExtendedEchoReply) {
     put_header(w, Kind::ExtendedEchoReply, reply.code);
-    w.put_u16(reply.ident);
-    w.put_u8(reply.seq_no);
-    w.put_u8(reply_flags(reply));
-}
-
-// The state and the flags of an answer.
-fn reply_flags(reply: &ExtendedEchoReply) -> u8 {
-    STATE_UNIT * reply.state
-        + bit(reply.active, ACTIVE)
-        + bit(reply.ipv4, IPV4)
-        + bit(reply.ipv6, IPV6)
-}
-
-// A flag of this value.
-fn bit(flag: bool, value: u8) -> u8 {
-    if flag { value } else { 0 }
+    extended_echo::put_reply(w, reply);
 }
