@@ -5,6 +5,7 @@ pub mod first;
 pub mod lease;
 pub mod listener;
 pub mod member;
+pub mod membership;
 pub mod neighbor;
 pub mod ping;
 pub mod resolver;

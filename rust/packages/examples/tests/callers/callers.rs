@@ -3,6 +3,7 @@ mod first;
 mod lease;
 mod listener_version1;
 mod member;
+mod membership;
 mod neighbor;
 mod ping;
 mod resolver;
