@@ -5,4 +5,6 @@ pub mod Memberships
 pub mod NameCases
 pub mod Neighbors
 pub mod ResolverSearch
+pub mod RouterLists
 pub mod Routers
+pub mod TimedLists

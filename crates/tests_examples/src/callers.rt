@@ -4,6 +4,8 @@ mod listener_version1;
 mod member;
 mod membership;
 mod neighbor;
+mod neighbor_cache;
 mod ping;
 mod resolver;
 mod router;
+mod router_list;

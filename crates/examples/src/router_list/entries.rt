@@ -1,0 +1,214 @@
+//! The entries of the lists that a host keeps of routers, of prefixes on the link, and of recursive DNS servers.
+
+ghost use Rattle.std.specs.Prelude.{◌≡◌};
+ghost use Rattle.examples.specs.RouterEntries.{is_over, lifetime_after, lifetime_of, network_of};
+
+use crate::timed_list::Entry;
+use control_wire::Ipv6Address;
+use neighbor_wire::Preference;
+
+// The seconds that stand for a time without end.
+const FOREVER: u32 = 0xffffffff;
+
+// The bits of an address.
+const ADDRESS_BITS: u32 = 128;
+
+/// The time that is left.
+#[derive(Debug, PartialEq, Eq, Clone, Copy)]
+pub enum Lifetime {
+    /// So many seconds.
+    Seconds(u32),
+    /// It does not end.
+    Forever,
+}
+
+impl Lifetime {
+    /// The time that so many seconds say, of which 0xffffffff is for ever (RFC 4861 section 4.6.2, RFC 8106 section
+    /// 5.1).
+    pub fn of(seconds: u32) -> Lifetime
+        ensures { result ≡ lifetime_of seconds }
+    {
+        if seconds == FOREVER {
+            Lifetime::Forever
+        } else {
+            Lifetime::Seconds(seconds)
+        }
+    }
+
+    /// What is left when so many seconds have passed.
+    pub fn after(self, passed: u32) -> Lifetime
+        ensures { result ≡ lifetime_after passed self }
+    {
+        match self {
+            Lifetime::Seconds(seconds) => Lifetime::Seconds(seconds.saturating_sub(passed)),
+            Lifetime::Forever => Lifetime::Forever,
+        }
+    }
+
+    /// Whether no time is left.
+    pub fn is_over(self) -> bool
+        ensures { result ≡ is_over self }
+    {
+        match self {
+            Lifetime::Seconds(seconds) => seconds == 0,
+            Lifetime::Forever => false,
+        }
+    }
+}
+
+/// A default router (RFC 4861 section 6.3.4).
+#[derive(Debug, PartialEq, Eq, Clone, Copy)]
+pub struct DefaultRouter {
+    /// Its address on the link.
+    pub address: Ipv6Address,
+    /// Its preference over others: high, medium or low (RFC 4191 section 2.1).
+    pub preference: Preference,
+    /// For how many seconds it is still one.
+    pub lifetime: u32,
+}
+
+impl Default for DefaultRouter {
+    fn default() -> DefaultRouter {
+        DefaultRouter {
+            address: Ipv6Address::UNSPECIFIED,
+            preference: Preference::Medium,
+            lifetime: 0,
+        }
+    }
+}
+
+impl Entry for DefaultRouter {
+    ghost use Rattle.examples.specs.RouterEntries.{same_address, router_after};
+
+    type Key = Ipv6Address;
+
+    ghost is_of = { λ address router. same_address address router.address };
+
+    ghost after = { router_after };
+
+    fn is_of(&self, address: &Ipv6Address) -> bool {
+        *address == self.address
+    }
+
+    fn after(&self, passed: u32) -> Option<DefaultRouter> {
+        if passed >= self.lifetime {
+            return None;
+        }
+        Some(DefaultRouter {
+            lifetime: self.lifetime - passed,
+            ..*self
+        })
+    }
+}
+
+/// A prefix whose addresses are on the link (RFC 4861 section 6.3.4).
+#[derive(Debug, PartialEq, Eq, Clone, Copy)]
+pub struct OnLinkPrefix {
+    /// The bits of the prefix: 0 to 128.
+    pub prefix_len: u8,
+    /// The prefix. Its bits behind the first `prefix_len` say nothing.
+    pub prefix: Ipv6Address,
+    /// Whether hosts may make themselves addresses of it.
+    pub autonomous: bool,
+    /// How long it is still on the link.
+    pub valid: Lifetime,
+    /// How long such addresses are still preferred.
+    pub preferred: Lifetime,
+}
+
+impl Default for OnLinkPrefix {
+    fn default() -> OnLinkPrefix {
+        OnLinkPrefix {
+            prefix_len: 0,
+            prefix: Ipv6Address::UNSPECIFIED,
+            autonomous: false,
+            valid: Lifetime::Seconds(0),
+            preferred: Lifetime::Seconds(0),
+        }
+    }
+}
+
+/// What tells prefixes apart.
+#[derive(Debug, PartialEq, Eq, Clone, Copy)]
+pub struct PrefixKey {
+    /// The bits of the prefix: 0 to 128.
+    pub prefix_len: u8,
+    /// The prefix, or an address with this prefix.
+    pub prefix: Ipv6Address,
+}
+
+impl Entry for OnLinkPrefix {
+    ghost use Rattle.examples.specs.RouterEntries.{same_prefix, prefix_after};
+
+    type Key = PrefixKey;
+
+    ghost is_of = { same_prefix };
+
+    ghost after = { prefix_after };
+
+    fn is_of(&self, key: &PrefixKey) -> bool {
+        key.prefix_len == self.prefix_len
+            && network(&key.prefix, key.prefix_len) == network(&self.prefix, key.prefix_len)
+    }
+
+    fn after(&self, passed: u32) -> Option<OnLinkPrefix> {
+        let valid = self.valid.after(passed);
+        if valid.is_over() {
+            return None;
+        }
+        Some(OnLinkPrefix {
+            valid,
+            preferred: self.preferred.after(passed),
+            ..*self
+        })
+    }
+}
+
+// The first bits of an address, as a number.
+fn network(address: &Ipv6Address, prefix_len: u8) -> u128
+    ensures { result ≡ network_of prefix_len address.now }
+{
+    let number = u128::from_be_bytes(address.octets());
+    let behind = ADDRESS_BITS.saturating_sub(prefix_len as u32);
+    number.checked_shr(behind).unwrap_or(0)
+}
+
+/// A recursive DNS server (RFC 8106 section 5.1).
+#[derive(Debug, PartialEq, Eq, Clone, Copy)]
+pub struct DnsServer {
+    /// Its address.
+    pub address: Ipv6Address,
+    /// How long it may still be asked.
+    pub lifetime: Lifetime,
+}
+
+impl Default for DnsServer {
+    fn default() -> DnsServer {
+        DnsServer {
+            address: Ipv6Address::UNSPECIFIED,
+            lifetime: Lifetime::Seconds(0),
+        }
+    }
+}
+
+impl Entry for DnsServer {
+    ghost use Rattle.examples.specs.RouterEntries.{same_address, server_after};
+
+    type Key = Ipv6Address;
+
+    ghost is_of = { λ address server. same_address address server.address };
+
+    ghost after = { server_after };
+
+    fn is_of(&self, address: &Ipv6Address) -> bool {
+        *address == self.address
+    }
+
+    fn after(&self, passed: u32) -> Option<DnsServer> {
+        let lifetime = self.lifetime.after(passed);
+        if lifetime.is_over() {
+            return None;
+        }
+        Some(DnsServer { lifetime, ..*self })
+    }
+}

@@ -1,0 +1,133 @@
+// Made from crates/tests_examples/src/callers/router_list.rt by rust/erase.
+use crate::testing::same;
+use control_wire::neighbors::Preference;
+use control_wire::{IPV6_LINK_LOCAL_ALL_NODES, Ipv6Address};
+use examples::router_list::RouterList;
+use examples::router_list::entries::{DefaultRouter, DnsServer, Lifetime, OnLinkPrefix};
+
+// fe80::1 tells ff02::1 that it is a default router of high preference for 9,000 s, of 2001:db8:1::/48 for ever, with
+// bits behind the prefix, of a DNS server for ever, and of two for 1,200 s.
+const FIRST: [u8; 112] = [
+    0x86, 0x00, 0xe7, 0x31, 0x40, 0x08, 0x23, 0x28, 0x00, 0x00, 0x00, 0x00, 0x00, 0x00, 0x00, 0x00,
+    0x03, 0x04, 0x30, 0xc0, 0xff, 0xff, 0xff, 0xff, 0x00, 0x00, 0x0e, 0x10, 0x00, 0x00, 0x00, 0x00,
+    0x20, 0x01, 0x0d, 0xb8, 0x00, 0x01, 0x00, 0xff, 0x00, 0x00, 0x00, 0x00, 0x00, 0x00, 0x00, 0x00,
+    0x19, 0x03, 0x00, 0x00, 0xff, 0xff, 0xff, 0xff, 0x20, 0x01, 0x0d, 0xb8, 0x00, 0x00, 0x00, 0x00,
+    0x00, 0x00, 0x00, 0x00, 0x00, 0x00, 0x00, 0x53, 0x19, 0x05, 0x00, 0x00, 0x00, 0x00, 0x04, 0xb0,
+    0x20, 0x01, 0x0d, 0xb8, 0x00, 0x00, 0x00, 0x00, 0x00, 0x00, 0x00, 0x00, 0x00, 0x00, 0x00, 0x54,
+    0x20, 0x01, 0x0d, 0xb8, 0x00, 0x00, 0x00, 0x00, 0x00, 0x00, 0x00, 0x00, 0x00, 0x00, 0x00, 0x55,
+];
+
+// It is none any more, and of the reserved preference; nor are the prefix and the first and the third server, and the
+// second is one for a minute.
+const LAST: [u8; 112] = [
+    0x86, 0x00, 0x1d, 0xd5, 0x40, 0x10, 0x00, 0x00, 0x00, 0x00, 0x00, 0x00, 0x00, 0x00, 0x00, 0x00,
+    0x03, 0x04, 0x30, 0xc0, 0x00, 0x00, 0x00, 0x00, 0x00, 0x00, 0x00, 0x00, 0x00, 0x00, 0x00, 0x00,
+    0x20, 0x01, 0x0d, 0xb8, 0x00, 0x01, 0x00, 0x00, 0x00, 0x00, 0x00, 0x00, 0x00, 0x00, 0x00, 0x00,
+    0x19, 0x05, 0x00, 0x00, 0x00, 0x00, 0x00, 0x00, 0x20, 0x01, 0x0d, 0xb8, 0x00, 0x00, 0x00, 0x00,
+    0x00, 0x00, 0x00, 0x00, 0x00, 0x00, 0x00, 0x53, 0x20, 0x01, 0x0d, 0xb8, 0x00, 0x00, 0x00, 0x00,
+    0x00, 0x00, 0x00, 0x00, 0x00, 0x00, 0x00, 0x55, 0x19, 0x03, 0x00, 0x00, 0x00, 0x00, 0x00, 0x3c,
+    0x20, 0x01, 0x0d, 0xb8, 0x00, 0x00, 0x00, 0x00, 0x00, 0x00, 0x00, 0x00, 0x00, 0x00, 0x00, 0x54,
+];
+
+// It is one for 300 s, of the reserved preference.
+const RESERVED: [u8; 16] = [
+    0x86, 0x00, 0x3a, 0xf3, 0x40, 0x10, 0x01, 0x2c, 0x00, 0x00, 0x00, 0x00, 0x00, 0x00, 0x00, 0x00,
+];
+
+fn router() -> Ipv6Address {
+    Ipv6Address::new(0xfe80, 0, 0, 0, 0, 0, 0, 1)
+}
+
+fn default_router(preference: Preference, lifetime: u32) -> DefaultRouter {
+    DefaultRouter {
+        address: router(),
+        preference,
+        lifetime,
+    }
+}
+
+fn prefix(preferred: u32) -> OnLinkPrefix {
+    OnLinkPrefix {
+        prefix_len: 48,
+        prefix: Ipv6Address::new(0x2001, 0xdb8, 1, 0xff, 0, 0, 0, 0),
+        autonomous: true,
+        valid: Lifetime::Forever,
+        preferred: Lifetime::Seconds(preferred),
+    }
+}
+
+fn server(last: u16, lifetime: Lifetime) -> DnsServer {
+    DnsServer {
+        address: Ipv6Address::new(0x2001, 0xdb8, 0, 0, 0, 0, 0, last),
+        lifetime,
+    }
+}
+
+#[test]
+fn what_a_router_tells_is_kept_for_its_time() {
+    let mut lists = RouterList::new();
+    let learned = lists.learn(&router(), &IPV6_LINK_LOCAL_ALL_NODES, 255, &FIRST);
+    same(learned, true);
+    let routers = [default_router(Preference::High, 9_000)];
+    same(lists.routers.as_slice(), routers.as_slice());
+    same(lists.prefixes.as_slice(), [prefix(3_600)].as_slice());
+    let servers = [
+        server(0x53, Lifetime::Forever),
+        server(0x54, Lifetime::Seconds(1_200)),
+        server(0x55, Lifetime::Seconds(1_200)),
+    ];
+    same(lists.servers.as_slice(), servers.as_slice());
+    lists.pass(1_199);
+    let servers = [
+        server(0x53, Lifetime::Forever),
+        server(0x54, Lifetime::Seconds(1)),
+        server(0x55, Lifetime::Seconds(1)),
+    ];
+    same(lists.servers.as_slice(), servers.as_slice());
+    // Addresses of the prefix are deprecated then, but it is still on the link.
+    lists.pass(7_800);
+    let routers = [default_router(Preference::High, 1)];
+    same(lists.routers.as_slice(), routers.as_slice());
+    same(lists.prefixes.as_slice(), [prefix(0)].as_slice());
+    let servers = [server(0x53, Lifetime::Forever)];
+    same(lists.servers.as_slice(), servers.as_slice());
+    lists.pass(1);
+    same(lists.routers.is_empty(), true);
+}
+
+#[test]
+fn a_time_of_zero_removes() {
+    let all = IPV6_LINK_LOCAL_ALL_NODES;
+    let mut lists = RouterList::new();
+    same(lists.learn(&router(), &all, 255, &FIRST), true);
+    same(lists.learn(&router(), &all, 255, &LAST), true);
+    same(lists.routers.is_empty(), true);
+    same(lists.prefixes.is_empty(), true);
+    let servers = [server(0x54, Lifetime::Seconds(60))];
+    same(lists.servers.as_slice(), servers.as_slice());
+}
+
+// The reserved preference counts as medium (RFC 4191 section 2.2).
+#[test]
+fn an_advertisement_renews() {
+    let all = IPV6_LINK_LOCAL_ALL_NODES;
+    let mut lists = RouterList::new();
+    same(lists.learn(&router(), &all, 255, &FIRST), true);
+    same(lists.learn(&router(), &all, 255, &RESERVED), true);
+    let routers = [default_router(Preference::Medium, 300)];
+    same(lists.routers.as_slice(), routers.as_slice());
+    same(lists.prefixes.as_slice(), [prefix(3_600)].as_slice());
+    lists.remove_router(&router());
+    same(lists.routers.is_empty(), true);
+}
+
+// Forwarded, and of another destination than its checksum is of.
+#[test]
+fn of_no_advertisement_nothing_is_kept() {
+    let all = IPV6_LINK_LOCAL_ALL_NODES;
+    let mut lists = RouterList::new();
+    same(lists.learn(&router(), &all, 254, &FIRST), false);
+    same(lists.learn(&router(), &router(), 255, &FIRST), false);
+    same(lists.routers.is_empty(), true);
+    same(lists.servers.is_empty(), true);
+}
