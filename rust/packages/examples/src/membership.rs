@@ -1,7 +1,7 @@
 // Made from crates/examples/src/membership.rt by rust/erase.
-//! A host that is a member of groups, from all sources or from some: what it reports by IGMPv3 (RFC 3376) over IPv4, and
-//! by MLDv2 (RFC 3810) over IPv6. The caller keeps the state of each group and the sources that queries ask about, and
-//! sends the records in reports, to 224.0.0.22 or `ff02::16`.
+//! A host that is a member of groups, from all sources or from some: what it reports by IGMPv3 (RFC 3376) over IPv4,
+//! and by MLDv2 (RFC 3810) over IPv6. The caller keeps the state of each group and the sources that queries ask about,
+//! and sends the records in reports, to 224.0.0.22 or `ff02::16`.
 
 use control_wire::Duration;
 use control_wire::groups::{
