@@ -113,8 +113,8 @@ impl<'a> NeighborOption<'a> {
 
     /// Writes the option over the front of the octets, with zeros behind it up to a whole unit of 8 bytes, and zeros
     /// in its reserved fields; the other octets are unchanged. Requires at least `buffer_len` bytes, that those are no
-    /// more than 255 units, and a scaled lifetime below 8192. An option that [`crate::OptionsWriter::push`] refuses for
-    /// another reason is written, but its octets are not read back as it is.
+    /// more than 255 units, and a scaled lifetime below 8192. An option that the other checks of
+    /// [`crate::OptionsWriter::push`] refuse is written too, but its octets are not read back as it is.
     pub fn emit_into(&self, octets: &mut [u8])
         requires { CanEmit (value_of self.now) octets.old }
         ensures { Emits (value_of self.now) octets.old octets.new }

@@ -100,8 +100,8 @@ impl<'a> NeighborOption<'a> {
 
     /// Writes the option over the front of the octets, with zeros behind it up to a whole unit of 8 bytes, and zeros
     /// in its reserved fields; the other octets are unchanged. Requires at least `buffer_len` bytes, that those are no
-    /// more than 255 units, and a scaled lifetime below 8192. An option that [`crate::neighbors::OptionsWriter::push`] refuses for
-    /// another reason is written, but its octets are not read back as it is.
+    /// more than 255 units, and a scaled lifetime below 8192. An option that the other checks of
+    /// [`crate::neighbors::OptionsWriter::push`] refuse is written too, but its octets are not read back as it is.
     ///
     /// # Panics
     ///

@@ -34,9 +34,9 @@ impl<'a> OptionsWriter<'a> {
         self.position == 0
     }
 
-    /// Writes an option behind those that are written; [`crate::neighbors::NeighborOptions`] then gives it after them, with the
-    /// zeros that fill its last unit. An option that would be refused or read as another is refused, with the reason,
-    /// and so is one where fewer bytes are free than it takes; then nothing changes.
+    /// Writes an option behind those that are written; [`crate::neighbors::NeighborOptions`] then gives it after them. Zeros that
+    /// fill its last unit then belong to its octets, but to no URI. An option that would be refused or read as another
+    /// is refused, with the reason, and so is one where fewer bytes are free than it takes; then nothing changes.
     pub fn push(&mut self, option: &NeighborOption<'_>) -> Result<(), Unwritten> {
         check_value(option)?;
         let start = self.position;
