@@ -116,21 +116,26 @@ full_later bytes w group first later old between new added full = record {
 -- ---- sources
 
 -- a turn of a loop that gathers the elements at which a test gives true: one that it takes, and one that it leaves
-pub one_taken : {X : Type 0} (test : X → Bool) (xs room after : List X) (i n m : ℕ) (x : X) → i < length xs
-    → n < length room → x ≡ get_or xs i x → test x ≡ true → after ≡ set room n x → m ≡ n + 1
-    → take n room ≡ filter test (take i xs) → take m after ≡ filter test (take (i + 1) xs)
-one_taken test xs room after i n m x less fits is passes a e so_far =
+pub one_taken : {X : Type 0} (test : X → Bool) (xs room after : List X) (i n m : ℕ) (x : X) (passes : Bool)
+    → i < length xs → n < length room → x ≡ get_or xs i x → passes ≡ test x → passes ≡ true → after ≡ set room n x
+    → m ≡ n + 1 → take n room ≡ filter test (take i xs) → take m after ≡ filter test (take (i + 1) xs)
+one_taken test xs room after i n m x passes less fits is tests held a e so_far =
     let more = filter_more test xs i x less in
-    let same : cond (test (get_or xs i x)) (get_or xs i x ∷ []) [] ≡ x ∷ [] = rw (← is, passes) refl in
+    let taken : test x ≡ true = sym tests ∙ held in
+    let same : cond (test (get_or xs i x)) (get_or xs i x ∷ []) [] ≡ x ∷ [] = rw (← is, taken) refl in
     rw (e, a) (take_more_set room n x fits ∙ ap (λ (l : List _). l ++ x ∷ []) so_far
     ∙ sym (more ∙ ap (λ (l : List _). filter test (take i xs) ++ l) same))
 
-pub one_left : {X : Type 0} (test : X → Bool) (xs : List X) (i : ℕ) (x : X) → i < length xs
-    → x ≡ get_or xs i x → test x ≡ false → filter test (take (i + 1) xs) ≡ filter test (take i xs)
-one_left test xs i x less is fails =
-    let same : cond (test (get_or xs i x)) (get_or xs i x ∷ []) [] ≡ [] = rw (← is, fails) refl in
+pub one_left : {X : Type 0} (test : X → Bool) (xs room after : List X) (i n m : ℕ) (x : X) (passes : Bool)
+    → i < length xs → x ≡ get_or xs i x → passes ≡ test x → passes ≡ false → after ≡ room → m ≡ n
+    → take n room ≡ filter test (take i xs) → take m after ≡ filter test (take (i + 1) xs)
+one_left test xs room after i n m x passes less is tests failed a e so_far =
+    let left : test x ≡ false = sym tests ∙ failed in
+    let same : cond (test (get_or xs i x)) (get_or xs i x ∷ []) [] ≡ [] = rw (← is, left) refl in
+    let more : filter test (take (i + 1) xs) ≡ filter test (take i xs) =
     filter_more test xs i x less ∙ ap (λ (l : List _). filter test (take i xs) ++ l) same
-    ∙ append-nil (filter test (take i xs))
+    ∙ append-nil (filter test (take i xs)) in
+    rw (e, a) (so_far ∙ sym more)
 
 pub length-sources : (w n : ℕ) (bytes : List ℕ) → length (sources_ahead w n bytes) ≡ n
 unfolding sources_ahead

@@ -1,4 +1,4 @@
-use Rattle.std.proofs.Common.{◌∙◌, sym, arith}
+use Rattle.std.proofs.Common.{arith}
 use Rattle.examples.specs.Membership.{has}
 use Rattle.examples.proofs.Memberships.{one_taken, one_left}
 use Rattle.examples.proofs.membership.gather_both.Goals as goal
@@ -12,14 +12,14 @@ loop-source-preserved g c =
       | then-contains w ↦ record {
         fits = omega (arith, w.count-is, at.invariant.fits);
         gathered = one_taken test c.args.first.now at.room c.if-contains.room at.source-index at.count
-            c.if-contains.count c.source-item.result c.loop-source-test.true
+            c.if-contains.count c.source-item.result c.contains.result c.loop-source-test.true
             (omega (arith, at.invariant.fits, at.auto.room, c.loop-source-test.true, c.requires)) c.source-item.is
-            (sym c.contains.ensures.value ∙ w.if-contains.true) w.room-is w.count-is at.invariant.gathered;
+            c.contains.ensures.value w.if-contains.true w.room-is w.count-is at.invariant.gathered;
       }
       | else-contains w ↦ record {
         fits = omega (arith, w.count-is, at.invariant.fits);
-        gathered = rw (w.count-is, w.room-is) (at.invariant.gathered ∙ sym (one_left test c.args.first.now
-            at.source-index c.source-item.result c.loop-source-test.true c.source-item.is
-            (sym c.contains.ensures.value ∙ w.if-contains.false)));
+        gathered = one_left test c.args.first.now at.room c.if-contains.room at.source-index at.count
+            c.if-contains.count c.source-item.result c.contains.result c.loop-source-test.true c.source-item.is
+            c.contains.ensures.value w.if-contains.false w.room-is w.count-is at.invariant.gathered;
       }
     ]

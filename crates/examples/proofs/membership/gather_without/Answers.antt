@@ -1,4 +1,4 @@
-use Rattle.std.proofs.Common.{◌∙◌, Bool, ap, sym, arith}
+use Rattle.std.proofs.Common.{Bool, ap, arith}
 use Rattle.std.specs.Prelude.{not}
 use Rattle.examples.specs.Membership.{has}
 use Rattle.examples.proofs.Memberships.{one_taken, one_left}
@@ -13,15 +13,16 @@ loop-source-preserved g c =
       | then-not-contains w ↦ record {
         fits = omega (arith, w.count-is, at.invariant.fits);
         gathered = one_taken test c.args.first.now at.room c.if-not-contains.room at.source-index at.count
-            c.if-not-contains.count c.source-item.result c.loop-source-test.true
+            c.if-not-contains.count c.source-item.result (not c.contains.result) c.loop-source-test.true
             (omega (arith, at.invariant.fits, at.auto.room, c.loop-source-test.true, c.requires)) c.source-item.is
-            (ap (λ (b : Bool). not b) (sym c.contains.ensures.value ∙ w.if-not-contains.true)) w.room-is w.count-is
-            at.invariant.gathered;
+            (ap (λ (b : Bool). not b) c.contains.ensures.value) (ap (λ (b : Bool). not b) w.if-not-contains.true)
+            w.room-is w.count-is at.invariant.gathered;
       }
       | else-not-contains w ↦ record {
         fits = omega (arith, w.count-is, at.invariant.fits);
-        gathered = rw (w.count-is, w.room-is) (at.invariant.gathered ∙ sym (one_left test c.args.first.now
-            at.source-index c.source-item.result c.loop-source-test.true c.source-item.is
-            (ap (λ (b : Bool). not b) (sym c.contains.ensures.value ∙ w.if-not-contains.false))));
+        gathered = one_left test c.args.first.now at.room c.if-not-contains.room at.source-index at.count
+            c.if-not-contains.count c.source-item.result (not c.contains.result) c.loop-source-test.true
+            c.source-item.is (ap (λ (b : Bool). not b) c.contains.ensures.value)
+            (ap (λ (b : Bool). not b) w.if-not-contains.false) w.room-is w.count-is at.invariant.gathered;
       }
     ]
