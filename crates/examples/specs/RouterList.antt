@@ -1,6 +1,6 @@
 -- What a host keeps of the advertisements of routers (RFC 4861 section 6.3.4, RFC 4191 section 3.1, RFC 8106 section
 -- 5.1).
-use Rattle.std.specs.Prelude.{◌≡◌, ℕ, ◌+◌, ◌*◌, ◌==◌, Bool, if◌then◌else◌, IsTrue, List, [], ◌∷◌, Option, None, Some}
+use Rattle.std.specs.Prelude.{◌≡◌, ℕ, ◌+◌, ◌*◌, ◌==◌, Bool, if◌then◌else◌, IsTrue, List, [], ◌∷◌}
 use Rattle.std.specs.Prelude.{Ok, Err, slice_index}
 use Rattle.std.specs.List.{filter_map}
 use Rattle.control_wire.specs.Ipv6Address.{octets_of, IsLinkLocal}

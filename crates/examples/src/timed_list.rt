@@ -13,8 +13,10 @@ pub trait Entry: Copy + Default {
     /// What tells entries apart.
     type Key;
 
+    /// Whether an entry is that of a key.
     ghost is_of: { Self.Key → Self → Bool };
 
+    /// What is left of an entry when a time has passed.
     ghost after: { ℕ → Self → Option Self };
 
     /// Whether it is the entry of this key.

@@ -1,4 +1,5 @@
 use crate::testing::same;
+use bitflags::Flags as _;
 use control_wire::ndisc::NeighborFlags;
 use control_wire::{EthernetAddress, Ipv6Address, RawHardwareAddress};
 use examples::neighbor::NeighborInformation;

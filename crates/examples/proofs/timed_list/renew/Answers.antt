@@ -1,4 +1,4 @@
-use Rattle.std.proofs.Common.{◌≡◌, ◌<◌, ◌∙◌, ap, arith, false, inl, length, refl, rules, sym}
+use Rattle.std.proofs.Common.{◌≡◌, ◌<◌, ◌∙◌, ap, false, inl, length, refl, rules, sym}
 use Rattle.examples.specs.TimedList.{has}
 use Rattle.examples.proofs.TimedLists.{has_lent, renewed_lent, renewed_new}
 use Rattle.examples.proofs.timed_list.renew.Goals as goal
