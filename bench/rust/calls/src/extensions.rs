@@ -75,6 +75,12 @@ pub fn cases() {
             Parts::split(octets, *length, *family).ok()?.extensions
         })
         .collect();
+    writes(
+        "extensions_structure_emit",
+        &lists,
+        |objects| structure::buffer_len(objects),
+        |objects, out| structure::emit(objects, out),
+    );
     reads(
         "extensions_structure_parse",
         structures.iter().copied(),

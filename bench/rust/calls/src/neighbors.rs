@@ -2,6 +2,7 @@
 
 use crate::measure::{iterates, prints, reads, writes};
 use crate::random::{Random, many};
+use control_wire::Ipv6Address;
 use control_wire::neighbors::{
     Names, Nat64Length, Nat64Prefix, NeighborOption, NeighborOptions, OptionsWriter, Preference,
     Prefix, Route, Servers,
@@ -74,6 +75,17 @@ pub fn cases() {
         &options,
         NeighborOption::buffer_len,
         |option, out| OptionsWriter::new(out).push(option),
+    );
+    let lists: Vec<Vec<Ipv6Address>> = many(43, |random, place| {
+        (0..=place % 4)
+            .map(|_| random.ipv6())
+            .collect()
+    });
+    writes(
+        "neighbors_servers_write",
+        &lists,
+        |servers| 16 * servers.len(),
+        |servers, out| Servers::write(servers, out).is_some(),
     );
     prints("neighbors_display", &options);
 }
