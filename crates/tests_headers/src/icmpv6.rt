@@ -12,19 +12,23 @@ use wirebase::Ipv6Address;
 // The octets of a buffer before it is written into.
 const FILLS: &[u8] = &[0x00, 0xff, 0x2a, 0xa5];
 
-// The addresses of the packets.
-const SOURCE: Ipv6Address = Ipv6Address::new(0x2001, 0xdb8, 1, 0, 0, 0, 0, 7);
+// The address that the packets come from, and that they go to.
+fn source() -> Ipv6Address {
+    Ipv6Address::new(0x2001, 0xdb8, 1, 0, 0, 0, 0, 7)
+}
 
-const DESTINATION: Ipv6Address = Ipv6Address::new(0x2001, 0xdb8, 1, 0, 0, 0, 0, 1);
+fn destination() -> Ipv6Address {
+    Ipv6Address::new(0x2001, 0xdb8, 1, 0, 0, 0, 0, 1)
+}
 
 // The message between these addresses.
 fn parse(octets: &[u8]) -> Result<Message<'_>, Refusal> {
-    Message::parse(octets, &SOURCE, &DESTINATION)
+    Message::parse(octets, &source(), &destination())
 }
 
 // Checks that a message is read, prints this, and is written as it was, whatever the buffer held.
 fn check(rt: &impl Abort, alloc: Global, octets: &[u8], text: &str) {
-    let read = parse(octets);
+    let read = Message::parse(octets, &source(), &destination());
     let Ok(message) = read else {
         return same_of(rt, octets, read.err(), None);
     };
@@ -34,7 +38,7 @@ fn check(rt: &impl Abort, alloc: Global, octets: &[u8], text: &str) {
     for &fill in FILLS {
         let mut buffer = [fill; 64];
         if len <= 64 {
-            message.emit_into(&mut buffer[..len], &SOURCE, &DESTINATION);
+            message.emit_into(&mut buffer[..len], &source(), &destination());
         }
         same_of(rt, fill, &buffer[..len.min(64)], octets);
     }
@@ -188,14 +192,20 @@ fn messages_of_icmpv6_with_more_than_their_fields(rt: HostRuntime) {
 #[test]
 fn a_message_of_icmpv6_in_front_of_other_octets(rt: HostRuntime) {
     let mut octets = [0xa5; 10];
-    let message = parse(b"\xa1\x00\xfe\xf8\x01\x02\x03\x46");
-    if let Ok(message) = message {
-        message.emit_into(&mut octets, &SOURCE, &DESTINATION);
-        takes_writes(&rt, &message, 15);
-    }
+    let message = Message::ExtendedEchoReply(ExtendedEchoReply {
+        code: 0,
+        ident: 0x0102,
+        seq_no: 3,
+        state: 2,
+        active: true,
+        ipv4: true,
+        ipv6: false,
+    });
+    message.emit_into(&mut octets, &source(), &destination());
     let wanted = [0xa1, 0x00, 0x59, 0x51, 0x01, 0x02, 0x03, 0x46, 0xa5, 0xa5];
     same(&rt, octets, wanted);
-    same(&rt, parse(&octets), message);
+    same(&rt, parse(&octets), Ok(message));
+    takes_writes(&rt, &message, 15);
 }
 
 #[test]
@@ -235,7 +245,7 @@ fn what_is_refused_of_messages_of_icmpv6(rt: HostRuntime) {
     // The same message between other addresses.
     let octets = b"\xa0\x00\xff\x3e\x01\x02\x04\x00";
     same(&rt, parse(octets).err(), None);
-    let other = Message::parse(octets, &SOURCE, &SOURCE).err();
+    let other = Message::parse(octets, &source(), &source()).err();
     same(&rt, other, Some(Refusal::Checksum));
 }
 

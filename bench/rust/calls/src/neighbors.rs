@@ -77,9 +77,7 @@ pub fn cases() {
         |option, out| OptionsWriter::new(out).push(option),
     );
     let lists: Vec<Vec<Ipv6Address>> = many(43, |random, place| {
-        (0..=place % 4)
-            .map(|_| random.ipv6())
-            .collect()
+        (0..=place % 4).map(|_| random.ipv6()).collect()
     });
     writes(
         "neighbors_servers_write",
