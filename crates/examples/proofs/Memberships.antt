@@ -18,7 +18,7 @@ use Rattle.group_wire.specs.Records.{records_ahead}
 use Rattle.group_wire.specs.Sources.{sources_ahead}
 use Rattle.group_wire.specs.Times.{interval_seconds, query_millis}
 use Rattle.group_wire.specs.declared.family.Family.{Family}
-use Rattle.group_wire.specs.Writer.{written, count_of, free_of, Fits, IsUnchanged}
+use Rattle.group_wire.specs.Writer.{settled, count_of, free, Fits, IsUnchanged}
 use Rattle.examples.specs.Membership.{Said, said, said_of_some, said_text, Adds, IsFull}
 
 -- ---- records
@@ -41,12 +41,12 @@ added_both bytes w group first later old between new a b =
     record {
       count = omega (arith, a.count, b.count, length-append first later);
       octets = b.octets ∙ ap (λ (l : List ℕ). l ++ concat (map f later)) a.octets
-          ∙ append_assoc (written old) (concat (map f first)) (concat (map f later))
-          ∙ ap (λ (l : List ℕ). written old ++ l)
+          ∙ append_assoc (settled old) (concat (map f first)) (concat (map f later))
+          ∙ ap (λ (l : List ℕ). settled old ++ l)
           (sym (concat-append (map f first) (map f later)) ∙ ap concat (sym (map-append f first later)));
       listed = b.listed ∙ ap (λ (l : List (List ℕ)). l ++ map f later) a.listed
-          ∙ append_assoc (records_ahead w (count_of old) (written old)) (map f first) (map f later)
-          ∙ ap (λ (l : List (List ℕ)). records_ahead w (count_of old) (written old) ++ l)
+          ∙ append_assoc (records_ahead w (count_of old) (settled old)) (map f first) (map f later)
+          ∙ ap (λ (l : List (List ℕ)). records_ahead w (count_of old) (settled old) ++ l)
           (sym (map-append f first later));
       none = λ e. let parts = none_of_both first later e in b.none parts.1 ∙ a.none parts.0;
     }
@@ -54,7 +54,7 @@ added_both bytes w group first later old between new a b =
 -- the only record is refused
 pub full_at_once : {A : Type 0} {ghosts : Ghosts A} (bytes : A → List ℕ) (w : ℕ) (group : A) (kind : RecordType)
     (sources : List A) (old new : RecordsWriter A ghosts) → IsUnchanged old new
-    → ¬ Fits w (count_of old) (length (free_of old)) (length sources)
+    → ¬ Fits w (count_of old) (length (free old)) (length sources)
     → IsFull bytes w group (said kind sources ∷ []) old new
 full_at_once bytes w group kind sources old new same unfit = record {
   first = [];
@@ -63,8 +63,8 @@ full_at_once bytes w group kind sources old new same unfit = record {
   all = refl;
   added = record {
     count = same.1 ∙ omega arith;
-    octets = same.0 ∙ sym (append-nil (written old));
-    listed = rw (same.1, same.0) (sym (append-nil (records_ahead w (count_of old) (written old))));
+    octets = same.0 ∙ sym (append-nil (settled old));
+    listed = rw (same.1, same.0) (sym (append-nil (records_ahead w (count_of old) (settled old))));
     none = λ e. same.2;
   };
   unfit = rw (same.1, same.2) unfit;
@@ -74,7 +74,7 @@ full_at_once bytes w group kind sources old new same unfit = record {
 pub full_if_refused : {A T E : Type 0} {ghosts : Ghosts A} (bytes : A → List ℕ) (w : ℕ) (group : A) (kind : RecordType)
     (sources : List A) (records : List (Said A)) (old new : RecordsWriter A ghosts) (r : Result T E)
     → records ≡ said kind sources ∷ []
-    → (IsOk r ↔ Fits w (count_of old) (length (free_of old)) (length sources)) → OnErr r (IsUnchanged old new)
+    → (IsOk r ↔ Fits w (count_of old) (length (free old)) (length sources)) → OnErr r (IsUnchanged old new)
     → OnErr r (IsFull bytes w group records old new)
 full_if_refused bytes w group kind sources records old new (Ok x) is accepts same = tt
 full_if_refused bytes w group kind sources records old new (Err e) is accepts same =

@@ -12,7 +12,7 @@ use Rattle.group_wire.specs.Membership.{Value, query}
 use Rattle.group_wire.specs.Record.{group_record, text}
 use Rattle.group_wire.specs.Records.{records_ahead}
 use Rattle.group_wire.specs.Times.{interval_seconds, newest_version, query_millis}
-use Rattle.group_wire.specs.Writer.{written, count_of, free_of, Fits}
+use Rattle.group_wire.specs.Writer.{settled, count_of, free, Fits}
 use Rattle.examples.specs.declared.membership.Filter.{Filter}
 use Rattle.examples.specs.declared.membership.FilterMode.{FilterMode}
 use Rattle.examples.specs.declared.membership.OlderQueriers.{OlderQueriers}
@@ -93,10 +93,10 @@ said_text bytes w group (said kind sources) =
 pub record Adds {A : Type 0} {ghosts : Ghosts A} (bytes : A → List ℕ) (w : ℕ) (group : A) (records : List (Said A))
     (old new : RecordsWriter A ghosts) : Type 0 where
   pub count : count_of new ≡ count_of old + length records
-  pub octets : written new ≡ written old ++ concat (map (said_text bytes w group) records)
-  pub listed : records_ahead w (count_of new) (written new)
-      ≡ records_ahead w (count_of old) (written old) ++ map (said_text bytes w group) records
-  pub none : records ≡ [] → free_of new ≡ free_of old
+  pub octets : settled new ≡ settled old ++ concat (map (said_text bytes w group) records)
+  pub listed : records_ahead w (count_of new) (settled new)
+      ≡ records_ahead w (count_of old) (settled old) ++ map (said_text bytes w group) records
+  pub none : records ≡ [] → free new ≡ free old
 
 -- The writer has no room for all of these records: it holds the first of them, and the next does not fit.
 pub record IsFull {A : Type 0} {ghosts : Ghosts A} (bytes : A → List ℕ) (w : ℕ) (group : A) (records : List (Said A))
@@ -106,7 +106,7 @@ pub record IsFull {A : Type 0} {ghosts : Ghosts A} (bytes : A → List ℕ) (w :
   pub others : List (Said A)
   pub all : records ≡ first ++ next ∷ others
   pub added : Adds bytes w group first old new
-  pub unfit : ¬ Fits w (count_of new) (length (free_of new)) (length (sources_of next))
+  pub unfit : ¬ Fits w (count_of new) (length (free new)) (length (sources_of next))
 
 -- ---- queriers of older versions
 

@@ -1,9 +1,10 @@
 //! Records of reports written one after another (RFC 3376 section 4.2, RFC 3810 section 5.2).
 
-ghost use Rattle.std.specs.Prelude.{◌≡◌, ◌≤◌, ◌+◌, ◌*◌, ◌↔◌, ◌++◌, ◌∷◌, [], length, take, map, IsOk, OnOk, OnErr};
+ghost use Rattle.std.specs.Prelude.{◌≡◌, ◌≤◌, ◌+◌, ◌*◌, ◌↔◌, ◌++◌, ◌∷◌, [], drop, length, take, map, IsOk, OnOk, OnErr};
 ghost use Rattle.std.specs.List.{concat};
 ghost use Rattle.wirebase.specs.Bytes.{over};
-ghost use Rattle.wirebase.specs.ByteWriter.{free, Puts};
+ghost use Rattle.wirebase.specs.ByteWriter as byte_writer;
+ghost use Rattle.wirebase.specs.ByteWriter.{Puts};
 ghost use Rattle.wirebase.specs.Numbered.{IsProper};
 ghost use Rattle.icmp6_wire.specs.MldTables.{record_type_rows};
 ghost use Rattle.icmp6_wire.specs.declared.mld.tables.RecordType.{RecordType};
@@ -36,13 +37,13 @@ pub struct RecordsWriter<'a, A: Address> {
 
 impl<'a, A: Address> RecordsWriter<'a, A> {
     ghost use Rattle.group_wire.specs.Records.{count_in, octets_in};
-    ghost use Rattle.group_wire.specs.Writer.{written, count_of, free_of, the_slice, Fits, IsUnchanged};
+    ghost use Rattle.group_wire.specs.Writer.{settled, count_of, free, the_slice, Fits, IsUnchanged};
 
     /// A writer over these octets that has written no record.
     pub fn new(buffer: &'a mut [u8]) -> RecordsWriter<'a, A>
-        ensures written { written result ≡ [] }
+        ensures settled { settled result ≡ [] }
         ensures count { count_of result ≡ 0 }
-        ensures free { free_of result ≡ buffer.old }
+        ensures free { free result ≡ buffer.old }
         ensures same_slice { the_slice result ≡ buffer.entry.ghost_name }
     {
         RecordsWriter {
@@ -58,14 +59,16 @@ impl<'a, A: Address> RecordsWriter<'a, A> {
     /// than 65,535 sources, and where 65,535 records are written; then nothing changes.
     pub fn push(&mut self, record_type: RecordType, group: A, sources: &[A]) -> Result<(), Full>
         ensures accepts { IsOk result
-            ↔ Fits (width A.family) (count_of self.old) (length (free_of self.old)) (length sources.now) }
-        ensures written { OnOk result (written self.new ≡ written self.old ++ text (width A.family)
+            ↔ Fits (width A.family) (count_of self.old) (length (free self.old)) (length sources.now) }
+        ensures settled { OnOk result (settled self.new ≡ settled self.old ++ text (width A.family)
             (group_record record_type (A.bytes group) (concat (map A.bytes sources.now)) [])) }
         ensures count { OnOk result (count_of self.new ≡ count_of self.old + 1) }
+        ensures free { OnOk result (free self.new
+            ≡ drop (sources_at (width A.family) + width A.family * length sources.now) (free self.old)) }
 
         // It is read behind the others, as a record with this content.
-        ensures listed { OnOk result (records_ahead (width A.family) (count_of self.new) (written self.new)
-            ≡ records_ahead (width A.family) (count_of self.old) (written self.old)
+        ensures listed { OnOk result (records_ahead (width A.family) (count_of self.new) (settled self.new)
+            ≡ records_ahead (width A.family) (count_of self.old) (settled self.old)
             ++ text (width A.family) (group_record record_type (A.bytes group)
             (concat (map A.bytes sources.now)) []) ∷ []) }
         ensures read { OnOk result (IsProper RecordType.Unknown record_type_rows record_type
@@ -93,9 +96,9 @@ impl<'a, A: Address> RecordsWriter<'a, A> {
 
     /// Forgets the records, so that all octets are free.
     pub fn clear(&mut self)
-        ensures written { written self.new ≡ [] }
+        ensures settled { settled self.new ≡ [] }
         ensures count { count_of self.new ≡ 0 }
-        ensures free { length (free_of self.new) ≡ length (written self.old) + length (free_of self.old) }
+        ensures free { length (free self.new) ≡ length (settled self.old) + length (free self.old) }
         ensures same_slice { the_slice self.new ≡ the_slice self.old }
     {
         self.position = 0;
@@ -105,7 +108,7 @@ impl<'a, A: Address> RecordsWriter<'a, A> {
     /// The records that are written.
     pub fn records(&self) -> Records<'_, A>
         ensures count { count_in result ≡ count_of self.now }
-        ensures octets { octets_in result ≡ written self.now }
+        ensures octets { octets_in result ≡ settled self.now }
         ensures whole { records_len_in (width A.family) (count_in result) (octets_in result)
             ≡ length (octets_in result) }
     {
@@ -127,7 +130,8 @@ fn write_record<A: Address>(record_type: RecordType, group: &A, sources: &[A], o
 
 // Writes the fields of a record without auxiliary data.
 fn put_record<A: Address>(w: &mut ByteWriter<'_>, record_type: RecordType, group: &A, sources: &[A])
-    requires room { sources_at (width A.family) + width A.family * length sources.now ≤ length (free w.old) }
+    requires room { sources_at (width A.family) + width A.family * length sources.now
+        ≤ length (byte_writer.free w.old) }
     requires few { length sources.now ≤ 65535 }
     ensures { Puts w.old w.new (record_fields (width A.family)
         (group_record record_type (A.bytes group.now) (concat (map A.bytes sources.now)) [])) }

@@ -17,8 +17,8 @@ invariant_of-self-clause-whole g c =
     (search rules) c.if-self-len.false c.write_record.ensures in
     after.1
 
-pub returns-clause-written : goal.returns-clause-written
-returns-clause-written g c =
+pub returns-clause-settled : goal.returns-clause-settled
+returns-clause-settled g c =
     let f = g.A.Address.family in
     let bytes = g.A.Address.bytes in
     let w = c.args.self.now in
