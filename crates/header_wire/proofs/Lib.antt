@@ -1,4 +1,6 @@
+pub mod ArpFormat
 pub mod ExtendedEchoes
+pub mod Hardware
 pub mod HeaderFormat
 pub mod HeaderTexts
 pub mod Icmpv6Format

@@ -1,3 +1,6 @@
+pub mod Arp
+pub mod ArpDisplay
+pub mod ArpTables
 pub mod ExtendedEcho
 pub mod ExtendedEchoDisplay
 pub mod Icmpv4

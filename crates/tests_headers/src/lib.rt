@@ -2,6 +2,8 @@
 #![tactic(auto)]
 
 #[cfg(test)]
+mod arp;
+#[cfg(test)]
 mod headers;
 #[cfg(test)]
 mod icmpv6;

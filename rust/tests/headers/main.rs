@@ -5,6 +5,8 @@
 mod rattle_std;
 
 #[cfg(test)]
+mod arp;
+#[cfg(test)]
 mod headers;
 #[cfg(test)]
 mod icmpv6;
