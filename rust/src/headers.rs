@@ -1,9 +1,10 @@
 // Made from crates/header_wire/src/lib.rt by rust/erase.
 //! Headers of IPv4 with their options (RFC 791, RFC 2113); messages of ICMPv4 beside echoes and errors (RFC 792,
 //! RFC 950, RFC 1256, RFC 8335), and of ICMPv6 (RFC 8335, RFC 4620); read and written with their checksums. Packets of
-//! ARP (RFC 826).
+//! ARP (RFC 826), headers of Ethernet (RFC 894).
 
 pub mod arp;
+pub mod ethernet;
 mod extended_echo;
 pub mod icmpv4;
 pub mod icmpv6;

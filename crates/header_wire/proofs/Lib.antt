@@ -1,4 +1,5 @@
 pub mod ArpFormat
+pub mod EthernetFormat
 pub mod ExtendedEchoes
 pub mod Hardware
 pub mod HeaderFormat

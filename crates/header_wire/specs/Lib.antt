@@ -1,6 +1,8 @@
 pub mod Arp
 pub mod ArpDisplay
 pub mod ArpTables
+pub mod Ethernet
+pub mod EthernetDisplay
 pub mod ExtendedEcho
 pub mod ExtendedEchoDisplay
 pub mod Icmpv4

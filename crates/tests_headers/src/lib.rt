@@ -4,6 +4,8 @@
 #[cfg(test)]
 mod arp;
 #[cfg(test)]
+mod ethernet;
+#[cfg(test)]
 mod headers;
 #[cfg(test)]
 mod icmpv6;

@@ -7,6 +7,8 @@ mod rattle_std;
 #[cfg(test)]
 mod arp;
 #[cfg(test)]
+mod ethernet;
+#[cfg(test)]
 mod headers;
 #[cfg(test)]
 mod icmpv6;
