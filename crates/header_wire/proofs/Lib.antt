@@ -5,7 +5,9 @@ pub mod Hardware
 pub mod HeaderFormat
 pub mod HeaderTexts
 pub mod Icmpv6Format
+pub mod Ipv6FragmentFormat
 pub mod MessageFormat
 pub mod MessageTexts
 pub mod OptionTiles
+pub mod PartsAhead
 pub mod RoutersAhead

@@ -5,12 +5,15 @@ pub mod Ethernet
 pub mod EthernetDisplay
 pub mod ExtendedEcho
 pub mod ExtendedEchoDisplay
+pub mod Fragments
 pub mod Icmpv4
 pub mod Icmpv4Display
 pub mod Icmpv6
 pub mod Icmpv6Display
 pub mod Ipv4
 pub mod Ipv4Display
+pub mod Ipv6Fragment
+pub mod Ipv6FragmentDisplay
 pub mod Options
 pub mod OptionsDisplay
 pub mod Routers

@@ -1,2 +1,3 @@
+pub mod Fragments
 pub mod Options
 pub mod Routers

@@ -9,6 +9,8 @@ mod arp;
 #[cfg(test)]
 mod ethernet;
 #[cfg(test)]
+mod fragments;
+#[cfg(test)]
 mod headers;
 #[cfg(test)]
 mod icmpv6;

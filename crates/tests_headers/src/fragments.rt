@@ -1,0 +1,181 @@
+//! Fragment headers of IPv6 as tcpdump shows them, and the parts of payloads: those of RFC 791 appendix A, and those
+//! that Linux sends.
+
+ghost use Rattle.std.specs.Prelude.{◌≡◌, ◌≤◌, ◌<◌, ◌^◌, length};
+
+use crate::testing::{prints, same, same_of, takes_writes};
+use header_wire::fragments::MAX_PAYLOAD_LEN;
+use header_wire::ipv6_fragment::{Header, LEN, Refusal};
+use header_wire::{Fragment, Fragments};
+use std::alloc::Global;
+use std::process::Abort;
+use wirebase::IpProtocol;
+
+// The octets of a buffer before it is written into.
+const FILLS: &[u8] = &[0x00, 0xff, 0x2a, 0xa5];
+
+// Checks that a header before a payload is read and prints this, and is written over the front of any octets.
+fn check(rt: &impl Abort, alloc: Global, octets: &[u8; LEN], header: Header, text: &str)
+    requires { header.frag_offset < 2 ^ 13 }
+{
+    let mut packet = [0x5a; 20];
+    packet[..LEN].copy_from_slice(octets);
+    same(rt, Header::parse(&packet), Ok((header, &[0x5a; 12][..])));
+    same(rt, Header::parse(octets), Ok((header, &[][..])));
+    prints(rt, alloc, &header, text);
+    same(rt, header.buffer_len(), LEN);
+    for &fill in FILLS {
+        let mut written = [fill; 10];
+        header.emit_into(&mut written);
+        let mut wanted = [fill; 10];
+        wanted[..LEN].copy_from_slice(octets);
+        same_of(rt, fill, written, wanted);
+    }
+}
+
+// The header of a fragment of a message of ICMPv6.
+fn fragment(frag_offset: u16, more_frags: bool, ident: u32) -> Header
+    ensures { result.frag_offset ≡ frag_offset }
+{
+    Header {
+        next_header: IpProtocol::Icmpv6,
+        frag_offset,
+        more_frags,
+        ident,
+    }
+}
+
+#[test]
+fn headers_of_fragments(rt: HostRuntime) {
+    // Three of one packet, the last of another, and the greatest numbers.
+    check(
+        &rt,
+        rt.alloc(),
+        &[0x3a, 0x00, 0x00, 0x01, 0x37, 0x32, 0xd8, 0x69],
+        fragment(0, true, 0x3732d869),
+        "next_header=ICMPv6 ident=926079081 more_frags=true offset=0",
+    );
+    check(
+        &rt,
+        rt.alloc(),
+        &[0x3a, 0x00, 0x05, 0xa9, 0x37, 0x32, 0xd8, 0x69],
+        fragment(181, true, 0x3732d869),
+        "next_header=ICMPv6 ident=926079081 more_frags=true offset=181",
+    );
+    check(
+        &rt,
+        rt.alloc(),
+        &[0x3a, 0x00, 0x0b, 0x50, 0x37, 0x32, 0xd8, 0x69],
+        fragment(362, false, 0x3732d869),
+        "next_header=ICMPv6 ident=926079081 more_frags=false offset=362",
+    );
+    check(
+        &rt,
+        rt.alloc(),
+        &[0x3a, 0x00, 0x05, 0xa8, 0x82, 0x9a, 0x60, 0xd7],
+        fragment(181, false, 0x829a60d7),
+        "next_header=ICMPv6 ident=2191155415 more_frags=false offset=181",
+    );
+    let greatest = Header {
+        next_header: IpProtocol::Unknown(0xff),
+        frag_offset: 8191,
+        more_frags: true,
+        ident: 0xffffffff,
+    };
+    check(
+        &rt,
+        rt.alloc(),
+        &[0xff, 0x00, 0xff, 0xf9, 0xff, 0xff, 0xff, 0xff],
+        greatest,
+        "next_header=0xff ident=4294967295 more_frags=true offset=8191",
+    );
+}
+
+// They are not looked at, and are written as zeros (RFC 8200 section 4.5).
+#[test]
+fn reserved_bits_of_fragment_headers(rt: HostRuntime) {
+    let octets = [0x3a, 0xff, 0x05, 0xae, 0x82, 0x9a, 0x60, 0xd7];
+    let header = fragment(181, false, 0x829a60d7);
+    same(&rt, Header::parse(&octets), Ok((header, &[][..])));
+}
+
+#[test]
+fn what_is_refused_of_fragments(rt: HostRuntime) {
+    let octets = [0x3a; LEN];
+    for len in 0..LEN {
+        same_of(&rt, len, Header::parse(&octets[..len]), Err(Refusal::Short));
+    }
+    prints(&rt, rt.alloc(), &Refusal::Short, "fewer than 8 bytes");
+    takes_writes(&rt, &Refusal::Short, 1);
+}
+
+// Checks that a payload has these parts, by their offsets, whether others follow, and their lengths.
+fn check_parts(rt: &impl Abort, payload: &[u8], room: usize, wanted: &[(u16, bool, usize)])
+    requires room { 8 ≤ room }
+    requires payload { length payload.now ≤ 65535 }
+{
+    let mut parts = Fragments::new(payload, room);
+    let mut rest = payload;
+    for &(frag_offset, more_frags, len) in wanted {
+        let (part, behind) = rest.split_at(len.min(rest.len()));
+        rest = behind;
+        let wanted = Fragment {
+            frag_offset,
+            more_frags,
+            part,
+        };
+        same_of(rt, room, parts.next(), Some(wanted));
+    }
+    same_of(rt, room, parts.next(), None);
+    same_of(rt, room, parts.next(), None);
+    same_of(rt, room, rest, &[]);
+}
+
+#[test]
+fn parts_of_payloads(rt: HostRuntime) {
+    let mut octets = [0; 3008];
+    for (place, octet) in octets.iter_mut().enumerate() {
+        *octet = (place % 251) as u8;
+    }
+    // The bytes of a payload, and how many a fragment has room for.
+    let rows: &[(usize, usize, &[(u16, bool, usize)])] = &[
+        // RFC 791 appendix A, example 2: 280 bytes are all of a packet, its header too.
+        (452, 260, &[(0, true, 256), (32, false, 196)]),
+        // An echo request of 3,000 bytes over links of 1,500: their headers take 48.
+        (
+            3008,
+            1452,
+            &[(0, true, 1448), (181, true, 1448), (362, false, 112)],
+        ),
+        (0, 8, &[(0, false, 0)]),
+        (1, 8, &[(0, false, 1)]),
+        (8, 8, &[(0, false, 8)]),
+        (9, 8, &[(0, true, 8), (1, false, 1)]),
+        (15, 15, &[(0, false, 15)]),
+        (16, 15, &[(0, true, 8), (1, false, 8)]),
+        (23, 15, &[(0, true, 8), (1, false, 15)]),
+        (24, 15, &[(0, true, 8), (1, true, 8), (2, false, 8)]),
+        (3008, 65_536, &[(0, false, 3008)]),
+    ];
+    for &(len, room, wanted) in rows {
+        let Some(payload) = octets.get(..len) else {
+            same_of(&rt, len, false, true);
+            continue;
+        };
+        check_parts(&rt, payload, room.max(8), wanted);
+    }
+}
+
+#[test]
+fn the_greatest_payload_in_the_smallest_parts(rt: HostRuntime) {
+    let octets = [0x5a; MAX_PAYLOAD_LEN];
+    let mut count = 0;
+    for (place, fragment) in Fragments::new(&octets, 8).enumerate() {
+        count = place + 1;
+        same_of(&rt, place, fragment.frag_offset as usize, place);
+        same_of(&rt, place, fragment.more_frags, place < 8191);
+        let len = if place < 8191 { 8 } else { 7 };
+        same_of(&rt, place, fragment.part.len(), len);
+    }
+    same(&rt, count, 8192);
+}
