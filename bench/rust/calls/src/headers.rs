@@ -1,10 +1,12 @@
-//! Headers of IPv4 with options, and messages of ICMPv4 and of ICMPv6 beside echoes and errors.
+//! Headers of IPv4 with options, messages of ICMPv4 and of ICMPv6 beside echoes and errors, packets of ARP, headers of
+//! Ethernet and of fragments, and the parts of payloads.
 
 use crate::measure::{iterates, prints, reads, writes};
 use crate::random::{Random, many};
 use control_wire::headers::icmpv4::{AddressMask, ExtendedEchoRequest, Message, Timestamp};
-use control_wire::headers::{Header, Options, ROUTER_ALERT, icmpv6};
-use control_wire::{IpProtocol, Ipv6Address};
+use control_wire::headers::{Fragments, Header, Options, ROUTER_ALERT};
+use control_wire::headers::{arp, ethernet, icmpv6, ipv6_fragment};
+use control_wire::{IpProtocol, Ipv4Address, Ipv6Address};
 
 /// The addresses of the packets of ICMPv6.
 const SOURCE: Ipv6Address = Ipv6Address::new(0x2001, 0xdb8, 1, 0, 0, 0, 0, 7);
@@ -90,6 +92,102 @@ fn icmpv6_cases() {
     });
 }
 
+/// The cases of packets of ARP.
+fn arp_cases() {
+    let packets = many(64, |random, place| arp::Repr {
+        operation: (1 + place as u16 % 2).into(),
+        source_hardware_addr: random.ethernet(),
+        source_protocol_addr: random.ipv4(),
+        target_hardware_addr: random.ethernet(),
+        target_protocol_addr: random.ipv4(),
+    });
+    writes(
+        "headers_arp_emit",
+        &packets,
+        arp::Repr::buffer_len,
+        |packet, out| packet.emit_into(out),
+    );
+    let octets: Vec<[u8; 46]> = packets
+        .iter()
+        .map(|packet| {
+            let mut octets = [0; 46];
+            packet.emit_into(&mut octets);
+            octets
+        })
+        .collect();
+    reads("headers_arp_parse", &octets, |octets| {
+        arp::Repr::parse(octets)
+    });
+    prints("headers_arp_display", &packets);
+}
+
+/// The cases of headers of Ethernet, and of hardware addresses of groups.
+fn ethernet_cases() {
+    let headers = many(65, |random, _| ethernet::Header {
+        destination: random.ethernet(),
+        source: random.ethernet(),
+        ether_type: random.u16(),
+    });
+    writes(
+        "headers_ethernet_emit",
+        &headers,
+        ethernet::Header::buffer_len,
+        |header, out| header.emit_into(out),
+    );
+    let octets: Vec<[u8; 60]> = headers
+        .iter()
+        .map(|header| {
+            let mut octets = [0; 60];
+            header.emit_into(&mut octets);
+            octets
+        })
+        .collect();
+    reads("headers_ethernet_parse", &octets, |octets| {
+        ethernet::Header::parse(octets)
+    });
+    prints("headers_ethernet_display", &headers);
+    let groups: Vec<Ipv4Address> = many(66, |random, _| random.ipv4());
+    reads("headers_multicast_v4", &groups, |group| {
+        ethernet::multicast_v4(*group)
+    });
+    let groups: Vec<Ipv6Address> = many(67, |random, _| random.group());
+    reads("headers_multicast_v6", &groups, |group| {
+        ethernet::multicast_v6(*group)
+    });
+}
+
+/// The cases of fragment headers, and of parts of payloads.
+fn fragment_cases() {
+    let headers = many(68, |random, _| ipv6_fragment::Header {
+        next_header: random.octet().into(),
+        frag_offset: random.u16() % 8192,
+        more_frags: random.is_even(),
+        ident: random.u32(),
+    });
+    writes(
+        "headers_ipv6_fragment_emit",
+        &headers,
+        ipv6_fragment::Header::buffer_len,
+        |header, out| header.emit_into(out),
+    );
+    let octets: Vec<[u8; 48]> = headers
+        .iter()
+        .map(|header| {
+            let mut octets = [0; 48];
+            header.emit_into(&mut octets);
+            octets
+        })
+        .collect();
+    reads("headers_ipv6_fragment_parse", &octets, |octets| {
+        ipv6_fragment::Header::parse(octets)
+    });
+    prints("headers_ipv6_fragment_display", &headers);
+    let payloads = many(69, |random, place| random.octets(500 * place));
+    iterates("headers_fragments", &payloads, |payload| {
+        Fragments::new(payload, 1_452)
+    });
+}
+
 /// The cases of this group.
 pub fn cases() {
     let headers: Vec<Header<'_>> = many(61, |random, place| Header {
@@ -143,4 +241,7 @@ pub fn cases() {
     });
     icmpv6_cases();
     prints("headers_display", &headers);
+    arp_cases();
+    ethernet_cases();
+    fragment_cases();
 }
