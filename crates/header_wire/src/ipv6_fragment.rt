@@ -30,8 +30,7 @@ pub enum Refusal {
     Short,
 }
 
-/// The header of a fragment of a packet of IPv6, which the header before it names by
-/// [`Ipv6Frag`](wirebase::IpProtocol::Ipv6Frag).
+/// The header of a fragment of a packet of IPv6, which the header before it names by [`IpProtocol::Ipv6Frag`].
 ///
 /// ```
 /// use control_wire::IpProtocol;

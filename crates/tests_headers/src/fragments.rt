@@ -169,13 +169,16 @@ fn parts_of_payloads(rt: HostRuntime) {
 #[test]
 fn the_greatest_payload_in_the_smallest_parts(rt: HostRuntime) {
     let octets = [0x5a; MAX_PAYLOAD_LEN];
-    let mut count = 0;
-    for (place, fragment) in Fragments::new(&octets, 8).enumerate() {
-        count = place + 1;
-        same_of(&rt, place, fragment.frag_offset as usize, place);
-        same_of(&rt, place, fragment.more_frags, place < 8191);
-        let len = if place < 8191 { 8 } else { 7 };
-        same_of(&rt, place, fragment.part.len(), len);
+    let mut parts = Fragments::new(&octets, 8);
+    for frag_offset in 0..8192 {
+        let more_frags = frag_offset < 8191;
+        let len = if more_frags { 8 } else { 7 };
+        let wanted = Fragment {
+            frag_offset,
+            more_frags,
+            part: &octets[..len],
+        };
+        same_of(&rt, frag_offset, parts.next(), Some(wanted));
     }
-    same(&rt, count, 8192);
+    same(&rt, parts.next(), None);
 }
