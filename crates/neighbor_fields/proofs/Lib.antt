@@ -1,2 +1,5 @@
+pub mod OneField
 pub mod RecordsInTurn
+pub mod SearchNames
 pub mod Told
+pub mod Zeros

@@ -4,4 +4,6 @@ pub mod Lack
 pub mod Messages
 pub mod Mld
 pub mod Ndisc
+pub mod NdiscOptions
+pub mod NdiscTexts
 pub mod Records

@@ -8,10 +8,15 @@ ghost use Rattle.packet_fields.specs.Names.{name_in as name_of};
 ghost use Rattle.packet_fields.specs.Prints.{Prints};
 ghost use Rattle.neighbor_fields.specs.Messages.{type_in};
 ghost use Rattle.neighbor_fields.specs.Ndisc.{body_items, fields_items, flags_items, header_len, message_items};
-ghost use Rattle.neighbor_fields.specs.Ndisc.{neighbor_flags, neighbor_items, preference_items, preference_names};
+ghost use Rattle.neighbor_fields.specs.Ndisc.{neighbor_flags, neighbor_items, preference_items};
 ghost use Rattle.neighbor_fields.specs.Ndisc.{redirect_items, router_flags, router_items, target_items};
+ghost use Rattle.neighbor_fields.specs.NdiscOptions.{preference_names};
 
+mod names;
 pub mod options;
+mod others;
+mod reasons;
+mod texts;
 
 use crate::messages::{HEAD_LEN, millis, show_cut, show_head};
 use options::show_options;
@@ -189,8 +194,8 @@ fn show_target<W: Write>(output: &mut W, form: Form, message: &[u8]) -> io::Resu
     field(output, form, "target_addr", Address(addr))
 }
 
-// The name of a router's preference (RFC 4191 section 2.1).
-fn preference_name(preference: u8) -> Option<&'static str>
+// The name of the preference of a router or a route (RFC 4191 section 2.1).
+pub(crate) fn preference_name(preference: u8) -> Option<&'static str>
     ensures { option_map (λ name. name.now) result ≡ name_of preference_names preference }
 {
     name_in(PREFERENCES, preference as u16)

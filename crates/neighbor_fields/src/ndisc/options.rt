@@ -7,11 +7,13 @@ ghost use Rattle.packet_fields.specs.Fields.{text};
 ghost use Rattle.packet_fields.specs.Labels.{label_text};
 ghost use Rattle.packet_fields.specs.Prints.{Prints, PrintsCells};
 ghost use Rattle.packet_fields.specs.Texts.{address_text};
-ghost use Rattle.neighbor_fields.specs.Ndisc.{address_entry, flags_cells, label_of, mtu_entry, option_entry};
-ghost use Rattle.neighbor_fields.specs.Ndisc.{option_len, options_items, plain_entry, prefix_cells, prefix_entry};
-ghost use Rattle.neighbor_fields.specs.Ndisc.{prefix_flags, quoted_cells, redirected_entry, refusal, whole_entry};
-ghost use Rattle.neighbor_fields.specs.Ndisc.{wrong_form, wrong_quote};
+ghost use Rattle.neighbor_fields.specs.NdiscOptions.{address_entry, flags_cells, label_of, mtu_entry, option_entry};
+ghost use Rattle.neighbor_fields.specs.NdiscOptions.{option_len, options_items, plain_entry, prefix_cells};
+ghost use Rattle.neighbor_fields.specs.NdiscOptions.{prefix_entry, prefix_flags, quoted_cells, redirected_entry};
+ghost use Rattle.neighbor_fields.specs.NdiscOptions.{refusal, whole_entry, wrong_form};
 
+use super::others::show_other;
+use super::reasons::wrong_form;
 use packet_fields::Form;
 use packet_fields::entries::show_octets;
 use packet_fields::entry::{close_entry, first_cell, hidden_number, keyed_cell, open_entry};
@@ -29,20 +31,20 @@ const SOURCE_ADDRESS: u8 = 1;
 
 const TARGET_ADDRESS: u8 = 2;
 
-const PREFIX_INFORMATION: u8 = 3;
+pub(super) const PREFIX_INFORMATION: u8 = 3;
 
-const REDIRECTED_HEADER: u8 = 4;
+pub(super) const REDIRECTED_HEADER: u8 = 4;
 
-const MTU: u8 = 5;
+pub(super) const MTU: u8 = 5;
 
 // The octets of a unit.
 const UNIT: usize = 8;
 
 // The octets of a type and a length.
-const HEAD_LEN: usize = 2;
+pub(super) const HEAD_LEN: usize = 2;
 
 // The fields of options; those of a redirected packet begin at its IPv6 header.
-mod place {
+pub(super) mod place {
     use wirebase::octets::Field;
 
     pub const PREFIX_LEN: Field = 2..3;
@@ -125,35 +127,9 @@ pub fn refusal(option: &[u8]) -> Option<&'static str>
     wrong_form(option)
 }
 
-// Why an option of the length that it counts is refused by its type, where it is.
-fn wrong_form(option: &[u8]) -> Option<&'static str>
-    requires { 2 ≤ length option.now }
-    ensures { option_map (λ why. why.now) result ≡ wrong_form option.now }
-{
-    match option[0] {
-        PREFIX_INFORMATION if option.len() != place::PREFIX_END => Some("not 32 bytes"),
-        REDIRECTED_HEADER => wrong_quote(option),
-        MTU if option.len() != place::MTU_END => Some("not 8 bytes"),
-        _ => None,
-    }
-}
-
-// Why a redirected packet is refused, where it is.
-fn wrong_quote(option: &[u8]) -> Option<&'static str>
-    ensures { option_map (λ why. why.now) result ≡ wrong_quote option.now }
-{
-    if option.len() < place::QUOTED_END {
-        return Some("fewer than 48 bytes");
-    }
-    if option.u8_at(place::QUOTED_VERSION) / 16 != 6 {
-        return Some("not of version 6");
-    }
-    None
-}
-
 // Prints an option that is not refused.
 fn show_whole<W: Write>(output: &mut W, form: Form, is_first: bool, option: &[u8]) -> io::Result<()>
-    requires long { 2 ≤ length option.now }
+    requires long { 8 ≤ length option.now }
     requires right_form { wrong_form option.now ≡ None }
     ensures { OnOk result (PrintsEntry form is_first (W.contents output.old) (W.contents output.new)
         (whole_entry option.now)) }
@@ -165,12 +141,12 @@ fn show_whole<W: Write>(output: &mut W, form: Form, is_first: bool, option: &[u8
         PREFIX_INFORMATION => show_prefix(output, form, is_first, option),
         REDIRECTED_HEADER => show_redirected(output, form, is_first, option),
         MTU => show_mtu(output, form, is_first, option),
-        _ => show_plain(output, form, is_first, option, None),
+        _ => show_other(output, form, is_first, option),
     }
 }
 
 // Prints an option by its octets, and why it is refused where it is.
-fn show_plain<W: Write>(
+pub(super) fn show_plain<W: Write>(
     output: &mut W,
     form: Form,
     is_first: bool,
@@ -252,7 +228,7 @@ fn show_lifetimes<W: Write>(output: &mut W, form: Form, option: &[u8]) -> io::Re
 }
 
 // Prints the flags of a prefix.
-#[tactic(auto, unfolding(crate::specs::Ndisc::prefix_flags))]
+#[tactic(auto, unfolding(crate::specs::NdiscOptions::prefix_flags))]
 fn show_flags<W: Write>(output: &mut W, form: Form, bits: u8) -> io::Result<()>
     ensures { OnOk result (PrintsCells form (W.contents output.old) (W.contents output.new)
         (flags_cells bits)) }
@@ -360,8 +336,8 @@ fn show_mtu<W: Write>(output: &mut W, form: Form, is_first: bool, option: &[u8])
 }
 
 // What an option is called.
-#[tactic(auto, unfolding(crate::specs::Ndisc::option_names))]
-fn label_of(type_: u8) -> Label<'static>
+#[tactic(auto, unfolding(crate::specs::NdiscOptions::option_names))]
+pub(super) fn label_of(type_: u8) -> Label<'static>
     ensures value { label_text (option_map (λ name. name.now) result.name) result.kind.now result.number
         ≡ label_of type_ }
     ensures number { result.number ≡ type_ }

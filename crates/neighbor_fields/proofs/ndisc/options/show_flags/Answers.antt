@@ -1,5 +1,5 @@
 -- The flags by the table of the specification.
-use Rattle.neighbor_fields.specs.Ndisc.{prefix_flags}
+use Rattle.neighbor_fields.specs.NdiscOptions.{prefix_flags}
 use Rattle.neighbor_fields.proofs.ndisc.options.show_flags.Goals as goal
 
 pub returns : goal.returns

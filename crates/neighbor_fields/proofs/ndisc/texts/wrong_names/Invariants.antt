@@ -1,0 +1,7 @@
+-- The octets that are left tell the same as all.
+use Rattle.std.proofs.Common.{◌≡◌, drop}
+use Rattle.neighbor_fields.specs.NdiscTexts.{wrong_names, wrong_within}
+use Rattle.neighbor_fields.proofs.ndisc.texts.wrong_names.Given as goal
+
+abbrev pub invariant-loop-octet : goal.invariant-loop-octet
+invariant-loop-octet l = wrong_within l.begun l.left (drop l.octet-index l.octets) ≡ wrong_names l.octets

@@ -1,0 +1,85 @@
+-- The texts of options of neighbor discovery: the domain names of a search list (RFC 8106 section 5.2) and the URI of a
+-- captive portal (RFC 8910 section 2.3).
+use Rattle.std.specs.Prelude.{◌==◌, ◌&&◌, ◌||◌, ◌-◌, [], ◌∷◌, ◌++◌, Bool, List, None, Option, Some, ℕ, codes, drop}
+use Rattle.std.specs.Prelude.{false, flat_map, if◌then◌else◌, length, map, nat_le, nat_lt, suc, take, true, zero}
+use Rattle.wirebase.specs.Duration.{three_digits}
+use Rattle.wirebase.specs.Hexadecimal.{encode_lower}
+
+-- ---- names, one after another up to the end or to a zero in the place of a name, which is padding: each is labels
+-- behind their lengths, and an empty label at its end (RFC 1035 section 3.1)
+
+-- Why octets are no such names, where `left` octets of a label are to come, and a name has begun or not.
+abbrev pub wrong_within : Bool → ℕ → List ℕ → Option (List ℕ)
+wrong_within begun left [] = if begun then Some (codes "the octets end before the name does") else None
+wrong_within begun left (b ∷ rest) =
+    if nat_lt 0 left then wrong_within begun (left - 1) rest
+    else if b == 0 then (if begun then wrong_within false 0 rest else None)
+    else if nat_lt 63 b then Some (codes "a label of more than 63 bytes")
+    else wrong_within true b rest
+
+abbrev pub wrong_names : List ℕ → Option (List ℕ)
+wrong_names bytes = wrong_within false 0 bytes
+
+-- the octets up to the end of a name, of which `left` octets of a label are to come
+abbrev pub len_within : ℕ → List ℕ → ℕ
+len_within left [] = 0
+len_within left (b ∷ rest) =
+    if nat_lt 0 left then suc (len_within (left - 1) rest) else if b == 0 then 1 else suc (len_within b rest)
+
+abbrev pub name_len : List ℕ → ℕ
+name_len bytes = len_within 0 bytes
+
+-- the octets of each name, at most so many names: a name has an octet at least
+abbrev pub names_up_to : ℕ → List ℕ → List (List ℕ)
+names_up_to zero bytes = []
+names_up_to (suc most) [] = []
+names_up_to (suc most) (b ∷ bs) =
+    if b == 0 then []
+    else take (name_len (b ∷ bs)) (b ∷ bs) ∷ names_up_to most (drop (name_len (b ∷ bs)) (b ∷ bs))
+
+-- An octet of a label as a zone file has it (RFC 1035 section 5.1): after a backslash where it has a meaning of its own
+-- ("  $  (  )  .  ;  @  \), as itself where it is visible, and after a backslash by its number.
+abbrev pub has_meaning : ℕ → Bool
+has_meaning b = b == 34 || b == 36 || b == 40 || b == 41 || b == 46 || b == 59 || b == 64 || b == 92
+
+abbrev pub label_character : ℕ → List ℕ
+label_character b =
+    if has_meaning b then codes "\\" ++ b ∷ []
+    else if nat_le 33 b && nat_le b 126 then b ∷ []
+    else codes "\\" ++ three_digits b
+
+-- the rest of a name, of which `left` octets of a label are to come: the length of a further label is a dot
+abbrev pub text_within : ℕ → List ℕ → List ℕ
+text_within left [] = []
+text_within left (b ∷ rest) =
+    if nat_lt 0 left then label_character b ++ text_within (left - 1) rest else codes "." ++ text_within b rest
+
+-- a name: its labels, each before a dot
+abbrev pub name_text : List ℕ → List ℕ
+name_text [] = []
+name_text (first_len ∷ rest) = text_within first_len rest
+
+abbrev pub names_in : List ℕ → List (List ℕ)
+names_in bytes = map name_text (names_up_to (length bytes) bytes)
+
+-- ---- URIs
+
+-- the octets without the zeros at their end
+abbrev pub before_zeros : ℕ → List ℕ → List ℕ
+before_zeros b [] = if b == 0 then [] else b ∷ []
+before_zeros b (next ∷ rest) = b ∷ next ∷ rest
+
+unfoldable pub without_zeros : List ℕ → List ℕ
+without_zeros [] = []
+without_zeros (b ∷ bs) = before_zeros b (without_zeros bs)
+
+-- an octet of a URI: `"` and `\` after a backslash, other visible ones and a space as themselves, and any other by two
+-- digits
+abbrev pub uri_character : ℕ → List ℕ
+uri_character b =
+    if b == 34 || b == 92 then codes "\\" ++ b ∷ []
+    else if nat_le 32 b && nat_le b 126 then b ∷ []
+    else codes "\\x" ++ encode_lower (b ∷ [])
+
+unfoldable pub uri_text : List ℕ → List ℕ
+uri_text bytes = flat_map uri_character (without_zeros bytes)
