@@ -1,8 +1,10 @@
 """Hop-by-hop options, neighbor discovery, multicast listeners and groups, as items, however much of them is there."""
+from dhcp import characters
 from frames import Refused
 from items import HIDDEN, Cell, Entries, Entry, Field, Named, Time, labelled, named, seconds
 from registries import (ALERTS, HOP_OPTIONS, ICMP6_TYPES, IGMP_TYPES, NEIGHBOR_OPTIONS, PREFERENCES, RECORDS)
 from text import address, be, colons, dotted, mac
+from zones import label
 
 CUT_OPTION = "fewer bytes than the option counts"
 CUT_FIELDS = "fewer bytes than the fields take"
@@ -173,6 +175,9 @@ def neighbor_option(octets, is_whole):
         return told(*redirected(octets)) if octets[8] >> 4 == 6 else plain("not of version 6")
     if kind == 5:
         return told(("mtu", be(octets[4:8]))) if len(octets) == 8 else plain("not 8 bytes")
+    if kind in OTHERS:
+        values = OTHERS[kind](octets)
+        return plain(values) if isinstance(values, str) else told(*values)
     return plain()
 
 
@@ -189,6 +194,88 @@ def redirected(octets):
     return (("quoted_src_addr", colons(quote[8:24])), Cell("quoted_dst_addr", colons(quote[24:40])),
             Cell("quoted_next_header", quote[6]), Cell("quoted_hop_limit", quote[7]),
             Cell("quoted_payload_len", be(quote[4:6])), Cell("quoted_payload", quote[40:]))
+
+
+# ---- options of other standards: the values of each, or why it is refused
+
+def nonce(octets):
+    """RFC 3971 section 5.3.2."""
+    return (("nonce", octets[2:]),)
+
+
+def route(octets):
+    """RFC 4191 section 2.3."""
+    length, there = octets[2], octets[8:]
+    if len(there) > 16:
+        return "more than 24 bytes"
+    if length > 8 * len(there):
+        return "too many bits for the prefix"
+    return (("prefix", filled(there, length)), Cell("preference", PREFERENCES[octets[3] >> 3 & 3]), lifetime(octets))
+
+
+def filled(front, length):
+    """A prefix of so many bits, of which the octets behind these are zero."""
+    return "%s/%d" % (colons(front.ljust(16, b"\0")), length)
+
+
+def lifetime(octets):
+    return Cell("lifetime", seconds(be(octets[4:8])))
+
+
+def servers(octets):
+    """RFC 8106 section 5.1."""
+    if len(octets) < 24:
+        return "fewer than 24 bytes"
+    if len(octets[8:]) % 16:
+        return "no whole number of addresses"
+    return (("servers", addresses(octets[8:], 16)), lifetime(octets))
+
+
+def search_list(octets):
+    """RFC 8106 section 5.2."""
+    if len(octets) < 16:
+        return "fewer than 16 bytes"
+    names = names_in(octets[8:])
+    return names if isinstance(names, str) else (("names", names), lifetime(octets))
+
+
+def names_in(octets):
+    """Names up to the end, or to a zero in the place of a name (RFC 1035 section 3.1); or why they are none."""
+    names = []
+    while octets and octets[0]:
+        text = ""
+        while octets and octets[0]:
+            if octets[0] > 63:
+                return "a label of more than 63 bytes"
+            text += label(octets[1:1 + octets[0]]) + "."
+            octets = octets[1 + octets[0]:]
+        if not octets:
+            return "the octets end before the name does"
+        octets = octets[1:]
+        names.append(text)
+    return names
+
+
+def portal(octets):
+    """RFC 8910 section 2.3."""
+    return (("uri", characters(octets[2:].rstrip(b"\0"))),)
+
+
+# The bits of the prefix of a NAT64 by their code.
+NAT64_LENGTHS = (96, 64, 56, 48, 40, 32)
+
+
+def nat64(octets):
+    """RFC 8781 section 4."""
+    if len(octets) != 16:
+        return "not 16 bytes"
+    scaled, code = divmod(be(octets[2:4]), 8)
+    if code >= len(NAT64_LENGTHS):
+        return "no prefix length has the code %d" % code
+    return (("prefix", filled(octets[4:], NAT64_LENGTHS[code])), Cell("lifetime", seconds(8 * scaled)))
+
+
+OTHERS = {14: nonce, 24: route, 25: servers, 31: search_list, 37: portal, 38: nat64}
 
 
 # ---- multicast listeners (RFC 2710, RFC 3810)

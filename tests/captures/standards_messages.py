@@ -255,6 +255,29 @@ PREFIX = hexed("0304 40c0 00000384 000003e8 00000000") + v6("2001:db8::")
 REDIRECTED = hexed("0407 0000 00000000") + ip6(b"\1\2\3\4\5\6\7\x08", UDP)
 ADVERT = hexed("40c0 0708 000003e8 00000064")
 
+
+def option(kind, data):
+    """An option of whole units, filled up with zeros."""
+    units = (len(data) + 9) // 8
+    return bytes([kind, units]) + data.ljust(8 * units - 2, b"\0")
+
+
+def advertises(*options):
+    return ip6_icmp6(134, 0, ADVERT[:4], ADVERT[4:] + b"".join(options))
+
+
+# The options that RFC 4861 has not: a nonce (RFC 3971), routes (RFC 4191), DNS servers and a search list (RFC 8106), a
+# captive portal (RFC 8910) and the prefix of a NAT64 (RFC 8781).
+NONCE = option(14, hexed("a1b2c3d4e5f6"))
+ROUTES = (option(24, hexed("3008 00000e10 20010db8000100000000000000000000")),
+          option(24, hexed("2118 ffffffff 20010db880000000")), option(24, hexed("0010 00000000")))
+SERVERS = option(25, hexed("0000 00000708") + SERVER6 + HOST6)
+SEARCHED = b"\7example\3org\0" + b"\3a.b\4\x80\\$ \0"
+SEARCH_LIST = option(31, hexed("0000 00000708") + SEARCHED)
+PORTAL = option(37, b"https://example.org/?a=\"\\ \xe9")
+NAT64 = option(38, hexed("0708 0064ff9b0000000000000000"))
+OTHERS = (NONCE, *ROUTES, SERVERS, SEARCH_LIST, PORTAL, NAT64)
+
 NEIGHBORS = {
     "router_solicitation": raw(ip6_icmp6(133, 0, ZERO, SOURCE_LINK, LINK_A, v6("ff02::2"))),
     "router_solicitation_of_no_address": raw(ip6_icmp6(133, 0, ZERO, b"", UNSPECIFIED, v6("ff02::2"))),
@@ -282,6 +305,23 @@ NEIGHBORS = {
     "router_advertisement_of_servers": raw(ip6_icmp6(134, 0, hexed("4008 0708"), b"\0" * 8 + hexed(
         "1903 0000 00000e10") + SERVER6 + hexed("fd01 010203040506 0e01 a1b2c3d4e5f6"))),
     "redirect_of_a_short_header": raw(ip6_icmp6(137, 0, ZERO, TARGET + HOST6 + b"\4\1" + b"\0" * 6)),
+    "router_advertisement_of_other_options": raw(advertises(*OTHERS)),
+    "router_advertisements_of_cut_options": raw(*(advertises(one[:-1]) for one in OTHERS)),
+    "router_advertisement_of_refused_options": raw(advertises(
+        option(24, hexed("4008 00000e10") + SERVER6 + b"\0" * 8), option(24, hexed("4108 00000e10") + SERVER6[:8]),
+        option(24, hexed("0108 00000e10")), option(25, hexed("0000 00000708")),
+        option(25, hexed("0000 00000708") + SERVER6 + b"\0" * 8), option(31, hexed("0000 00000708")),
+        option(31, hexed("0000 00000708") + b"\7example"),
+        option(31, hexed("0000 00000708") + b"\1a\0\x40" + b"b" * 64),
+        option(38, hexed("0708 0064ff9b")), option(38, hexed("0706 0064ff9b") + b"\0" * 8),
+        option(38, hexed("0707 0064ff9b") + b"\0" * 8), option(38, hexed("0708 0064ff9b") + b"\0" * 16), b"\x0e\0")),
+    "router_advertisement_of_prefix_lengths": raw(advertises(
+        *(option(38, (0xfff8 + code).to_bytes(2, "big") + HOST6[:12]) for code in range(6)),
+        *(option(24, bytes([8 * size, 0]) + b"\0" * 4 + HOST6[:size]) for size in (0, 8, 16)))),
+    "router_advertisement_of_texts": raw(advertises(
+        *(option(31, hexed("0000 00000708") + names) for names in (
+            b"\5local\0", b"\1a\0\1b\0\0c", b"\0" * 8, b"\x3f" + b"x" * 63 + b"\0", b"\2\"\x1f\0", b"\1a\1")),
+        *(option(37, uri) for uri in (b"", b"\0a\0", b"urn:ietf:params:capport:unrestricted")))),
 }
 
 # ---- DHCP
