@@ -1,7 +1,11 @@
 // Made from crates/neighbor_fields/src/ndisc.rt by rust/erase.
 //! Messages of neighbor discovery (RFC 4861 section 4).
 
+mod names;
 pub mod options;
+mod others;
+mod reasons;
+mod texts;
 
 use crate::messages::{HEAD_LEN, millis, show_cut, show_head};
 use control_wire::Octets;
@@ -138,8 +142,8 @@ fn show_target<W: Write>(output: &mut W, form: Form, message: &[u8]) -> io::Resu
     field(output, form, "target_addr", Address(addr))
 }
 
-// The name of a router's preference (RFC 4191 section 2.1).
-fn preference_name(preference: u8) -> Option<&'static str> {
+// The name of the preference of a router or a route (RFC 4191 section 2.1).
+pub(crate) fn preference_name(preference: u8) -> Option<&'static str> {
     name_in(PREFERENCES, preference as u16)
 }
 

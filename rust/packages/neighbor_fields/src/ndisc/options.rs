@@ -1,6 +1,8 @@
 // Made from crates/neighbor_fields/src/ndisc/options.rt by rust/erase.
 //! Options of neighbor discovery (RFC 4861 section 4.6).
 
+use super::others::show_other;
+use super::reasons::wrong_form;
 use control_wire::Octets;
 use control_wire::inside::text::{Sink, put_number};
 use packet_fields::Form;
@@ -18,20 +20,20 @@ const SOURCE_ADDRESS: u8 = 1;
 
 const TARGET_ADDRESS: u8 = 2;
 
-const PREFIX_INFORMATION: u8 = 3;
+pub(super) const PREFIX_INFORMATION: u8 = 3;
 
-const REDIRECTED_HEADER: u8 = 4;
+pub(super) const REDIRECTED_HEADER: u8 = 4;
 
-const MTU: u8 = 5;
+pub(super) const MTU: u8 = 5;
 
 // The octets of a unit.
 const UNIT: usize = 8;
 
 // The octets of a type and a length.
-const HEAD_LEN: usize = 2;
+pub(super) const HEAD_LEN: usize = 2;
 
 // The fields of options; those of a redirected packet begin at its IPv6 header.
-mod place {
+pub(super) mod place {
     use control_wire::octets::Field;
 
     pub const PREFIX_LEN: Field = 2..3;
@@ -104,27 +106,6 @@ pub fn refusal(option: &[u8]) -> Option<&'static str> {
     wrong_form(option)
 }
 
-// Why an option of the length that it counts is refused by its type, where it is.
-fn wrong_form(option: &[u8]) -> Option<&'static str> {
-    match option[0] {
-        PREFIX_INFORMATION if option.len() != place::PREFIX_END => Some("not 32 bytes"),
-        REDIRECTED_HEADER => wrong_quote(option),
-        MTU if option.len() != place::MTU_END => Some("not 8 bytes"),
-        _ => None,
-    }
-}
-
-// Why a redirected packet is refused, where it is.
-fn wrong_quote(option: &[u8]) -> Option<&'static str> {
-    if option.len() < place::QUOTED_END {
-        return Some("fewer than 48 bytes");
-    }
-    if option.u8_at(place::QUOTED_VERSION) / 16 != 6 {
-        return Some("not of version 6");
-    }
-    None
-}
-
 // Prints an option that is not refused.
 fn show_whole<W: Write>(
     output: &mut W,
@@ -139,12 +120,12 @@ fn show_whole<W: Write>(
         PREFIX_INFORMATION => show_prefix(output, form, is_first, option),
         REDIRECTED_HEADER => show_redirected(output, form, is_first, option),
         MTU => show_mtu(output, form, is_first, option),
-        _ => show_plain(output, form, is_first, option, None),
+        _ => show_other(output, form, is_first, option),
     }
 }
 
 // Prints an option by its octets, and why it is refused where it is.
-fn show_plain<W: Write>(
+pub(super) fn show_plain<W: Write>(
     output: &mut W,
     form: Form,
     is_first: bool,
@@ -298,7 +279,7 @@ fn show_mtu<W: Write>(output: &mut W, form: Form, is_first: bool, option: &[u8])
 }
 
 // What an option is called.
-fn label_of(type_: u8) -> Label<'static> {
+pub(super) fn label_of(type_: u8) -> Label<'static> {
     Label {
         name: name_in(OPTIONS, type_ as u16),
         kind: "option",

@@ -6,6 +6,8 @@ mod groups;
 #[cfg(test)]
 mod neighbors;
 #[cfg(test)]
+mod options;
+#[cfg(test)]
 mod printed;
 #[cfg(test)]
 mod testing;

@@ -25,7 +25,7 @@ const ADVERTISEMENT_LINES: &str = "  type=134 (router_advertisement)
     preferred_lifetime=3600s
   mtu=1500
   source_link_layer_address=02:00:00:00:00:01
-  recursive_dns_server=000000000e10fe80000000000000000000fffe000001
+  recursive_dns_server=fe80::ff:fe00:1 lifetime=3600s
 ";
 
 const ADVERTISEMENT_JSON: &str = ",\"type\":134,\"type_name\":\"router_advertisement\",\"code\":0,\"hop_limit\":64,\
@@ -34,7 +34,7 @@ const ADVERTISEMENT_JSON: &str = ",\"type\":134,\"type_name\":\"router_advertise
     \"flags\":[\"on_link\",\"autonomous\"],\"valid_lifetime\":3600000,\"preferred_lifetime\":3600000,\
     \"type\":3},{\"option\":\"mtu\",\"mtu\":1500,\"type\":5},\
     {\"option\":\"source_link_layer_address\",\"address\":\"02:00:00:00:00:01\",\"type\":1},\
-    {\"option\":\"recursive_dns_server\",\"data\":\"000000000e10fe80000000000000000000fffe000001\",\
+    {\"option\":\"recursive_dns_server\",\"servers\":[\"fe80::ff:fe00:1\"],\"lifetime\":3600000,\
     \"type\":25}]";
 
 const SOLICITATION: &[u8] = &[
@@ -168,16 +168,12 @@ fn flags_and_preference_of_a_router() {
 fn options_by_their_octets() {
     let rows: &[(&[u8; 8], &str)] = &[
         (
-            &[24, 1, 48, 8, 0, 0, 2, 88],
-            "  route_information=300800000258\n",
+            &[7, 1, 0, 0, 0, 0, 3, 232],
+            "  advertisement_interval=0000000003e8\n",
         ),
         (
-            &[31, 1, 0, 0, 0, 0, 0, 60],
-            "  dns_search_list=00000000003c\n",
-        ),
-        (
-            &[37, 1, 104, 116, 116, 112, 115, 58],
-            "  captive_portal=68747470733a\n",
+            &[26, 1, 128, 0, 0, 0, 0, 0],
+            "  ra_flags_extension=800000000000\n",
         ),
         (&[200, 1, 1, 2, 3, 4, 5, 6], "  option_200=010203040506\n"),
         (

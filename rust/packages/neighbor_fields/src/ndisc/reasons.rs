@@ -1,0 +1,91 @@
+// Made from crates/neighbor_fields/src/ndisc/reasons.rt by rust/erase.
+//! Why options of neighbor discovery are refused by their types.
+
+use super::options::{MTU, PREFIX_INFORMATION, REDIRECTED_HEADER, place};
+use super::others::{DNS_SEARCH_LIST, PREF64, RECURSIVE_DNS_SERVER, ROUTE_INFORMATION, field};
+use super::texts::wrong_names;
+use control_wire::Octets;
+
+// Why an option of the length that it counts is refused by its type, where it is.
+pub(super) fn wrong_form(option: &[u8]) -> Option<&'static str> {
+    match option[0] {
+        PREFIX_INFORMATION => wrong_len(option, place::PREFIX_END, "not 32 bytes"),
+        REDIRECTED_HEADER => wrong_quote(option),
+        MTU => wrong_len(option, place::MTU_END, "not 8 bytes"),
+        _ => wrong_other(option),
+    }
+}
+
+// That an option has another length than this, where it has.
+fn wrong_len(option: &[u8], len: usize, why: &'static str) -> Option<&'static str> {
+    if option.len() == len {
+        return None;
+    }
+    Some(why)
+}
+
+// Why a redirected packet is refused, where it is.
+fn wrong_quote(option: &[u8]) -> Option<&'static str> {
+    if option.len() < place::QUOTED_END {
+        return Some("fewer than 48 bytes");
+    }
+    if option.u8_at(place::QUOTED_VERSION) / 16 != 6 {
+        return Some("not of version 6");
+    }
+    None
+}
+
+// Why an option of a type that RFC 4861 has not is refused, where it is.
+fn wrong_other(option: &[u8]) -> Option<&'static str> {
+    match option[0] {
+        ROUTE_INFORMATION => wrong_route(option),
+        RECURSIVE_DNS_SERVER => wrong_servers(option),
+        DNS_SEARCH_LIST => wrong_search_list(option),
+        PREF64 => wrong_nat64(option),
+        _ => None,
+    }
+}
+
+// Why a route is refused, where it is (RFC 4191 section 2.3).
+fn wrong_route(option: &[u8]) -> Option<&'static str> {
+    if option.len() > 24 {
+        return Some("more than 24 bytes");
+    }
+    let prefix_len = option.u8_at(field::ROUTE_LEN) as usize;
+    if prefix_len > 8 * (option.len() - field::BEHIND_LIFETIME) {
+        return Some("too many bits for the prefix");
+    }
+    None
+}
+
+// Why recursive DNS servers are refused, where they are (RFC 8106 section 5.1).
+fn wrong_servers(option: &[u8]) -> Option<&'static str> {
+    if option.len() < 24 {
+        return Some("fewer than 24 bytes");
+    }
+    if option.len() % 16 != 8 {
+        return Some("no whole number of addresses");
+    }
+    None
+}
+
+// Why a search list is refused, where it is (RFC 8106 section 5.2).
+fn wrong_search_list(option: &[u8]) -> Option<&'static str> {
+    if option.len() < 16 {
+        return Some("fewer than 16 bytes");
+    }
+    let (_, names) = option.split_at(field::BEHIND_LIFETIME);
+    wrong_names(names)
+}
+
+// Why a prefix of a NAT64 is refused, where it is (RFC 8781 section 4).
+fn wrong_nat64(option: &[u8]) -> Option<&'static str> {
+    if option.len() != 16 {
+        return Some("not 16 bytes");
+    }
+    match option.u16_at(field::SCALED_LIFETIME) % 8 {
+        6 => Some("no prefix length has the code 6"),
+        7 => Some("no prefix length has the code 7"),
+        _ => None,
+    }
+}
