@@ -2,6 +2,7 @@
 from frames import Refused
 from ip import TCP, UDP
 from items import Field, named
+from queries import QUERIES4, QUERIES6
 from registries import ICMP4_CODES, ICMP4_TYPES, ICMP6_CODES, ICMP6_TYPES, PROTOCOLS
 from text import be, colons, dotted
 from transport import ports
@@ -12,25 +13,29 @@ ERRORS6, ECHOES6 = (1, 2, 3, 4), (128, 129)
 
 
 def icmp4(octets):
-    return message(octets, ERRORS4 + ECHOES4, head4, items4)
+    return message(octets, ERRORS4 + ECHOES4, head4, items4, QUERIES4)
 
 
 def icmp6(octets):
-    return message(octets, ERRORS6 + ECHOES6, head6, items6)
+    return message(octets, ERRORS6 + ECHOES6, head6, items6, QUERIES6)
 
 
-def message(octets, types, head, items_of):
+def message(octets, types, head, items_of, others):
     """The items of a message, and why it is refused, or None. One that is not read is told by type, code and the octets
-    behind the checksum, as far as they are there."""
+    behind the checksum, as far as they are there; those of other types have readers of their own."""
     try:
         if len(octets) < 8:
             raise Refused("short", "fewer than 8 bytes")
+        if octets[0] in others:
+            return head(octets) + others[octets[0]](octets), Refused("type", None)
         if octets[0] not in types:
             raise Refused("type", None)
         return head(octets) + items_of(octets), None
     except Refused as refused:
         front, rest = (head(octets), octets[4:]) if len(octets) >= 4 else ([], octets)
-        return front + [Field("rest", rest)] + refused.fields(), refused
+        # Messages of other types are counted as such.
+        is_other = len(octets) >= 8 and octets[0] in others
+        return front + [Field("rest", rest)] + refused.fields(), Refused("type", None) if is_other else refused
 
 
 def head4(octets):

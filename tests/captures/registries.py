@@ -87,7 +87,13 @@ ICMP4_TYPES = {
     17: "address_mask_request", 18: "address_mask_reply", 30: "traceroute", 40: "photuris",
     42: "extended_echo_request", 43: "extended_echo_reply",
 }
-# Of each type the codes (RFC 792, RFC 1122 section 3.2.2, RFC 1812 section 5.2.7).
+# RFC 8335 section 3, of both ICMPs.
+EXTENDED_REPLIES = {0: "no_error", 1: "malformed_query", 2: "no_such_interface", 3: "no_such_table_entry",
+                    4: "multiple_interfaces_satisfy_query"}
+NEIGHBOR_STATES = {0: "reserved", 1: "incomplete", 2: "reachable", 3: "stale", 4: "delay", 5: "probe", 6: "failed"}
+# Some of IANA's address family numbers.
+ADDRESS_FAMILIES = {1: "ipv4", 2: "ipv6", 6: "802"}
+# Of each type the codes (RFC 792, RFC 1122 section 3.2.2, RFC 1812 section 5.2.7, RFC 8335 section 3).
 ICMP4_CODES = {
     3: {0: "net_unreachable", 1: "host_unreachable", 2: "protocol_unreachable", 3: "port_unreachable",
         4: "fragmentation_needed", 5: "source_route_failed", 6: "destination_network_unknown",
@@ -98,6 +104,7 @@ ICMP4_CODES = {
     5: {0: "network", 1: "host", 2: "type_of_service_and_network", 3: "type_of_service_and_host"},
     11: {0: "time_to_live_exceeded_in_transit", 1: "fragment_reassembly_time_exceeded"},
     12: {0: "pointer_indicates_the_error", 1: "missing_a_required_option", 2: "bad_length"},
+    43: EXTENDED_REPLIES,
 }
 
 # ---- ICMPv6
@@ -116,7 +123,8 @@ ICMP6_TYPES = {
     156: "ilnpv6_locator_update", 157: "duplicate_address_request", 158: "duplicate_address_confirmation",
     159: "mpl_control", 160: "extended_echo_request", 161: "extended_echo_reply",
 }
-# RFC 4443 section 3, RFC 6554 section 3, RFC 7112 section 5, RFC 8883, RFC 8986 section 4.1.1.
+# RFC 4443 section 3, RFC 4620 section 4, RFC 6554 section 3, RFC 7112 section 5, RFC 8335 section 3, RFC 8883, RFC 8986
+# section 4.1.1.
 ICMP6_CODES = {
     1: {0: "no_route_to_destination", 1: "communication_administratively_prohibited",
         2: "beyond_scope_of_source_address", 3: "address_unreachable", 4: "port_unreachable",
@@ -128,7 +136,12 @@ ICMP6_CODES = {
         5: "unrecognized_next_header_type_by_intermediate_node", 6: "extension_header_too_big",
         7: "extension_header_chain_too_long", 8: "too_many_extension_headers",
         9: "too_many_options_in_extension_header", 10: "option_too_big"},
+    139: {0: "ipv6_address", 1: "name", 2: "ipv4_address"}, 140: {0: "success", 1: "refused", 2: "unknown_qtype"},
+    161: EXTENDED_REPLIES,
 }
+# RFC 4620 section 6: the types of queries about a node, and the flags of those about addresses.
+NODE_QTYPES = {0: "noop", 2: "node_name", 3: "node_addresses", 4: "ipv4_addresses"}
+NODE_FLAGS = {0x20: "global_scope", 0x10: "site_local", 8: "link_local", 4: "compatible", 2: "all", 1: "truncated"}
 
 # ---- hop-by-hop options
 

@@ -12,6 +12,7 @@ from standards_messages import LONG_PARTS, MESSAGES, WHOLE_JUMBOGRAMS
 from standards_mixed import MIXED
 from standards_networks import NETWORKS
 from standards_pages import FULL, PAGES
+from standards_queries import QUERIES
 from standards_segments import SEGMENTS
 from standards_tunnels import TUNNELS
 
@@ -186,7 +187,7 @@ def captures():
 
 def mixed():
     """The captures by name of which the octets of the packets alone are damaged."""
-    return named(TUNNELS, FRAGMENTS, SEGMENTS, NETWORKS, BRIEF)
+    return named(TUNNELS, FRAGMENTS, SEGMENTS, NETWORKS, BRIEF, QUERIES)
 
 
 def named(*tables):

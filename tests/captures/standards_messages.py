@@ -165,6 +165,7 @@ ICMP = {
     "icmp4_quote_of_version_6": raw(icmp4(3, 1, ZERO, b"\x65" + UDP_QUOTE[1:])),
     "icmp4_quote_of_nothing": raw(icmp4(11, 0, ZERO)),
     "icmp4_timestamp": raw(icmp4(13, 0, ECHO, b"\0" * 12)),
+    "icmp4_traceroute": raw(icmp4(30, 0, ECHO, hexed("0003 ffff 000f4240 000005dc"))),
     "icmp4_of_seven_octets": raw(ip4(icmp(8, 0, ECHO)[:7], ICMP4)),
     "icmp4_with_a_wrong_checksum": raw(broken(icmp4(8, 0, ECHO, b"abcd"))),
     "icmp4_of_zeros": raw(ip4(b"\0" * 8, ICMP4)),

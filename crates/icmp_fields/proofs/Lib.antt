@@ -1,2 +1,3 @@
 pub mod Gateways
 pub mod Items
+pub mod RouterEntries

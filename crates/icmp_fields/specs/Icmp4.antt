@@ -1,6 +1,6 @@
 -- ICMPv4 messages (RFC 792), as fields.
-use Rattle.std.specs.Prelude.{◌≡◌, ◌/◌, ◌^◌, ◌∷◌, ◌++◌, [], List, ℕ, codes, decimal, drop, length, nat_lt}
-use Rattle.std.specs.Prelude.{if◌then◌else◌}
+use Rattle.std.specs.Prelude.{◌≡◌, ◌==◌, ◌||◌, ◌/◌, ◌^◌, ◌∷◌, ◌++◌, [], Bool, List, None, Option, Some, ℕ, codes}
+use Rattle.std.specs.Prelude.{decimal, drop, if◌then◌else◌, length, nat_lt}
 use Rattle.std.specs.List.{join_by}
 use Rattle.wirebase.specs.Bytes.{byte_of}
 use Rattle.wirebase.specs.ByteWriter.{be32}
@@ -12,10 +12,17 @@ use Rattle.quote_wire.specs.Quote.{IsIpv4Quote}
 use Rattle.quote_wire.specs.declared.icmpv4_error.Kind.{Kind}
 use Rattle.quote_wire.specs.declared.quote.Ipv4Quote.{Ipv4Quote}
 use Rattle.packet_fields.specs.Fields.{Item, field, number, text, leaf_or_missing}
-use Rattle.icmp_fields.specs.Icmp.{named_head, echo_items as told_items, rest_items}
+use Rattle.icmp_fields.specs.ExtendedEcho.{request_items, reply_items}
+use Rattle.icmp_fields.specs.Icmp.{named_head, echo_items as behind_echo, rest_items, behind_checksum}
+use Rattle.icmp_fields.specs.Icmp.{additional_items, refused_items}
 use Rattle.icmp_fields.specs.IcmpNames.{icmp4_types, icmp4_code_name}
 use Rattle.icmp_fields.specs.Names.{name_in}
+use Rattle.icmp_fields.specs.Queries.{timestamp_items, mask_items, advertisement_items}
+use Rattle.icmp_fields.specs.Queries.{wrong_fixed, wrong_advertisement}
 use Rattle.icmp_fields.specs.Quote.{ipv4_quote_items}
+use Rattle.icmp_fields.specs.declared.refusal.Refusal.{Refusal}
+use Rattle.icmp_fields.specs.declared.refusal.Told.{Told}
+use Rattle.icmp_fields.specs.declared.refusal.Told.TheVariants as how
 
 -- a type and a code
 abbrev pub head_items : ℕ → ℕ → List Item
@@ -25,11 +32,57 @@ head_items t code = named_head t (name_in icmp4_types t) code (icmp4_code_name t
 
 -- an echo of this type, whose code is 0
 abbrev pub echo_items : ℕ → ℕ → ℕ → List ℕ → List Item
-echo_items t ident seq_no d = head_items t 0 ++ told_items ident seq_no d
+echo_items t ident seq_no d = head_items t 0 ++ behind_echo ident seq_no d
 
--- any message by its type, its code and the octets behind its checksum; what is shorter than these by its octets
+-- Why a message of 8 octets or more is refused: of those that are told by their fields timestamps, address masks,
+-- solicitations and advertisements may be.
+abbrev pub refusal : List ℕ → Option Refusal
+refusal bytes =
+    if byte_of type_field bytes == 13 then wrong_fixed 20 bytes
+    else if byte_of type_field bytes == 14 then wrong_fixed 20 bytes
+    else if byte_of type_field bytes == 17 then wrong_fixed 12 bytes
+    else if byte_of type_field bytes == 18 then wrong_fixed 12 bytes
+    else if byte_of type_field bytes == 10 then wrong_fixed 8 bytes
+    else if byte_of type_field bytes == 9 then wrong_advertisement bytes
+    else None
+
+-- one that is not refused, by its type: its fields, or else the octets behind its checksum
+abbrev pub told_items : List ℕ → List Item
+told_items bytes =
+    if byte_of type_field bytes == 13 then timestamp_items bytes
+    else if byte_of type_field bytes == 14 then timestamp_items bytes
+    else if byte_of type_field bytes == 17 then mask_items bytes
+    else if byte_of type_field bytes == 18 then mask_items bytes
+    else if byte_of type_field bytes == 10 then additional_items (drop 8 bytes)
+    else if byte_of type_field bytes == 9 then advertisement_items bytes
+    else if byte_of type_field bytes == 42 then request_items bytes
+    else if byte_of type_field bytes == 43 then reply_items bytes
+    else behind_checksum bytes
+
+abbrev pub told_or_refused : Option Refusal → List ℕ → List Item
+told_or_refused None bytes = told_items bytes
+told_or_refused (Some why) bytes = refused_items bytes why
+
+-- how it is told
+abbrev pub is_told : ℕ → Bool
+is_told t = (t == 9) || (t == 10) || (t == 13) || (t == 14) || (t == 17) || (t == 18) || (t == 42) || (t == 43)
+
+abbrev pub told_as : Option Refusal → Bool → Told
+told_as (Some why) known = how.Refused why
+told_as None known = if known then how.Fields else how.Octets
+
+abbrev pub told : List ℕ → Told
+told bytes =
+    if nat_lt (length bytes) 8 then how.Octets else told_as (refusal bytes) (is_told (byte_of type_field bytes))
+
+-- what follows the checksum
+abbrev pub behind_items : List ℕ → List Item
+behind_items bytes =
+    if nat_lt (length bytes) 8 then behind_checksum bytes else told_or_refused (refusal bytes) bytes
+
+-- any message by its type, its code and what follows the checksum; what is shorter than these by its octets
 abbrev pub typed_items : List ℕ → List Item
-typed_items bytes = head_items (byte_of type_field bytes) (byte_of code_field bytes) ++ rest_items (drop 4 bytes)
+typed_items bytes = head_items (byte_of type_field bytes) (byte_of code_field bytes) ++ behind_items bytes
 
 abbrev pub unread_items : List ℕ → List Item
 unread_items bytes = if nat_lt (length bytes) 4 then rest_items bytes else typed_items bytes

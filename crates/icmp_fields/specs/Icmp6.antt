@@ -1,5 +1,6 @@
 -- ICMPv6 messages (RFC 4443), as fields.
-use Rattle.std.specs.Prelude.{◌≡◌, ◌∷◌, ◌++◌, [], List, ℕ, codes, drop, if◌then◌else◌, length, nat_lt}
+use Rattle.std.specs.Prelude.{◌≡◌, ◌==◌, ◌||◌, ◌∷◌, ◌++◌, [], Bool, List, None, Option, Some, ℕ, codes}
+use Rattle.std.specs.Prelude.{if◌then◌else◌, length, nat_lt}
 use Rattle.wirebase.specs.Bytes.{byte_of}
 use Rattle.wirebase.specs.Icmp.{code_field, type_field}
 use Rattle.icmp6_wire.specs.Icmpv6.{MessageValue, echo_request, echo_reply, unreachable, too_big, time_exceeded}
@@ -10,10 +11,15 @@ use Rattle.quote_wire.specs.Quote.{IsIpv6Quote}
 use Rattle.quote_wire.specs.declared.icmpv6_error.Kind.{Kind}
 use Rattle.quote_wire.specs.declared.quote.Ipv6Quote.{Ipv6Quote}
 use Rattle.packet_fields.specs.Fields.{Item, field, number}
-use Rattle.icmp_fields.specs.Icmp.{named_head, echo_items as told_items, rest_items}
+use Rattle.icmp_fields.specs.ExtendedEcho as extended
+use Rattle.icmp_fields.specs.Icmp.{named_head, echo_items as behind_echo, rest_items, behind_checksum, refused_items}
 use Rattle.icmp_fields.specs.IcmpNames.{icmp6_types, icmp6_code_name}
 use Rattle.icmp_fields.specs.Names.{name_in}
+use Rattle.icmp_fields.specs.NodeInformation as node
 use Rattle.icmp_fields.specs.Quote.{ipv6_quote_items}
+use Rattle.icmp_fields.specs.declared.refusal.Refusal.{Refusal}
+use Rattle.icmp_fields.specs.declared.refusal.Told.{Told}
+use Rattle.icmp_fields.specs.declared.refusal.Told.TheVariants as how
 
 -- a type and a code
 abbrev pub head_items : ℕ → ℕ → List Item
@@ -23,11 +29,48 @@ head_items t code = named_head t (name_in icmp6_types t) code (icmp6_code_name t
 
 -- an echo of this type, whose code is 0
 abbrev pub echo_items : ℕ → ℕ → ℕ → List ℕ → List Item
-echo_items t ident seq_no d = head_items t 0 ++ told_items ident seq_no d
+echo_items t ident seq_no d = head_items t 0 ++ behind_echo ident seq_no d
 
--- any message by its type, its code and the octets behind its checksum; what is shorter than these by its octets
+-- Why a message of 8 octets or more is refused: of those that are told by their fields node information may be.
+abbrev pub refusal : List ℕ → Option Refusal
+refusal bytes =
+    if byte_of type_field bytes == 139 then node.wrong_node bytes
+    else if byte_of type_field bytes == 140 then node.wrong_node bytes
+    else None
+
+-- one that is not refused, by its type: its fields, or else the octets behind its checksum
+abbrev pub told_items : List ℕ → List Item
+told_items bytes =
+    if byte_of type_field bytes == 139 then node.query_items bytes
+    else if byte_of type_field bytes == 140 then node.reply_items bytes
+    else if byte_of type_field bytes == 160 then extended.request_items bytes
+    else if byte_of type_field bytes == 161 then extended.reply_items bytes
+    else behind_checksum bytes
+
+abbrev pub told_or_refused : Option Refusal → List ℕ → List Item
+told_or_refused None bytes = told_items bytes
+told_or_refused (Some why) bytes = refused_items bytes why
+
+-- how it is told
+abbrev pub is_told : ℕ → Bool
+is_told t = (t == 139) || (t == 140) || (t == 160) || (t == 161)
+
+abbrev pub told_as : Option Refusal → Bool → Told
+told_as (Some why) known = how.Refused why
+told_as None known = if known then how.Fields else how.Octets
+
+abbrev pub told : List ℕ → Told
+told bytes =
+    if nat_lt (length bytes) 8 then how.Octets else told_as (refusal bytes) (is_told (byte_of type_field bytes))
+
+-- what follows the checksum
+abbrev pub behind_items : List ℕ → List Item
+behind_items bytes =
+    if nat_lt (length bytes) 8 then behind_checksum bytes else told_or_refused (refusal bytes) bytes
+
+-- any message by its type, its code and what follows the checksum; what is shorter than these by its octets
 abbrev pub typed_items : List ℕ → List Item
-typed_items bytes = head_items (byte_of type_field bytes) (byte_of code_field bytes) ++ rest_items (drop 4 bytes)
+typed_items bytes = head_items (byte_of type_field bytes) (byte_of code_field bytes) ++ behind_items bytes
 
 abbrev pub unread_items : List ℕ → List Item
 unread_items bytes = if nat_lt (length bytes) 4 then rest_items bytes else typed_items bytes

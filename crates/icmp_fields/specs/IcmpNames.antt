@@ -3,6 +3,14 @@
 use Rattle.std.specs.Prelude.{ℕ, ◌==◌, if◌then◌else◌, List, [], ◌∷◌, Option, None, codes}
 use Rattle.icmp_fields.specs.Names.{Rows, name_in}
 
+-- ---- both
+
+-- RFC 8335 section 3
+abbrev pub extended_reply_codes : Rows
+extended_reply_codes =
+    (0, codes "no_error") ∷ (1, codes "malformed_query") ∷ (2, codes "no_such_interface")
+    ∷ (3, codes "no_such_table_entry") ∷ (4, codes "multiple_interfaces_satisfy_query") ∷ []
+
 -- ---- ICMPv4
 
 abbrev pub icmp4_types : Rows
@@ -47,6 +55,7 @@ icmp4_code_name t code =
     else if t == 5 then name_in icmp4_redirect_codes code
     else if t == 11 then name_in icmp4_time_exceeded_codes code
     else if t == 12 then name_in icmp4_parameter_problem_codes code
+    else if t == 43 then name_in extended_reply_codes code
     else None
 
 -- ---- ICMPv6
@@ -96,9 +105,19 @@ icmp6_parameter_problem_codes =
     ∷ (8, codes "too_many_extension_headers") ∷ (9, codes "too_many_options_in_extension_header")
     ∷ (10, codes "option_too_big") ∷ []
 
+-- RFC 4620 section 4: what the data of a query is, and how it went
+abbrev pub node_query_codes : Rows
+node_query_codes = (0, codes "ipv6_address") ∷ (1, codes "name") ∷ (2, codes "ipv4_address") ∷ []
+
+abbrev pub node_response_codes : Rows
+node_response_codes = (0, codes "success") ∷ (1, codes "refused") ∷ (2, codes "unknown_qtype") ∷ []
+
 abbrev pub icmp6_code_name : ℕ → ℕ → Option (List ℕ)
 icmp6_code_name t code =
     if t == 1 then name_in icmp6_unreachable_codes code
     else if t == 3 then name_in icmp6_time_exceeded_codes code
     else if t == 4 then name_in icmp6_parameter_problem_codes code
+    else if t == 139 then name_in node_query_codes code
+    else if t == 140 then name_in node_response_codes code
+    else if t == 161 then name_in extended_reply_codes code
     else None

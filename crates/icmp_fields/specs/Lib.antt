@@ -1,7 +1,12 @@
+pub mod ExtendedEcho
 pub mod Icmp
 pub mod Icmp4
 pub mod Icmp6
 pub mod IcmpNames
 pub mod Names
+pub mod NodeInformation
 pub mod ProtocolNames
+pub mod Queries
 pub mod Quote
+pub mod Refusal
+pub mod Texts

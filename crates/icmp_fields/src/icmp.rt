@@ -2,16 +2,18 @@
 
 #![tactic(auto, using(packet_fields::proofs::Fields::prints_both))]
 
-ghost use Rattle.std.specs.Prelude.{OnOk};
+ghost use Rattle.std.specs.Prelude.{◌≤◌, OnOk, length};
 ghost use Rattle.std.specs.Option.{option_map};
 ghost use Rattle.packet_fields.specs.Prints.{Prints};
-ghost use Rattle.icmp_fields.specs.Icmp.{named_head, echo_items, rest_items};
+ghost use Rattle.icmp_fields.specs.Icmp.{named_head, echo_items, rest_items, ids_items, additional_items};
+ghost use Rattle.icmp_fields.specs.Icmp.{behind_checksum, refused_items};
 
+use crate::refusal::Refusal;
 use packet_fields::Form;
 use packet_fields::field::{field, named};
 use std::io;
 use std::io::Write;
-use wirebase::Field;
+use wirebase::{Field, Octets};
 
 // The fields that every message has, and where they end; their picture is in the specs of `wirebase`.
 pub(crate) const TYPE: Field = 0..1;
@@ -19,6 +21,13 @@ pub(crate) const TYPE: Field = 0..1;
 pub(crate) const CODE: Field = 1..2;
 
 pub(crate) const CHECKSUM_END: usize = 4;
+
+// What queries and their answers have next, and where the fields of every message that is told by them end.
+const IDENT: Field = 4..6;
+
+const SEQ_NO: Field = 6..8;
+
+pub(crate) const HEADER_END: usize = 8;
 
 // Prints a type and a code, each with its name where it has one.
 pub(crate) fn show_named_head<W: Write>(
@@ -59,4 +68,55 @@ pub(crate) fn show_rest<W: Write>(output: &mut W, form: Form, octets: &[u8]) -> 
         (rest_items octets.now)) }
 {
     field(output, form, "rest", octets)
+}
+
+// Prints the identifier and the sequence number of a message, which its answer has too.
+pub(crate) fn show_ids<W: Write>(output: &mut W, form: Form, message: &[u8]) -> io::Result<()>
+    requires { 8 ≤ length message.now }
+    ensures { OnOk result (Prints form (W.contents output.old) (W.contents output.new)
+        (ids_items message.now)) }
+{
+    field(output, form, "ident", message.u16_at(IDENT))?;
+    field(output, form, "seq_no", message.u16_at(SEQ_NO))
+}
+
+// Prints the octets behind all fields, where there are any.
+#[tactic(auto, using(packet_fields::proofs::Fields::prints_none))]
+pub(crate) fn show_additional<W: Write>(output: &mut W, form: Form, octets: &[u8]) -> io::Result<()>
+    ensures { OnOk result (Prints form (W.contents output.old) (W.contents output.new)
+        (additional_items octets.now)) }
+{
+    if octets.is_empty() {
+        return Ok(());
+    }
+    field(output, form, "additional_data", octets)
+}
+
+// Prints the octets behind the checksum of a message that is not told apart.
+pub(crate) fn show_behind_checksum<W: Write>(
+    output: &mut W,
+    form: Form,
+    message: &[u8],
+) -> io::Result<()>
+    requires { 4 ≤ length message.now }
+    ensures { OnOk result (Prints form (W.contents output.old) (W.contents output.new)
+        (behind_checksum message.now)) }
+{
+    let (_, rest) = message.split_at(CHECKSUM_END);
+    show_rest(output, form, rest)
+}
+
+// Prints the octets behind the checksum, and why they are not told apart.
+pub(crate) fn show_refused<W: Write>(
+    output: &mut W,
+    form: Form,
+    message: &[u8],
+    why: Refusal,
+) -> io::Result<()>
+    requires { 4 ≤ length message.now }
+    ensures { OnOk result (Prints form (W.contents output.old) (W.contents output.new)
+        (refused_items message.now why)) }
+{
+    show_behind_checksum(output, form, message)?;
+    field(output, form, "refused", why)
 }

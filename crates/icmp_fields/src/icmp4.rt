@@ -2,17 +2,23 @@
 
 #![tactic(auto, using(packet_fields::proofs::Fields::prints_both))]
 
-ghost use Rattle.std.specs.Prelude.{◌≤◌, OnOk, length};
+ghost use Rattle.std.specs.Prelude.{◌≡◌, ◌≤◌, None, OnOk, length};
 ghost use Rattle.icmp4_wire.specs.Icmpv4 as messages;
 ghost use Rattle.quote_wire.specs.Icmpv4Error.{IsDatagram, value_of};
 ghost use Rattle.packet_fields.specs.Prints.{Prints, PrintsSome};
 ghost use Rattle.icmp_fields.specs.Icmp4.{head_items, echo_items, typed_items, unread_items, message_items};
+ghost use Rattle.icmp_fields.specs.Icmp4.{refusal, behind_items, told_or_refused, told_items, told, is_told};
 ghost use Rattle.icmp_fields.specs.Icmp4.{gateway_items, told_in_rest, error_items, AreErrorItems};
 
-use crate::icmp;
-use crate::icmp::{CHECKSUM_END, CODE, TYPE, show_named_head, show_rest};
+use crate::icmp::{
+    CHECKSUM_END, CODE, HEADER_END, TYPE, show_additional, show_behind_checksum, show_named_head,
+    show_refused, show_rest,
+};
 use crate::icmp_names::{icmp4_code_name, icmp4_type_name};
+use crate::queries::{MASK_LEN, TIMESTAMP_LEN, wrong_advertisement, wrong_fixed};
 use crate::quote::show_ipv4_quote;
+use crate::refusal::{Refusal, Told};
+use crate::{extended_echo, icmp, queries};
 use icmp4_wire::icmpv4;
 use packet_fields::Form;
 use packet_fields::field::field;
@@ -25,6 +31,23 @@ use wirebase::{Ipv4Address, Octets};
 const ECHO_REQUEST: u8 = 8;
 
 const ECHO_REPLY: u8 = 0;
+
+// The types of messages that are neither echoes nor errors, and are told by their fields.
+const ROUTER_ADVERTISEMENT: u8 = 9;
+
+const ROUTER_SOLICITATION: u8 = 10;
+
+const TIMESTAMP: u8 = 13;
+
+const TIMESTAMP_REPLY: u8 = 14;
+
+const ADDRESS_MASK_REQUEST: u8 = 17;
+
+const ADDRESS_MASK_REPLY: u8 = 18;
+
+const EXTENDED_ECHO_REQUEST: u8 = 42;
+
+const EXTENDED_ECHO_REPLY: u8 = 43;
 
 /// Prints a message that was read in these octets: of an echo its fields; of every other, as [`show_unread`] does, its
 /// octets. Errors are for [`show_error`].
@@ -54,8 +77,9 @@ pub fn show_message<W: Write>(
     }
 }
 
-/// Prints a message of any type, which need not be known: its type, its code and the octets behind its checksum, or all
-/// octets where they are fewer than 4.
+/// Prints a message of any type, which need not be known: its type, its code, and of a timestamp (RFC 792), an address
+/// mask (RFC 950), a router solicitation or advertisement (RFC 1256) and an extended echo (RFC 8335) its fields; of
+/// others, and of those that are refused, the octets behind the checksum. All octets where they are fewer than 4.
 pub fn show_unread<W: Write>(output: &mut W, form: Form, octets: &[u8]) -> io::Result<()>
     ensures { OnOk result (Prints form (W.contents output.old) (W.contents output.new)
         (unread_items octets.now)) }
@@ -72,9 +96,94 @@ fn show_typed<W: Write>(output: &mut W, form: Form, octets: &[u8]) -> io::Result
     ensures { OnOk result (Prints form (W.contents output.old) (W.contents output.new)
         (typed_items octets.now)) }
 {
-    let (_, rest) = octets.split_at(CHECKSUM_END);
     show_head(output, form, octets.u8_at(TYPE), octets.u8_at(CODE))?;
-    show_rest(output, form, rest)
+    show_behind(output, form, octets)
+}
+
+// Prints what follows the checksum.
+fn show_behind<W: Write>(output: &mut W, form: Form, octets: &[u8]) -> io::Result<()>
+    requires { 4 ≤ length octets.now }
+    ensures { OnOk result (Prints form (W.contents output.old) (W.contents output.new)
+        (behind_items octets.now)) }
+{
+    if octets.len() < HEADER_END {
+        return show_behind_checksum(output, form, octets);
+    }
+    show_told_or_refused(output, form, octets)
+}
+
+fn show_told_or_refused<W: Write>(output: &mut W, form: Form, octets: &[u8]) -> io::Result<()>
+    requires { 8 ≤ length octets.now }
+    ensures { OnOk result (Prints form (W.contents output.old) (W.contents output.new)
+        (told_or_refused (refusal octets.now) octets.now)) }
+{
+    match refusal(octets) {
+        Some(why) => show_refused(output, form, octets, why),
+        None => show_by_type(output, form, octets),
+    }
+}
+
+/// Why a message that is told by its fields is refused, where it is; None of every other type. Requires 8 octets.
+pub fn refusal(octets: &[u8]) -> Option<Refusal>
+    requires { 8 ≤ length octets.now }
+    ensures { result ≡ refusal octets.now }
+{
+    match octets[0] {
+        TIMESTAMP | TIMESTAMP_REPLY => wrong_fixed(TIMESTAMP_LEN, octets),
+        ADDRESS_MASK_REQUEST | ADDRESS_MASK_REPLY => wrong_fixed(MASK_LEN, octets),
+        ROUTER_SOLICITATION => wrong_fixed(HEADER_END, octets),
+        ROUTER_ADVERTISEMENT => wrong_advertisement(octets),
+        _ => None,
+    }
+}
+
+/// How a message that is neither an error nor an echo is told by [`show_unread`].
+pub fn told(octets: &[u8]) -> Told
+    ensures { result ≡ told octets.now }
+{
+    if octets.len() < HEADER_END {
+        return Told::Octets;
+    }
+    match refusal(octets) {
+        Some(why) => Told::Refused(why),
+        None if is_told(octets[0]) => Told::Fields,
+        None => Told::Octets,
+    }
+}
+
+// Whether a type is one that is told by its fields.
+fn is_told(type_: u8) -> bool
+    ensures { result ≡ is_told type_ }
+{
+    matches!(
+        type_,
+        ROUTER_ADVERTISEMENT
+            | ROUTER_SOLICITATION
+            | TIMESTAMP
+            | TIMESTAMP_REPLY
+            | ADDRESS_MASK_REQUEST
+            | ADDRESS_MASK_REPLY
+            | EXTENDED_ECHO_REQUEST
+            | EXTENDED_ECHO_REPLY
+    )
+}
+
+// Prints a message that is not refused: its fields, or of another type its octets.
+fn show_by_type<W: Write>(output: &mut W, form: Form, octets: &[u8]) -> io::Result<()>
+    requires long { 8 ≤ length octets.now }
+    requires right { refusal octets.now ≡ None }
+    ensures { OnOk result (Prints form (W.contents output.old) (W.contents output.new)
+        (told_items octets.now)) }
+{
+    match octets[0] {
+        TIMESTAMP | TIMESTAMP_REPLY => queries::show_timestamp(output, form, octets),
+        ADDRESS_MASK_REQUEST | ADDRESS_MASK_REPLY => queries::show_mask(output, form, octets),
+        ROUTER_SOLICITATION => show_additional(output, form, &octets[HEADER_END..]),
+        ROUTER_ADVERTISEMENT => queries::show_advertisement(output, form, octets),
+        EXTENDED_ECHO_REQUEST => extended_echo::show_request(output, form, octets),
+        EXTENDED_ECHO_REPLY => extended_echo::show_reply(output, form, octets),
+        _ => show_behind_checksum(output, form, octets),
+    }
 }
 
 fn show_head<W: Write>(output: &mut W, form: Form, type_: u8, code: u8) -> io::Result<()>

@@ -2,17 +2,23 @@
 
 #![tactic(auto, using(packet_fields::proofs::Fields::prints_both))]
 
-ghost use Rattle.std.specs.Prelude.{◌≤◌, OnOk, length};
+ghost use Rattle.std.specs.Prelude.{◌≡◌, ◌≤◌, None, OnOk, length};
 ghost use Rattle.icmp6_wire.specs.Icmpv6 as messages;
 ghost use Rattle.quote_wire.specs.Icmpv6Error.{IsPacketFront, value_of};
 ghost use Rattle.packet_fields.specs.Prints.{Prints, PrintsSome};
 ghost use Rattle.icmp_fields.specs.Icmp6.{head_items, echo_items, typed_items, unread_items, message_items};
+ghost use Rattle.icmp_fields.specs.Icmp6.{refusal, behind_items, told_or_refused, told_items, told, is_told};
 ghost use Rattle.icmp_fields.specs.Icmp6.{told_in_rest, error_items, AreErrorItems};
 
-use crate::icmp;
-use crate::icmp::{CHECKSUM_END, CODE, TYPE, show_named_head, show_rest};
+use crate::icmp::{
+    CHECKSUM_END, CODE, HEADER_END, TYPE, show_behind_checksum, show_named_head, show_refused,
+    show_rest,
+};
 use crate::icmp_names::{icmp6_code_name, icmp6_type_name};
+use crate::node_information::wrong_node;
 use crate::quote::show_ipv6_quote;
+use crate::refusal::{Refusal, Told};
+use crate::{extended_echo, icmp, node_information};
 use icmp6_wire::icmpv6;
 use packet_fields::Form;
 use packet_fields::field::field;
@@ -25,6 +31,15 @@ use wirebase::Octets;
 const ECHO_REQUEST: u8 = 128;
 
 const ECHO_REPLY: u8 = 129;
+
+// The types of messages that are neither echoes nor errors, and are told by their fields here.
+const NODE_INFORMATION_QUERY: u8 = 139;
+
+const NODE_INFORMATION_RESPONSE: u8 = 140;
+
+const EXTENDED_ECHO_REQUEST: u8 = 160;
+
+const EXTENDED_ECHO_REPLY: u8 = 161;
 
 /// Prints a message that was read in these octets: of an echo its fields; of every other, as [`show_unread`] does, its
 /// octets. Errors are for [`show_error`].
@@ -52,8 +67,9 @@ pub fn show_message<W: Write>(
     }
 }
 
-/// Prints a message of any type, which need not be known: its type, its code and the octets behind its checksum, or all
-/// octets where they are fewer than 4.
+/// Prints a message of any type, which need not be known: its type, its code, and of node information (RFC 4620) and of
+/// an extended echo (RFC 8335) its fields; of others, and of those that are refused, the octets behind the checksum.
+/// All octets where they are fewer than 4.
 pub fn show_unread<W: Write>(output: &mut W, form: Form, octets: &[u8]) -> io::Result<()>
     ensures { OnOk result (Prints form (W.contents output.old) (W.contents output.new)
         (unread_items octets.now)) }
@@ -70,9 +86,85 @@ fn show_typed<W: Write>(output: &mut W, form: Form, octets: &[u8]) -> io::Result
     ensures { OnOk result (Prints form (W.contents output.old) (W.contents output.new)
         (typed_items octets.now)) }
 {
-    let (_, rest) = octets.split_at(CHECKSUM_END);
     show_head(output, form, octets.u8_at(TYPE), octets.u8_at(CODE))?;
-    show_rest(output, form, rest)
+    show_behind(output, form, octets)
+}
+
+// Prints what follows the checksum.
+fn show_behind<W: Write>(output: &mut W, form: Form, octets: &[u8]) -> io::Result<()>
+    requires { 4 ≤ length octets.now }
+    ensures { OnOk result (Prints form (W.contents output.old) (W.contents output.new)
+        (behind_items octets.now)) }
+{
+    if octets.len() < HEADER_END {
+        return show_behind_checksum(output, form, octets);
+    }
+    show_told_or_refused(output, form, octets)
+}
+
+fn show_told_or_refused<W: Write>(output: &mut W, form: Form, octets: &[u8]) -> io::Result<()>
+    requires { 8 ≤ length octets.now }
+    ensures { OnOk result (Prints form (W.contents output.old) (W.contents output.new)
+        (told_or_refused (refusal octets.now) octets.now)) }
+{
+    match refusal(octets) {
+        Some(why) => show_refused(output, form, octets, why),
+        None => show_by_type(output, form, octets),
+    }
+}
+
+/// Why a message that is told by its fields is refused, where it is; None of every other type. Requires 8 octets.
+pub fn refusal(octets: &[u8]) -> Option<Refusal>
+    requires { 8 ≤ length octets.now }
+    ensures { result ≡ refusal octets.now }
+{
+    match octets[0] {
+        NODE_INFORMATION_QUERY | NODE_INFORMATION_RESPONSE => wrong_node(octets),
+        _ => None,
+    }
+}
+
+/// How a message that is neither an error nor an echo is told by [`show_unread`].
+pub fn told(octets: &[u8]) -> Told
+    ensures { result ≡ told octets.now }
+{
+    if octets.len() < HEADER_END {
+        return Told::Octets;
+    }
+    match refusal(octets) {
+        Some(why) => Told::Refused(why),
+        None if is_told(octets[0]) => Told::Fields,
+        None => Told::Octets,
+    }
+}
+
+// Whether a type is one that is told by its fields.
+fn is_told(type_: u8) -> bool
+    ensures { result ≡ is_told type_ }
+{
+    matches!(
+        type_,
+        NODE_INFORMATION_QUERY
+            | NODE_INFORMATION_RESPONSE
+            | EXTENDED_ECHO_REQUEST
+            | EXTENDED_ECHO_REPLY
+    )
+}
+
+// Prints a message that is not refused: its fields, or of another type its octets.
+fn show_by_type<W: Write>(output: &mut W, form: Form, octets: &[u8]) -> io::Result<()>
+    requires long { 8 ≤ length octets.now }
+    requires right { refusal octets.now ≡ None }
+    ensures { OnOk result (Prints form (W.contents output.old) (W.contents output.new)
+        (told_items octets.now)) }
+{
+    match octets[0] {
+        NODE_INFORMATION_QUERY => node_information::show_query(output, form, octets),
+        NODE_INFORMATION_RESPONSE => node_information::show_reply(output, form, octets),
+        EXTENDED_ECHO_REQUEST => extended_echo::show_request(output, form, octets),
+        EXTENDED_ECHO_REPLY => extended_echo::show_reply(output, form, octets),
+        _ => show_behind_checksum(output, form, octets),
+    }
 }
 
 fn show_head<W: Write>(output: &mut W, form: Form, type_: u8, code: u8) -> io::Result<()>

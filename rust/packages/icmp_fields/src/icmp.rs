@@ -1,7 +1,8 @@
 // Made from crates/icmp_fields/src/icmp.rt by rust/erase.
 //! What messages of ICMPv4 and of ICMPv6 have in common.
 
-use control_wire::Field;
+use crate::refusal::Refusal;
+use control_wire::{Field, Octets};
 use packet_fields::Form;
 use packet_fields::field::{field, named};
 use rattle_std::io;
@@ -13,6 +14,13 @@ pub(crate) const TYPE: Field = 0..1;
 pub(crate) const CODE: Field = 1..2;
 
 pub(crate) const CHECKSUM_END: usize = 4;
+
+// What queries and their answers have next, and where the fields of every message that is told by them end.
+const IDENT: Field = 4..6;
+
+const SEQ_NO: Field = 6..8;
+
+pub(crate) const HEADER_END: usize = 8;
 
 // Prints a type and a code, each with its name where it has one.
 pub(crate) fn show_named_head<W: Write>(
@@ -43,4 +51,43 @@ pub(crate) fn show_echo<W: Write>(
 // Prints octets that are not told apart.
 pub(crate) fn show_rest<W: Write>(output: &mut W, form: Form, octets: &[u8]) -> io::Result<()> {
     field(output, form, "rest", octets)
+}
+
+// Prints the identifier and the sequence number of a message, which its answer has too.
+pub(crate) fn show_ids<W: Write>(output: &mut W, form: Form, message: &[u8]) -> io::Result<()> {
+    field(output, form, "ident", message.u16_at(IDENT))?;
+    field(output, form, "seq_no", message.u16_at(SEQ_NO))
+}
+
+// Prints the octets behind all fields, where there are any.
+pub(crate) fn show_additional<W: Write>(
+    output: &mut W,
+    form: Form,
+    octets: &[u8],
+) -> io::Result<()> {
+    if octets.is_empty() {
+        return Ok(());
+    }
+    field(output, form, "additional_data", octets)
+}
+
+// Prints the octets behind the checksum of a message that is not told apart.
+pub(crate) fn show_behind_checksum<W: Write>(
+    output: &mut W,
+    form: Form,
+    message: &[u8],
+) -> io::Result<()> {
+    let (_, rest) = message.split_at(CHECKSUM_END);
+    show_rest(output, form, rest)
+}
+
+// Prints the octets behind the checksum, and why they are not told apart.
+pub(crate) fn show_refused<W: Write>(
+    output: &mut W,
+    form: Form,
+    message: &[u8],
+    why: Refusal,
+) -> io::Result<()> {
+    show_behind_checksum(output, form, message)?;
+    field(output, form, "refused", why)
 }

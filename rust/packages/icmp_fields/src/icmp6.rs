@@ -1,10 +1,15 @@
 // Made from crates/icmp_fields/src/icmp6.rt by rust/erase.
 //! ICMPv6 messages (RFC 4443).
 
-use crate::icmp;
-use crate::icmp::{CHECKSUM_END, CODE, TYPE, show_named_head, show_rest};
+use crate::icmp::{
+    CHECKSUM_END, CODE, HEADER_END, TYPE, show_behind_checksum, show_named_head, show_refused,
+    show_rest,
+};
 use crate::icmp_names::{icmp6_code_name, icmp6_type_name};
+use crate::node_information::wrong_node;
 use crate::quote::show_ipv6_quote;
+use crate::refusal::{Refusal, Told};
+use crate::{extended_echo, icmp, node_information};
 use control_wire::Octets;
 use control_wire::icmpv6;
 use control_wire::quotes::icmpv6_error::{Kind, Repr};
@@ -17,6 +22,15 @@ use rattle_std::io::Write;
 const ECHO_REQUEST: u8 = 128;
 
 const ECHO_REPLY: u8 = 129;
+
+// The types of messages that are neither echoes nor errors, and are told by their fields here.
+const NODE_INFORMATION_QUERY: u8 = 139;
+
+const NODE_INFORMATION_RESPONSE: u8 = 140;
+
+const EXTENDED_ECHO_REQUEST: u8 = 160;
+
+const EXTENDED_ECHO_REPLY: u8 = 161;
 
 /// Prints a message that was read in these octets: of an echo its fields; of every other, as [`show_unread`] does, its
 /// octets. Errors are for [`show_error`].
@@ -41,8 +55,9 @@ pub fn show_message<W: Write>(
     }
 }
 
-/// Prints a message of any type, which need not be known: its type, its code and the octets behind its checksum, or all
-/// octets where they are fewer than 4.
+/// Prints a message of any type, which need not be known: its type, its code, and of node information (RFC 4620) and of
+/// an extended echo (RFC 8335) its fields; of others, and of those that are refused, the octets behind the checksum.
+/// All octets where they are fewer than 4.
 pub fn show_unread<W: Write>(output: &mut W, form: Form, octets: &[u8]) -> io::Result<()> {
     if octets.len() < CHECKSUM_END {
         show_rest(output, form, octets)
@@ -52,9 +67,65 @@ pub fn show_unread<W: Write>(output: &mut W, form: Form, octets: &[u8]) -> io::R
 }
 
 fn show_typed<W: Write>(output: &mut W, form: Form, octets: &[u8]) -> io::Result<()> {
-    let (_, rest) = octets.split_at(CHECKSUM_END);
     show_head(output, form, octets.u8_at(TYPE), octets.u8_at(CODE))?;
-    show_rest(output, form, rest)
+    show_behind(output, form, octets)
+}
+
+// Prints what follows the checksum.
+fn show_behind<W: Write>(output: &mut W, form: Form, octets: &[u8]) -> io::Result<()> {
+    if octets.len() < HEADER_END {
+        return show_behind_checksum(output, form, octets);
+    }
+    show_told_or_refused(output, form, octets)
+}
+
+fn show_told_or_refused<W: Write>(output: &mut W, form: Form, octets: &[u8]) -> io::Result<()> {
+    match refusal(octets) {
+        Some(why) => show_refused(output, form, octets, why),
+        None => show_by_type(output, form, octets),
+    }
+}
+
+/// Why a message that is told by its fields is refused, where it is; None of every other type. Requires 8 octets.
+pub fn refusal(octets: &[u8]) -> Option<Refusal> {
+    match octets[0] {
+        NODE_INFORMATION_QUERY | NODE_INFORMATION_RESPONSE => wrong_node(octets),
+        _ => None,
+    }
+}
+
+/// How a message that is neither an error nor an echo is told by [`show_unread`].
+pub fn told(octets: &[u8]) -> Told {
+    if octets.len() < HEADER_END {
+        return Told::Octets;
+    }
+    match refusal(octets) {
+        Some(why) => Told::Refused(why),
+        None if is_told(octets[0]) => Told::Fields,
+        None => Told::Octets,
+    }
+}
+
+// Whether a type is one that is told by its fields.
+fn is_told(type_: u8) -> bool {
+    matches!(
+        type_,
+        NODE_INFORMATION_QUERY
+            | NODE_INFORMATION_RESPONSE
+            | EXTENDED_ECHO_REQUEST
+            | EXTENDED_ECHO_REPLY
+    )
+}
+
+// Prints a message that is not refused: its fields, or of another type its octets.
+fn show_by_type<W: Write>(output: &mut W, form: Form, octets: &[u8]) -> io::Result<()> {
+    match octets[0] {
+        NODE_INFORMATION_QUERY => node_information::show_query(output, form, octets),
+        NODE_INFORMATION_RESPONSE => node_information::show_reply(output, form, octets),
+        EXTENDED_ECHO_REQUEST => extended_echo::show_request(output, form, octets),
+        EXTENDED_ECHO_REPLY => extended_echo::show_reply(output, form, octets),
+        _ => show_behind_checksum(output, form, octets),
+    }
 }
 
 fn show_head<W: Write>(output: &mut W, form: Form, type_: u8, code: u8) -> io::Result<()> {

@@ -27,14 +27,15 @@ pub fn icmp4_type_name(number: u8) -> Option<&'static str> {
     }
 }
 
-/// The name of a code of this type of ICMPv4 (RFC 792, RFC 1122 section 3.2.2, RFC 1812 section 5.2.7.1); None where it
-/// has none here.
+/// The name of a code of this type of ICMPv4 (RFC 792, RFC 1122 section 3.2.2, RFC 1812 section 5.2.7.1, RFC 8335
+/// section 3); None where it has none here.
 pub fn icmp4_code_name(type_: u8, code: u8) -> Option<&'static str> {
     match type_ {
         3 => icmp4_unreachable(code),
         5 => icmp4_redirect(code),
         11 => icmp4_time_exceeded(code),
         12 => icmp4_parameter_problem(code),
+        43 => extended_reply(code),
         _ => None,
     }
 }
@@ -137,13 +138,16 @@ pub fn icmp6_type_name(number: u8) -> Option<&'static str> {
     }
 }
 
-/// The name of a code of this type of ICMPv6 (RFC 4443 section 3, RFC 6554 section 3, RFC 7112 section 5, RFC 8883, RFC
-/// 8986 section 4.1.1); None where it has none here.
+/// The name of a code of this type of ICMPv6 (RFC 4443 section 3, RFC 4620 section 4, RFC 6554 section 3, RFC 7112
+/// section 5, RFC 8335 section 3, RFC 8883, RFC 8986 section 4.1.1); None where it has none here.
 pub fn icmp6_code_name(type_: u8, code: u8) -> Option<&'static str> {
     match type_ {
         1 => icmp6_unreachable(code),
         3 => icmp6_time_exceeded(code),
         4 => icmp6_parameter_problem(code),
+        139 => node_query(code),
+        140 => node_response(code),
+        161 => extended_reply(code),
         _ => None,
     }
 }
@@ -187,6 +191,38 @@ fn icmp6_parameter_problem(code: u8) -> Option<&'static str> {
         8 => Some("too_many_extension_headers"),
         9 => Some("too_many_options_in_extension_header"),
         10 => Some("option_too_big"),
+        _ => None,
+    }
+}
+
+// What the data of a query about a node is.
+fn node_query(code: u8) -> Option<&'static str> {
+    match code {
+        0 => Some("ipv6_address"),
+        1 => Some("name"),
+        2 => Some("ipv4_address"),
+        _ => None,
+    }
+}
+
+// How a query about a node went.
+fn node_response(code: u8) -> Option<&'static str> {
+    match code {
+        0 => Some("success"),
+        1 => Some("refused"),
+        2 => Some("unknown_qtype"),
+        _ => None,
+    }
+}
+
+// How a request about an interface went.
+fn extended_reply(code: u8) -> Option<&'static str> {
+    match code {
+        0 => Some("no_error"),
+        1 => Some("malformed_query"),
+        2 => Some("no_such_interface"),
+        3 => Some("no_such_table_entry"),
+        4 => Some("multiple_interfaces_satisfy_query"),
         _ => None,
     }
 }

@@ -1,9 +1,14 @@
 // Made from crates/icmp_fields/src/lib.rt by rust/erase.
 //! The fields of ICMP messages, in lines or in JSON.
 
+mod extended_echo;
 mod icmp;
 pub mod icmp4;
 pub mod icmp6;
 pub mod icmp_names;
+mod node_information;
 pub mod protocol_names;
+mod queries;
 pub mod quote;
+pub mod refusal;
+mod texts;

@@ -1,9 +1,8 @@
--- The head by the first octets, and the others.
+-- The head by the first octets, and what follows the checksum.
 use Rattle.packet_fields.proofs.Fields.{prints_last}
 use Rattle.icmp_fields.proofs.icmp4.show_typed.Goals as goal
 
 pub returns : goal.returns
 returns g c =
     let head = rw (c.u8_at.ensures, c.u8_at-2.ensures) at c.in_ok-show_head.ensures in
-    let rest = rw c.split_at.ensures.back at c.show_rest.ensures in
-    prints_last _ _ _ head rest
+    prints_last _ _ _ head c.show_behind.ensures

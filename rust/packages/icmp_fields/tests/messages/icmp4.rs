@@ -198,8 +198,8 @@ fn gateway_and_pointer_of_errors() {
 fn messages_of_other_types_by_their_octets() {
     let rows: &[(&[u8], &str)] = &[
         (
-            &[13, 0, 0, 0, 0, 7, 0, 1, 0x01, 0x02, 0x03, 0x04],
-            "  type=13 (timestamp)\n  code=0\n  rest=0007000101020304\n",
+            &[15, 0, 0, 0, 0, 7, 0, 1, 0x01, 0x02, 0x03, 0x04],
+            "  type=15 (information_request)\n  code=0\n  rest=0007000101020304\n",
         ),
         (&[253, 9, 0, 0], "  type=253\n  code=9\n  rest=-\n"),
         (&[3, 1, 0], "  rest=030100\n"),

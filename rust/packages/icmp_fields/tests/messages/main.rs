@@ -6,4 +6,6 @@ mod icmp4;
 #[cfg(test)]
 mod icmp6;
 #[cfg(test)]
+mod queries;
+#[cfg(test)]
 mod testing;

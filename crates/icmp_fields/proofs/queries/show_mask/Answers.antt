@@ -1,0 +1,9 @@
+-- The numbers, the mask, and the octets behind them.
+use Rattle.packet_fields.proofs.Fields.{◌and◌, prints_last}
+use Rattle.icmp_fields.proofs.queries.show_mask.Goals as goal
+
+pub returns : goal.returns
+returns g c =
+    let mask = rw c.field-mask.ensures.value at c.in_ok-field.ensures in
+    let behind = rw c.split_at.ensures.back at c.show_additional.ensures in
+    prints_last _ _ _ (c.in_ok-show_ids.ensures and mask) behind
