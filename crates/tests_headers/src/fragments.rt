@@ -110,11 +110,10 @@ fn what_is_refused_of_fragments(rt: HostRuntime) {
 }
 
 // Checks that a payload has these parts, by their offsets, whether others follow, and their lengths.
-fn check_parts(rt: &impl Abort, payload: &[u8], room: usize, wanted: &[(u16, bool, usize)])
-    requires room { 8 ≤ room }
-    requires payload { length payload.now ≤ 65535 }
-{
-    let mut parts = Fragments::new(payload, room);
+fn check_parts(rt: &impl Abort, payload: &[u8], room: usize, wanted: &[(u16, bool, usize)]) {
+    let Some(mut parts) = Fragments::new(payload, room) else {
+        return same_of(rt, room, false, true);
+    };
     let mut rest = payload;
     for &(frag_offset, more_frags, len) in wanted {
         let (part, behind) = rest.split_at(len.min(rest.len()));
@@ -162,14 +161,16 @@ fn parts_of_payloads(rt: HostRuntime) {
             same_of(&rt, len, false, true);
             continue;
         };
-        check_parts(&rt, payload, room.max(8), wanted);
+        check_parts(&rt, payload, room, wanted);
     }
 }
 
 #[test]
 fn the_greatest_payload_in_the_smallest_parts(rt: HostRuntime) {
     let octets = [0x5a; MAX_PAYLOAD_LEN];
-    let mut parts = Fragments::new(&octets, 8);
+    let Some(mut parts) = Fragments::new(&octets, 8) else {
+        return same(&rt, false, true);
+    };
     for frag_offset in 0..8192 {
         let more_frags = frag_offset < 8191;
         let len = if more_frags { 8 } else { 7 };
@@ -181,4 +182,18 @@ fn the_greatest_payload_in_the_smallest_parts(rt: HostRuntime) {
         same_of(&rt, frag_offset, parts.next(), Some(wanted));
     }
     same(&rt, parts.next(), None);
+}
+
+#[test]
+fn what_is_refused_of_payloads(rt: HostRuntime) {
+    let octets = [0x5a; MAX_PAYLOAD_LEN + 1];
+    for room in 0..8 {
+        same_of(
+            &rt,
+            room,
+            Fragments::new(&octets[..8], room).is_none(),
+            true,
+        );
+    }
+    same(&rt, Fragments::new(&octets, 1480).is_none(), true);
 }

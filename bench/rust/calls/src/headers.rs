@@ -184,7 +184,7 @@ fn fragment_cases() {
     prints("headers_ipv6_fragment_display", &headers);
     let payloads = many(69, |random, place| random.octets(500 * place));
     iterates("headers_fragments", &payloads, |payload| {
-        Fragments::new(payload, 1_452)
+        Fragments::new(payload, 1_452).unwrap()
     });
 }
 
