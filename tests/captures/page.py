@@ -110,11 +110,12 @@ class Page:
         self.clients = Sort("client", "clients", "hardware")
         self.leases = Sort("lease", "leases", "addr")
         self.members = Sort("group", "members", "addr")
+        self.sources = Sort("group", "sources", "addr")
         self.neighbors = Sort("neighbor", "neighbors", "addr")
         self.routers = Sort("router", "routers", "addr")
         self.prefixes = Sort("prefix", "prefixes", "prefix")
         self.sorts = (self.questions, self.rcodes, self.servers, self.clients, self.leases, self.members,
-                      self.neighbors, self.routers, self.prefixes)
+                      self.sources, self.neighbors, self.routers, self.prefixes)
 
     def add(self, shown, number, packet):
         """Counts what the messages of a packet say."""
@@ -187,6 +188,9 @@ def count_lease(page, _, items, octets, __):
 # ---- groups
 
 REPORTS4, RECORDS4, REPORT6, RECORDS6 = (0x12, 0x16), 0x22, 131, 143
+# The key of the sources of a record by its type, and what their rows are ordered by.
+INCLUDED, EXCLUDED = ("source", b"\0"), ("excluded", b"\1")
+FILTERS = {1: INCLUDED, 2: EXCLUDED, 3: INCLUDED, 4: EXCLUDED, 5: INCLUDED}
 
 
 def count_group(page, shown, _, octets, __):
@@ -199,20 +203,29 @@ def count_group(page, shown, _, octets, __):
 
 
 def count_records(page, shown, octets, width):
-    """The records by which the host wants a group, of those that are whole."""
+    """The records by which the host wants a group, of those that are whole, and their sources."""
     left = octets[8:]
     for _ in range(be(octets[6:8])):
         length = neighbors.record_length(left, width)
         if len(left) < max(length, 4 + width):
             return
-        sources = be(left[2:4])
-        if left[0] in (2, 4) or left[0] in (1, 3, 5) and sources:
-            add_member(page, left[4:4 + width], shown.datagram.source)
+        count, group, host = be(left[2:4]), left[4:4 + width], shown.datagram.source
+        of = FILTERS.get(left[0])
+        if of == EXCLUDED or of == INCLUDED and count:
+            add_member(page, group, host)
+            for at in range(4 + width, 4 + width + width * count, width):
+                add_source(page, group, host, of, left[at:at + width])
         left = left[length:]
 
 
 def add_member(page, group, host):
     page.members.add(group + host, address(group), Cell("member", address(host)))
+
+
+def add_source(page, group, host, of, source):
+    key, order = of
+    page.sources.add(group + host + order + source, address(group), Cell("member", address(host)),
+                     Cell(key, address(source)))
 
 
 # ---- neighbors, routers and listeners

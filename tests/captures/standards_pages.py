@@ -105,8 +105,8 @@ def records4(*records):
     return ip4(igmp(0x22, 0, told)[20:], 2, CLIENT, v4("224.0.0.22"))
 
 
-def record4(kind, *sources, aux=0):
-    return struct.pack(">BBH", kind, aux, len(sources)) + v4("239.1.2.3") + b"".join(sources) + b"\0" * (4 * aux)
+def record4(kind, *sources, aux=0, group=v4("239.1.2.3")):
+    return struct.pack(">BBH", kind, aux, len(sources)) + group + b"".join(sources) + b"\0" * (4 * aux)
 
 
 def record6(kind, *sources):
@@ -127,6 +127,11 @@ GROUPS = {
         *(ip6_icmp6(kind, 0, b"\0" * 4, GROUP, HOST_B, GROUP) for kind in (130, 131, 132)),
         records6(*(record6(kind) for kind in range(1, 7))), records6(*(record6(kind, HOST_B) for kind in range(1, 7))),
         records6(record6(4), record6(1, HOST_B)[:-1])),
+    "page_of_sources": in_turn(
+        records4(*(record4(kind, SERVER, OTHER, aux=kind % 2) for kind in range(8))),
+        records4(record4(5, OTHER, SERVER, OTHER, group=v4("232.1.1.1"))), records4(record4(4), record4(1)),
+        records4(record4(5, CLIENT, aux=2), record4(2, OTHER)[:-1]),
+        records6(record6(5, HOST_B, HOST_A), record6(4, HOST_B), record6(6, HOST_B))),
 }
 
 # ---- neighbors and routers
@@ -190,6 +195,7 @@ FULL = {
     "page_of_each_rcode": many(32, lambda at: said(at, rcode=at % 16)),
     "page_of_each_operation": many(16, lambda at: asks(at, A, flags=at << 11)),
     "page_of_too_many_members": many(MOST, lambda at: ip4(igmp(0x16, 0, v4("239.0.0.1"))[20:], 2, host(at), MDNS)),
+    "page_of_too_many_sources": many(2, lambda at: records4(record4(1 + at, *map(host, range(MOST // 2))))),
     "page_of_too_many_neighbors": many(MOST, lambda at: neighbor(136, link(2, 1), target=host6(at))),
     "page_of_too_many_routers": many(MOST, lambda at: router(prefix(), host6(at))),
     "page_of_too_many_leases": many(MOST, lambda at: gives(ACK + HOUR, b"\0" * 4 + host(at) + b"\0" * 8)),

@@ -4,7 +4,7 @@ use Rattle.std.proofs.Common.{map, ℕ}
 use Rattle.std.proofs.lemmas.List.{length-map}
 use Rattle.packet_stats.specs.Bounds.{HaveFewTimes, IsWithin, IsWithinBounds}
 use Rattle.packet_stats.specs.Row.{MentionValue, counted, first_row, row_of}
-use Rattle.packet_stats.specs.Stats.{state_of}
+use Rattle.packet_stats.specs.Stats.{nothing, state_of}
 use Rattle.packet_stats.specs.Table.{Counts, TableValue, again, first, overlooks, table_of}
 use Rattle.packet_stats.specs.Types.{Fault, Row, Stats, Table}
 
@@ -39,6 +39,10 @@ stays_within (Err fault) most old new m counts same few =
     let behind = length-map new.rows.items row_of in
     omega (arith, before, behind, ap (λ (t : TableValue). length t.rows) same, few)
 
+pub none_within : (most : ℕ) (t : Table) → table_of t ≡ nothing → length t.rows.items ≤ most
+none_within most t none =
+    omega (arith, length-map t.rows.items row_of, ap (λ (v : TableValue). length v.rows) none)
+
 few_times : (rows : List Row) → HaveFewTimes (map row_of rows)
 few_times [] = tt
 few_times (r ∷ rs) = (r.few, few_times rs)
@@ -57,6 +61,7 @@ bounds_of s = record {
   clients = is_within 1024 s.clients s.few_clients;
   leases = is_within 1024 s.leases s.few_leases;
   members = is_within 1024 s.members s.few_members;
+  sources = is_within 1024 s.sources s.few_sources;
   neighbors = is_within 1024 s.neighbors s.few_neighbors;
   routers = is_within 1024 s.routers s.few_routers;
   prefixes = is_within 1024 s.prefixes s.few_prefixes;

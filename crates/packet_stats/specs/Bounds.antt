@@ -21,6 +21,7 @@ pub record IsWithinBounds (s : State) : Type 0 where
   pub clients : IsWithin most_rows s.clients
   pub leases : IsWithin most_rows s.leases
   pub members : IsWithin most_rows s.members
+  pub sources : IsWithin most_rows s.sources
   pub neighbors : IsWithin most_rows s.neighbors
   pub routers : IsWithin most_rows s.routers
   pub prefixes : IsWithin most_rows s.prefixes

@@ -18,8 +18,9 @@ use Rattle.packet_pairs.specs.Shown.{milliseconds_text}
 use Rattle.packet_stats.specs.Row.{RowValue, percentile}
 use Rattle.packet_stats.specs.Stats.{State}
 use Rattle.packet_stats.specs.Subject.{SubjectValue, client, lease, member, neighbor, outcome, prefix, question, router}
-use Rattle.packet_stats.specs.Subject.{server}
+use Rattle.packet_stats.specs.Subject.{server, source}
 use Rattle.packet_stats.specs.Table.{TableValue}
+use Rattle.packet_stats.specs.Types.{FilterMode}
 
 -- ---- times
 
@@ -70,6 +71,11 @@ abbrev pub lease_cells : Option ℕ → List Cell
 lease_cells None = []
 lease_cells (Some seconds) = keyed_value (codes "time") (time (1000 * seconds))
 
+-- a source that a member wants, or one that it excludes
+abbrev pub mode_key : FilterMode → List ℕ
+mode_key FilterMode.Include = codes "source"
+mode_key FilterMode.Exclude = codes "excluded"
+
 abbrev pub subject_entry : SubjectValue → List Cell → Entry
 subject_entry (question labels kind) cells =
     kind_entry (codes "question") (codes "name") (text (whole_name labels))
@@ -82,6 +88,9 @@ subject_entry (lease address hardware seconds) cells =
     address_entry (codes "lease") address (link_cells (codes "client") hardware ++ lease_cells seconds ++ cells)
 subject_entry (member group host) cells =
     address_entry (codes "group") group (address_cells (codes "member") host ++ cells)
+subject_entry (source group host mode address) cells =
+    address_entry (codes "group") group
+    (address_cells (codes "member") host ++ address_cells (mode_key mode) address ++ cells)
 subject_entry (neighbor address link) cells =
     address_entry (codes "neighbor") address (link_cells (codes "link") link ++ cells)
 subject_entry (router address) cells = address_entry (codes "router") address cells
@@ -115,6 +124,12 @@ dhcp_items form s =
     table_items form (codes "clients") (codes "clients_not_counted") s.clients
     ++ table_items form (codes "leases") (codes "leases_not_counted") s.leases
 
+-- members of groups, and the sources that they want or exclude
+abbrev pub group_items : Form → State → List Item
+group_items form s =
+    table_items form (codes "members") (codes "members_not_counted") s.members
+    ++ table_items form (codes "sources") (codes "sources_not_counted") s.sources
+
 -- neighbors, and routers with their prefixes
 abbrev pub neighbor_items : Form → State → List Item
 neighbor_items form s =
@@ -122,10 +137,10 @@ neighbor_items form s =
     ++ table_items form (codes "routers") (codes "routers_not_counted") s.routers
     ++ table_items form (codes "prefixes") (codes "prefixes_not_counted") s.prefixes
 
--- a page; the members of groups stand between
+-- a page: what is counted of DNS, of DHCP, of groups, and of neighbors
 abbrev pub page_items : Form → State → List Item
 page_items form s =
     dns_items form s
     ++ dhcp_items form s
-    ++ table_items form (codes "members") (codes "members_not_counted") s.members
+    ++ group_items form s
     ++ neighbor_items form s

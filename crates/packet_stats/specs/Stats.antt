@@ -2,7 +2,7 @@
 use Rattle.std.specs.Prelude.{◌≡◌, [], ◌∷◌, ◌++◌, List, ℕ}
 use Rattle.packet_stats.specs.Row.{MentionValue}
 use Rattle.packet_stats.specs.Subject.{SubjectValue, client, lease, member, neighbor, outcome, prefix, question, router}
-use Rattle.packet_stats.specs.Subject.{server}
+use Rattle.packet_stats.specs.Subject.{server, source}
 use Rattle.packet_stats.specs.Table.{Counts, Sorts, TableValue, table_of}
 use Rattle.packet_stats.specs.Types.{Stats}
 
@@ -14,6 +14,7 @@ pub record State : Type 0 where
   pub clients : TableValue
   pub leases : TableValue
   pub members : TableValue
+  pub sources : TableValue
   pub neighbors : TableValue
   pub routers : TableValue
   pub prefixes : TableValue
@@ -26,6 +27,7 @@ state_of s = record {
   clients = table_of s.clients;
   leases = table_of s.leases;
   members = table_of s.members;
+  sources = table_of s.sources;
   neighbors = table_of s.neighbors;
   routers = table_of s.routers;
   prefixes = table_of s.prefixes;
@@ -44,6 +46,7 @@ no_messages = record {
   clients = nothing;
   leases = nothing;
   members = nothing;
+  sources = nothing;
   neighbors = nothing;
   routers = nothing;
   prefixes = nothing;
@@ -72,6 +75,8 @@ CountsIn (lease address hardware time) old m new =
     Counts most_rows old.leases m new.leases × (new ≡ record old { leases = new.leases })
 CountsIn (member group host) old m new =
     Counts most_rows old.members m new.members × (new ≡ record old { members = new.members })
+CountsIn (source group host mode address) old m new =
+    Counts most_rows old.sources m new.sources × (new ≡ record old { sources = new.sources })
 CountsIn (neighbor address link) old m new =
     Counts most_rows old.neighbors m new.neighbors × (new ≡ record old { neighbors = new.neighbors })
 CountsIn (router address) old m new =
@@ -112,6 +117,7 @@ pub record SortsAll (old new : State) : Type 0 where
   pub clients : Sorts old.clients new.clients
   pub leases : Sorts old.leases new.leases
   pub members : Sorts old.members new.members
+  pub sources : Sorts old.sources new.sources
   pub neighbors : Sorts old.neighbors new.neighbors
   pub routers : Sorts old.routers new.routers
   pub prefixes : Sorts old.prefixes new.prefixes

@@ -3,7 +3,7 @@
 #![tactic(auto, using(packet_fields::proofs::Fields::cells_both, packet_fields::proofs::Fields::cells_none, // cells
 packet_fields::proofs::Printing::gains_both))]
 
-ghost use Rattle.std.specs.Prelude.{OnOk};
+ghost use Rattle.std.specs.Prelude.{◌≡◌, OnOk};
 ghost use Rattle.record_wire.specs.Name.{labels_of};
 ghost use Rattle.packet_fields.specs.Entries.{PrintsEntry};
 ghost use Rattle.packet_fields.specs.Fields.{first_text, text};
@@ -11,12 +11,13 @@ ghost use Rattle.packet_fields.specs.Output.{Gains};
 ghost use Rattle.packet_fields.specs.Prints.{PrintsCells};
 ghost use Rattle.packet_fields.specs.Texts.{address_text};
 ghost use Rattle.packet_stats.specs.Row.{row_of};
-ghost use Rattle.packet_stats.specs.Shown.{address_cells, address_entry, lease_cells, row_cells, row_entry, some_cells};
-ghost use Rattle.packet_stats.specs.Shown.{subject_entry, time_cells, times_cells};
+ghost use Rattle.packet_stats.specs.Shown.{address_cells, address_entry, lease_cells, mode_key, row_cells, row_entry};
+ghost use Rattle.packet_stats.specs.Shown.{some_cells, subject_entry, time_cells, times_cells};
 ghost use Rattle.packet_stats.specs.Subject.{client, lease, member, neighbor, octets_in, outcome, prefix, question};
+ghost use Rattle.packet_stats.specs.Subject.{source_of};
 
 use crate::row::Row;
-use crate::subject::{IpAddress, Subject};
+use crate::subject::{FilterMode, IpAddress, Source, Subject};
 use crate::words::{NameWord, RcodeWord, TypeWord};
 use dns_wire::dns::Type;
 use neighbor_fields::ndisc::options::Prefix;
@@ -59,6 +60,7 @@ pub(crate) fn show_row<W: Write>(
             )
         }
         Subject::Member(group, host) => show_member(output, form, is_first, group, host, row),
+        Subject::Source(source) => show_source(output, form, is_first, source, row),
         Subject::Neighbor(address, link) => {
             show_neighbor(output, form, is_first, &IpAddress::V6(*address), link, row)
         }
@@ -193,6 +195,34 @@ fn show_member<W: Write>(
     show_keyed_address(output, form, "member", host)?;
     show_cells(output, form, row)?;
     close_entry(output, form)
+}
+
+fn show_source<W: Write>(
+    output: &mut W,
+    form: Form,
+    is_first: bool,
+    source: &Source,
+    row: &Row,
+) -> io::Result<()>
+    ensures { OnOk result (PrintsEntry form is_first (W.contents output.old) (W.contents output.new)
+        (subject_entry (source_of source.now) (row_cells form (row_of row.now)))) }
+{
+    open_entry(output, form, is_first, "kind", "group")?;
+    show_address(output, form, "addr", &source.group)?;
+    show_keyed_address(output, form, "member", &source.host)?;
+    show_keyed_address(output, form, mode_key(source.mode), &source.address)?;
+    show_cells(output, form, row)?;
+    close_entry(output, form)
+}
+
+// The key of a source that a member wants, or of one that it excludes.
+fn mode_key(mode: FilterMode) -> &'static str
+    ensures { result.now ≡ mode_key mode }
+{
+    match mode {
+        FilterMode::Include => "source",
+        FilterMode::Exclude => "excluded",
+    }
 }
 
 fn show_neighbor<W: Write>(

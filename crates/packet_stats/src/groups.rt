@@ -1,16 +1,17 @@
 //! Reports of multicast groups: IGMP (RFC 2236, RFC 3376) and multicast listener discovery (RFC 2710, RFC 3810).
 
-ghost use Rattle.std.specs.Prelude.{◌≡◌, ◌≤◌, ◌+◌, IsTrue, OnErr, OnOk, length, true};
+ghost use Rattle.std.specs.Prelude.{◌≡◌, ◌≤◌, ◌+◌, ◌*◌, IsTrue, OnErr, OnOk, length, true};
+ghost use Rattle.wirebase.specs.Bytes.{field, number_of};
 ghost use Rattle.wirebase.specs.Ipv4.{octets_of};
-ghost use Rattle.packet_stats.specs.Groups.{body4_said, group_said, igmp_said};
-ghost use Rattle.packet_stats.specs.Groups.{is_whole_record, new_said, old_said, record_said};
-ghost use Rattle.packet_stats.specs.Groups.{is_member, records_said, report_said, tells_member};
+ghost use Rattle.packet_stats.specs.Groups.{body4_said, filter_said, group_said, igmp_said, is_member};
+ghost use Rattle.packet_stats.specs.Groups.{is_whole_record, mode_of, new_said, old_said, record_said};
+ghost use Rattle.packet_stats.specs.Groups.{records_said, report_said, source_said, tells_member};
 ghost use Rattle.packet_stats.specs.Stats.{CountsAll, CountsSome, state_of};
 ghost use Rattle.packet_stats.specs.Subject.{octets_in};
 ghost use Rattle.packet_stats.specs.private.Widths.{is_width};
 
 use crate::stats::Stats;
-use crate::subject::{IpAddress, Subject};
+use crate::subject::{FilterMode, IpAddress, Source, Subject};
 use crate::table::Fault;
 use neighbor_fields::records::{counted_len, record_len};
 use packet_fields::texts::v6_of;
@@ -179,9 +180,65 @@ impl Stats {
     {
         if is_member(width, record) {
             let group = record.range(place::RECORD_GROUP, place::RECORD_GROUP + width);
-            return self.count_group(alloc, group, host);
+            self.count_group(alloc, group, host)?;
+            return self.count_filter(alloc, width, host, record);
         }
         Ok(())
+    }
+
+    // Counts the sources that a record has, each of which the host wants, or excludes.
+    fn count_filter(
+        &mut self,
+        alloc: Global,
+        width: usize,
+        host: IpAddress,
+        record: &[u8],
+    ) -> Result<(), Fault>
+        requires width { is_width width ≡ true }
+        requires long { 4 + width + width * number_of (field 2 4) «record».now ≤ length «record».now }
+        ensures counts { OnOk result (CountsAll (state_of self.old)
+            (filter_said width (octets_in host) «record».now) (state_of self.new)) }
+        ensures fault { OnErr result (CountsSome (state_of self.old)
+            (filter_said width (octets_in host) «record».now) (state_of self.new)) }
+    {
+        let group = address_of(record.range(place::RECORD_GROUP, place::RECORD_GROUP + width));
+        let mode = mode_of(record[place::TYPE]);
+        let (_, octets) = record.split_at(place::RECORD_GROUP + width);
+        let mut left = octets;
+        let mut more = record.u16_at(place::RECORD_SRCS);
+        while more > 0 {
+            let (address, others) = left.split_at(width);
+            self.count_group_source(alloc, group, host, mode, address)?;
+            left = others;
+            more -= 1;
+        }
+        Ok(())
+    }
+
+    // Counts a source of an address of these octets.
+    #[tactic(auto, unfolding(crate::specs::Groups::source_said))]
+    fn count_group_source(
+        &mut self,
+        alloc: Global,
+        group: IpAddress,
+        host: IpAddress,
+        mode: FilterMode,
+        octets: &[u8],
+    ) -> Result<(), Fault>
+        requires { is_width (length octets.now) ≡ true }
+        ensures counts { OnOk result (CountsAll (state_of self.old)
+            (source_said (octets_in group) (octets_in host) mode octets.now) (state_of self.new)) }
+        ensures fault { OnErr result (CountsSome (state_of self.old)
+            (source_said (octets_in group) (octets_in host) mode octets.now) (state_of self.new)) }
+    {
+        let address = address_of(octets);
+        let source = Source {
+            group,
+            host,
+            mode,
+            address,
+        };
+        self.count_subject(alloc, Subject::Source(source))
     }
 
     // Counts a host that is in the group of an address of these octets.
@@ -201,7 +258,7 @@ impl Stats {
 fn is_member(width: usize, record: &[u8]) -> bool
     requires { width ≤ 16 }
     ensures value { result ≡ is_member width «record».now }
-    ensures long { IsTrue result → 4 + width ≤ length «record».now }
+    ensures long { IsTrue result → 4 + width + width * number_of (field 2 4) «record».now ≤ length «record».now }
 {
     if is_whole_record(width, record) {
         return tells_member(record[place::TYPE], record.u16_at(place::RECORD_SRCS));
@@ -212,7 +269,7 @@ fn is_member(width: usize, record: &[u8]) -> bool
 fn is_whole_record(width: usize, record: &[u8]) -> bool
     requires { width ≤ 16 }
     ensures value { result ≡ is_whole_record width «record».now }
-    ensures long { IsTrue result → 4 + width ≤ length «record».now }
+    ensures long { IsTrue result → 4 + width + width * number_of (field 2 4) «record».now ≤ length «record».now }
 {
     record.len() >= place::RECORD_GROUP && record.len() == counted_len(width, record)
 }
@@ -225,6 +282,16 @@ fn tells_member(type_: u8, sources: u16) -> bool
         2 | 4 => true,
         1 | 3 | 5 => sources > 0,
         _ => false,
+    }
+}
+
+// Whether a record of this type has sources that are wanted, or sources that are excluded.
+fn mode_of(type_: u8) -> FilterMode
+    ensures { result ≡ mode_of type_ }
+{
+    match type_ {
+        2 | 4 => FilterMode::Exclude,
+        _ => FilterMode::Include,
     }
 }
 

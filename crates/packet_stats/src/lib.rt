@@ -1,5 +1,6 @@
 //! What the control packets of a capture say, counted in bounded memory: names, outcomes and servers of
-//! DNS, clients of DHCP and their leases, groups and their members, and neighbors, routers and their prefixes.
+//! DNS, clients of DHCP and their leases, groups, their members and the sources that these want or exclude, and
+//! neighbors, routers and their prefixes.
 #![tactic(auto)]
 
 mod dhcp;
@@ -21,5 +22,5 @@ mod words;
 pub use row::MOST_TIMES;
 pub use show::show_stats;
 pub use stats::Stats;
-pub use subject::{IpAddress, MOST_HARDWARE, Subject};
+pub use subject::{FilterMode, IpAddress, MOST_HARDWARE, Source, Subject};
 pub use table::{Fault, MOST_ROWS, MOST_SERVERS};

@@ -7,8 +7,8 @@ ghost use Rattle.packet_fields.specs.private.Entries.{PrintsEntries};
 ghost use Rattle.packet_fields.specs.Fields.{entries as entries_item};
 ghost use Rattle.packet_fields.specs.Prints.{Prints};
 ghost use Rattle.packet_stats.specs.Row.{row_of};
-ghost use Rattle.packet_stats.specs.Shown.{dhcp_items, dns_items, neighbor_items, overlooked_items, page_items};
-ghost use Rattle.packet_stats.specs.Shown.{row_entry, table_items};
+ghost use Rattle.packet_stats.specs.Shown.{dhcp_items, dns_items, group_items, neighbor_items, overlooked_items};
+ghost use Rattle.packet_stats.specs.Shown.{page_items, row_entry, table_items};
 ghost use Rattle.packet_stats.specs.Stats.{SortsAll, state_of};
 ghost use Rattle.packet_stats.specs.Table.{table_of};
 
@@ -44,13 +44,7 @@ fn show_page<W: Write>(output: &mut W, form: Form, stats: &Stats) -> io::Result<
 {
     show_dns(output, form, stats)?;
     show_dhcp(output, form, stats)?;
-    show_table(
-        output,
-        form,
-        "members",
-        "members_not_counted",
-        &stats.members,
-    )?;
+    show_groups(output, form, stats)?;
     show_neighbors(output, form, stats)
 }
 
@@ -67,6 +61,27 @@ fn show_dhcp<W: Write>(output: &mut W, form: Form, stats: &Stats) -> io::Result<
         &stats.clients,
     )?;
     show_table(output, form, "leases", "leases_not_counted", &stats.leases)
+}
+
+// Prints members of groups, and the sources that they want or exclude.
+fn show_groups<W: Write>(output: &mut W, form: Form, stats: &Stats) -> io::Result<()>
+    ensures { OnOk result (Prints form (W.contents output.old) (W.contents output.new)
+        (group_items form (state_of stats.now))) }
+{
+    show_table(
+        output,
+        form,
+        "members",
+        "members_not_counted",
+        &stats.members,
+    )?;
+    show_table(
+        output,
+        form,
+        "sources",
+        "sources_not_counted",
+        &stats.sources,
+    )
 }
 
 // Prints neighbors, and routers with their prefixes.

@@ -17,6 +17,7 @@ pub struct Stats {
     pub(crate) clients: Table,
     pub(crate) leases: Table,
     pub(crate) members: Table,
+    pub(crate) sources: Table,
     pub(crate) neighbors: Table,
     pub(crate) routers: Table,
     pub(crate) prefixes: Table,
@@ -26,6 +27,7 @@ pub struct Stats {
     pub ghost few_clients: { length clients.rows.items ≤ 1024 },
     pub ghost few_leases: { length leases.rows.items ≤ 1024 },
     pub ghost few_members: { length members.rows.items ≤ 1024 },
+    pub ghost few_sources: { length sources.rows.items ≤ 1024 },
     pub ghost few_neighbors: { length neighbors.rows.items ≤ 1024 },
     pub ghost few_routers: { length routers.rows.items ≤ 1024 },
     pub ghost few_prefixes: { length prefixes.rows.items ≤ 1024 },
@@ -52,6 +54,7 @@ impl Stats {
             clients: Table::new(alloc),
             leases: Table::new(alloc),
             members: Table::new(alloc),
+            sources: Table::new(alloc),
             neighbors: Table::new(alloc),
             routers: Table::new(alloc),
             prefixes: Table::new(alloc),
@@ -70,6 +73,7 @@ impl Stats {
             Subject::Client(_) => self.clients.count(alloc, MOST_ROWS, mention),
             Subject::Lease(..) => self.leases.count(alloc, MOST_ROWS, mention),
             Subject::Member(..) => self.members.count(alloc, MOST_ROWS, mention),
+            Subject::Source(_) => self.sources.count(alloc, MOST_ROWS, mention),
             Subject::Neighbor(..) => self.neighbors.count(alloc, MOST_ROWS, mention),
             Subject::Router(_) => self.routers.count(alloc, MOST_ROWS, mention),
             Subject::Prefix(..) => self.prefixes.count(alloc, MOST_ROWS, mention),
@@ -102,6 +106,7 @@ impl Stats {
         self.clients.sort();
         self.leases.sort();
         self.members.sort();
+        self.sources.sort();
         self.neighbors.sort();
         self.routers.sort();
         self.prefixes.sort();

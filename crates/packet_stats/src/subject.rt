@@ -1,9 +1,9 @@
 //! What is counted.
 
-ghost use Rattle.std.specs.Prelude.{◌≡◌, ◌≤◌, ◌+◌, ◌++◌, ◌↔◌, IsTrue, length};
+ghost use Rattle.std.specs.Prelude.{◌≡◌, ◌≤◌, ◌+◌, ◌∷◌, ◌++◌, ◌↔◌, IsTrue, length};
 ghost use Rattle.record_wire.specs.Name.{labels_of};
-ghost use Rattle.packet_stats.specs.Subject.{octets_in, place_of, rank_of, source_in, subject_of};
-ghost use Rattle.packet_stats.specs.Subject.{time_octets};
+ghost use Rattle.packet_stats.specs.Subject.{mode_octet, octets_in, place_of, rank_of, source_in, source_of};
+ghost use Rattle.packet_stats.specs.Subject.{subject_of, time_octets};
 
 use arrayvec::ArrayVec;
 use dns_wire::dns::Type;
@@ -30,12 +30,36 @@ pub enum Subject {
     Lease(Ipv4Address, ArrayVec<u8, MOST_HARDWARE>, Option<u32>),
     /// A multicast group, and a host that reports to be in it.
     Member(IpAddress, IpAddress),
+    /// A source of a multicast group that a member wants, or excludes.
+    Source(Source),
     /// An address of a neighbor, and its link-layer address.
     Neighbor(Ipv6Address, [u8; 6]),
     /// A router that advertises itself.
     Router(Ipv6Address),
     /// A prefix, its length in bits, and the router that advertises it.
     Prefix(Ipv6Address, u8, Ipv6Address),
+}
+
+/// A source of a multicast group, as a host filters it that reports to be in the group.
+#[derive(Debug, PartialEq, Eq, Clone, Copy)]
+pub struct Source {
+    /// The group.
+    pub group: IpAddress,
+    /// The host.
+    pub host: IpAddress,
+    /// Whether the host wants the source, or excludes it.
+    pub mode: FilterMode,
+    /// The address of the source.
+    pub address: IpAddress,
+}
+
+/// Which sources of a group a host wants (RFC 3376 section 2, RFC 3810 section 3).
+#[derive(Debug, PartialEq, Eq, Clone, Copy)]
+pub enum FilterMode {
+    /// Those that are listed.
+    Include,
+    /// All but those that are listed.
+    Exclude,
 }
 
 /// An address of IPv4 or IPv6.
@@ -70,6 +94,7 @@ impl Subject {
             (Subject::Member(group, host), Subject::Member(other, member)) => {
                 group.is(other) && host.is(member)
             }
+            (Subject::Source(source), Subject::Source(other)) => source.is(other),
             (Subject::Neighbor(address, link), Subject::Neighbor(other, other_link)) => {
                 address.octets() == other.octets() && link == other_link
             }
@@ -113,6 +138,11 @@ impl Subject {
                 group.octets().as_slice(),
                 host.octets().as_slice(),
                 &[],
+            ),
+            Subject::Source(source) => joined(
+                source.group.octets().as_slice(),
+                source.host.octets().as_slice(),
+                source.octets().as_slice(),
             ),
             Subject::Neighbor(address, link) => joined(&address.octets(), link, &[]),
             Subject::Router(router) => joined(&router.octets(), &[], &[]),
@@ -160,6 +190,32 @@ fn joined(front: &[u8], middle: &[u8], back: &[u8]) -> ArrayVec<u8, MOST_OCTETS>
     let _middle = octets.try_extend_from_slice(middle);
     let _back = octets.try_extend_from_slice(back);
     octets
+}
+
+impl Source {
+    // Whether this is that source, of the same group and host, in the same mode.
+    fn is(&self, other: &Source) -> bool
+        ensures { IsTrue result ↔ (source_of self.now ≡ source_of other.now) }
+    {
+        self.group.is(&other.group)
+            && self.host.is(&other.host)
+            && self.mode == other.mode
+            && self.address.is(&other.address)
+    }
+
+    // The octets by which sources of one group and host are ordered: the mode and the address.
+    fn octets(&self) -> ArrayVec<u8, 17>
+        ensures { result.items ≡ mode_octet self.now.mode ∷ octets_in self.now.address }
+    {
+        let mode = match self.mode {
+            FilterMode::Include => 0,
+            FilterMode::Exclude => 1,
+        };
+        let mut octets = ArrayVec::new();
+        let _mode = octets.try_extend_from_slice(&[mode]);
+        let _address = octets.try_extend_from_slice(self.address.octets().as_slice());
+        octets
+    }
 }
 
 impl IpAddress {

@@ -1,4 +1,4 @@
-// Groups and their members.
+// Groups, their members and sources.
 
 use crate::captured::{
     LEAVE_V2, LEAVE_V3, LISTENER_BLOCKS, LISTENER_V1, LISTENER_V2, REPORT_V2, REPORT_V3,
@@ -34,7 +34,8 @@ fn captured_reports(rt: HostRuntime) {
         Form::Lines,
         &mut stats,
         "  group=239.1.2.3 member=192.0.2.1 count=1\n  group=239.1.2.3 member=192.0.2.50 count=2\n  \
-        group=ff15::1:3 member=fe80::ff:fe00:7 count=2\n",
+        group=ff15::1:3 member=fe80::ff:fe00:7 count=2\n  \
+        group=ff15::1:3 member=fe80::ff:fe00:7 source=2001:db8::5 count=1\n",
     );
 }
 
@@ -54,13 +55,13 @@ fn record_that_is_cut(rt: HostRuntime) {
         {\"kind\":\"group\",\"addr\":\"ff02::1:ff00:0\",\"member\":\"fe80::ff:fe00:1\",\"count\":1},\
         {\"kind\":\"group\",\"addr\":\"ff02::1:ff00:1\",\"member\":\"fe80::ff:fe00:1\",\"count\":1},\
         {\"kind\":\"group\",\"addr\":\"ff05::2\",\"member\":\"fe80::ff:fe00:1\",\"count\":1}],\
-        \"neighbors\":[],\"routers\":[],\"prefixes\":[]",
+        \"sources\":[],\"neighbors\":[],\"routers\":[],\"prefixes\":[]",
     );
 }
 
-// Records by their type, with a source and without (RFC 3376 section 4.2.12).
+// Records by their type, with a source and without (RFC 3376 section 4.2.12): what blocks a source says nothing.
 #[test]
-fn records_that_say_that_a_host_is_in_a_group(rt: HostRuntime) {
+fn records_by_their_type(rt: HostRuntime) {
     let mut stats = Stats::new(rt.alloc());
     for kind in 1..=6u8 {
         for sources in 0..=1u8 {
@@ -71,6 +72,7 @@ fn records_that_say_that_a_host_is_in_a_group(rt: HostRuntime) {
                 8,
                 &[kind, 0, 0, sources, 239, 0, kind, sources],
             );
+            put(&mut report, 16, &[192, 0, 2, 9]);
             let len = if sources == 0 { 16 } else { 20 };
             let message = Message::Igmp(front(&report, len));
             counts(&rt, rt.alloc(), &mut stats, &message, &to_server(), None);
@@ -84,6 +86,69 @@ fn records_that_say_that_a_host_is_in_a_group(rt: HostRuntime) {
         "  group=239.0.1.1 member=192.0.2.50 count=1\n  group=239.0.2.0 member=192.0.2.50 count=1\n  \
         group=239.0.2.1 member=192.0.2.50 count=1\n  group=239.0.3.1 member=192.0.2.50 count=1\n  \
         group=239.0.4.0 member=192.0.2.50 count=1\n  group=239.0.4.1 member=192.0.2.50 count=1\n  \
-        group=239.0.5.1 member=192.0.2.50 count=1\n",
+        group=239.0.5.1 member=192.0.2.50 count=1\n  \
+        group=239.0.1.1 member=192.0.2.50 source=192.0.2.9 count=1\n  \
+        group=239.0.2.1 member=192.0.2.50 excluded=192.0.2.9 count=1\n  \
+        group=239.0.3.1 member=192.0.2.50 source=192.0.2.9 count=1\n  \
+        group=239.0.4.1 member=192.0.2.50 excluded=192.0.2.9 count=1\n  \
+        group=239.0.5.1 member=192.0.2.50 source=192.0.2.9 count=1\n",
+    );
+}
+
+// Two sources that are allowed, with auxiliary data behind them, one that is excluded, one that is included again, and
+// one that is blocked.
+const FILTERS: &[u8] = &[
+    0x22, 0x00, 0x00, 0x00, 0x00, 0x00, 0x00, 0x04, 0x05, 0x01, 0x00, 0x02, 0xe8, 0x01, 0x01, 0x01,
+    0xc0, 0x00, 0x02, 0x09, 0xc0, 0x00, 0x02, 0x08, 0xaa, 0xbb, 0xcc, 0xdd, 0x04, 0x00, 0x00, 0x01,
+    0xe8, 0x01, 0x01, 0x01, 0xc0, 0x00, 0x02, 0x09, 0x01, 0x00, 0x00, 0x01, 0xe8, 0x01, 0x01, 0x01,
+    0xc0, 0x00, 0x02, 0x09, 0x06, 0x00, 0x00, 0x01, 0xe8, 0x01, 0x01, 0x01, 0xc0, 0x00, 0x02, 0x03,
+];
+
+// Those that are wanted stand before those that are excluded.
+#[test]
+fn sources_of_a_member(rt: HostRuntime) {
+    let mut stats = Stats::new(rt.alloc());
+    let message = Message::Igmp(FILTERS);
+    counts(&rt, rt.alloc(), &mut stats, &message, &to_server(), None);
+    shows(
+        &rt,
+        rt.alloc(),
+        Form::Lines,
+        &mut stats,
+        "  group=232.1.1.1 member=192.0.2.50 count=3\n  \
+        group=232.1.1.1 member=192.0.2.50 source=192.0.2.8 count=1\n  \
+        group=232.1.1.1 member=192.0.2.50 source=192.0.2.9 count=2\n  \
+        group=232.1.1.1 member=192.0.2.50 excluded=192.0.2.9 count=1\n",
+    );
+    shows(
+        &rt,
+        rt.alloc(),
+        Form::Json,
+        &mut stats,
+        ",\"questions\":[],\"rcodes\":[],\"servers\":[],\"clients\":[],\"leases\":[],\"members\":[\
+        {\"kind\":\"group\",\"addr\":\"232.1.1.1\",\"member\":\"192.0.2.50\",\"count\":3}],\"sources\":[\
+        {\"kind\":\"group\",\"addr\":\"232.1.1.1\",\"member\":\"192.0.2.50\",\"source\":\"192.0.2.8\",\"count\":1},\
+        {\"kind\":\"group\",\"addr\":\"232.1.1.1\",\"member\":\"192.0.2.50\",\"source\":\"192.0.2.9\",\"count\":2},\
+        {\"kind\":\"group\",\"addr\":\"232.1.1.1\",\"member\":\"192.0.2.50\",\"excluded\":\"192.0.2.9\",\"count\":1}],\
+        \"neighbors\":[],\"routers\":[],\"prefixes\":[]",
+    );
+}
+
+// The first record with its auxiliary data cut, and the sources of one that is cut by an octet.
+#[test]
+fn sources_of_records_that_are_cut(rt: HostRuntime) {
+    let mut stats = Stats::new(rt.alloc());
+    for len in [20, 27, 39] {
+        let message = Message::Igmp(front(FILTERS, len));
+        counts(&rt, rt.alloc(), &mut stats, &message, &to_server(), None);
+    }
+    shows(
+        &rt,
+        rt.alloc(),
+        Form::Lines,
+        &mut stats,
+        "  group=232.1.1.1 member=192.0.2.50 count=1\n  \
+        group=232.1.1.1 member=192.0.2.50 source=192.0.2.8 count=1\n  \
+        group=232.1.1.1 member=192.0.2.50 source=192.0.2.9 count=1\n",
     );
 }

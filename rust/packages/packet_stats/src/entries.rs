@@ -2,7 +2,7 @@
 //! Rows as entries of the lists of a page.
 
 use crate::row::Row;
-use crate::subject::{IpAddress, Subject};
+use crate::subject::{FilterMode, IpAddress, Source, Subject};
 use crate::words::{NameWord, RcodeWord, TypeWord};
 use control_wire::dns::Type;
 use control_wire::record::Name;
@@ -40,6 +40,7 @@ pub(crate) fn show_row<W: Write>(
             )
         }
         Subject::Member(group, host) => show_member(output, form, is_first, group, host, row),
+        Subject::Source(source) => show_source(output, form, is_first, source, row),
         Subject::Neighbor(address, link) => {
             show_neighbor(output, form, is_first, &IpAddress::V6(*address), link, row)
         }
@@ -152,6 +153,29 @@ fn show_member<W: Write>(
     show_keyed_address(output, form, "member", host)?;
     show_cells(output, form, row)?;
     close_entry(output, form)
+}
+
+fn show_source<W: Write>(
+    output: &mut W,
+    form: Form,
+    is_first: bool,
+    source: &Source,
+    row: &Row,
+) -> io::Result<()> {
+    open_entry(output, form, is_first, "kind", "group")?;
+    show_address(output, form, "addr", &source.group)?;
+    show_keyed_address(output, form, "member", &source.host)?;
+    show_keyed_address(output, form, mode_key(source.mode), &source.address)?;
+    show_cells(output, form, row)?;
+    close_entry(output, form)
+}
+
+// The key of a source that a member wants, or of one that it excludes.
+fn mode_key(mode: FilterMode) -> &'static str {
+    match mode {
+        FilterMode::Include => "source",
+        FilterMode::Exclude => "excluded",
+    }
 }
 
 fn show_neighbor<W: Write>(

@@ -2,7 +2,7 @@
 //! Reports of multicast groups: IGMP (RFC 2236, RFC 3376) and multicast listener discovery (RFC 2710, RFC 3810).
 
 use crate::stats::Stats;
-use crate::subject::{IpAddress, Subject};
+use crate::subject::{FilterMode, IpAddress, Source, Subject};
 use crate::table::Fault;
 use control_wire::{Ipv4Address, Octets};
 use neighbor_fields::records::{counted_len, record_len};
@@ -102,9 +102,44 @@ impl Stats {
     fn count_record(&mut self, width: usize, host: IpAddress, record: &[u8]) -> Result<(), Fault> {
         if is_member(width, record) {
             let group = record.range(place::RECORD_GROUP, place::RECORD_GROUP + width);
-            return self.count_group(group, host);
+            self.count_group(group, host)?;
+            return self.count_filter(width, host, record);
         }
         Ok(())
+    }
+
+    // Counts the sources that a record has, each of which the host wants, or excludes.
+    fn count_filter(&mut self, width: usize, host: IpAddress, record: &[u8]) -> Result<(), Fault> {
+        let group = address_of(record.range(place::RECORD_GROUP, place::RECORD_GROUP + width));
+        let mode = mode_of(record[place::TYPE]);
+        let (_, octets) = record.split_at(place::RECORD_GROUP + width);
+        let mut left = octets;
+        let mut more = record.u16_at(place::RECORD_SRCS);
+        while more > 0 {
+            let (address, others) = left.split_at(width);
+            self.count_group_source(group, host, mode, address)?;
+            left = others;
+            more -= 1;
+        }
+        Ok(())
+    }
+
+    // Counts a source of an address of these octets.
+    fn count_group_source(
+        &mut self,
+        group: IpAddress,
+        host: IpAddress,
+        mode: FilterMode,
+        octets: &[u8],
+    ) -> Result<(), Fault> {
+        let address = address_of(octets);
+        let source = Source {
+            group,
+            host,
+            mode,
+            address,
+        };
+        self.count_subject(Subject::Source(source))
     }
 
     // Counts a host that is in the group of an address of these octets.
@@ -131,6 +166,14 @@ fn tells_member(type_: u8, sources: u16) -> bool {
         2 | 4 => true,
         1 | 3 | 5 => sources > 0,
         _ => false,
+    }
+}
+
+// Whether a record of this type has sources that are wanted, or sources that are excluded.
+fn mode_of(type_: u8) -> FilterMode {
+    match type_ {
+        2 | 4 => FilterMode::Exclude,
+        _ => FilterMode::Include,
     }
 }
 

@@ -17,7 +17,8 @@ impl Stats {
     /// - Of DHCP the client of a request by its hardware address; and of an ACK the address that it leases, the client,
     ///   and the time of the lease where that is told. Of options in several parts the first is read.
     /// - Of a report of IGMP or of multicast listener discovery each group that the host is in, and the host: a record
-    ///   of IGMPv3 or MLDv2 says so where it excludes sources, or includes or allows some.
+    ///   of IGMPv3 or MLDv2 says so where it excludes sources, or includes or allows some; and of such a record each
+    ///   source that the host wants, or excludes (RFC 3376 section 4.2.12, RFC 3810 section 5.2.12).
     /// - Of neighbor discovery a neighbor's address and its link-layer address of 6 octets: those of the target of a
     ///   neighbor advertisement, and of the source of a solicitation or a router advertisement; and of a router
     ///   advertisement the router, and each prefix in its options.

@@ -26,13 +26,7 @@ pub fn show_stats<W: Write>(output: &mut W, form: Form, stats: &mut Stats) -> io
 fn show_page<W: Write>(output: &mut W, form: Form, stats: &Stats) -> io::Result<()> {
     show_dns(output, form, stats)?;
     show_dhcp(output, form, stats)?;
-    show_table(
-        output,
-        form,
-        "members",
-        "members_not_counted",
-        &stats.members,
-    )?;
+    show_groups(output, form, stats)?;
     show_neighbors(output, form, stats)
 }
 
@@ -46,6 +40,24 @@ fn show_dhcp<W: Write>(output: &mut W, form: Form, stats: &Stats) -> io::Result<
         &stats.clients,
     )?;
     show_table(output, form, "leases", "leases_not_counted", &stats.leases)
+}
+
+// Prints members of groups, and the sources that they want or exclude.
+fn show_groups<W: Write>(output: &mut W, form: Form, stats: &Stats) -> io::Result<()> {
+    show_table(
+        output,
+        form,
+        "members",
+        "members_not_counted",
+        &stats.members,
+    )?;
+    show_table(
+        output,
+        form,
+        "sources",
+        "sources_not_counted",
+        &stats.sources,
+    )
 }
 
 // Prints neighbors, and routers with their prefixes.

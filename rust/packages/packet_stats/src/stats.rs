@@ -14,6 +14,7 @@ pub struct Stats {
     pub(crate) clients: Table,
     pub(crate) leases: Table,
     pub(crate) members: Table,
+    pub(crate) sources: Table,
     pub(crate) neighbors: Table,
     pub(crate) routers: Table,
     pub(crate) prefixes: Table,
@@ -29,6 +30,7 @@ impl Stats {
             clients: Table::new(),
             leases: Table::new(),
             members: Table::new(),
+            sources: Table::new(),
             neighbors: Table::new(),
             routers: Table::new(),
             prefixes: Table::new(),
@@ -44,6 +46,7 @@ impl Stats {
             Subject::Client(_) => self.clients.count(MOST_ROWS, mention),
             Subject::Lease(..) => self.leases.count(MOST_ROWS, mention),
             Subject::Member(..) => self.members.count(MOST_ROWS, mention),
+            Subject::Source(_) => self.sources.count(MOST_ROWS, mention),
             Subject::Neighbor(..) => self.neighbors.count(MOST_ROWS, mention),
             Subject::Router(_) => self.routers.count(MOST_ROWS, mention),
             Subject::Prefix(..) => self.prefixes.count(MOST_ROWS, mention),
@@ -66,6 +69,7 @@ impl Stats {
         self.clients.sort();
         self.leases.sort();
         self.members.sort();
+        self.sources.sort();
         self.neighbors.sort();
         self.routers.sort();
         self.prefixes.sort();

@@ -4,5 +4,5 @@ use Rattle.packet_stats.proofs.show.show_page.Goals as goal
 
 pub returns : goal.returns
 returns g c =
-    prints_last _ _ _ (c.in_ok-show_dns.ensures and c.in_ok-show_dhcp.ensures and c.in_ok-show_table.ensures)
+    prints_last _ _ _ (c.in_ok-show_dns.ensures and c.in_ok-show_dhcp.ensures and c.in_ok-show_groups.ensures)
     c.show_neighbors.ensures

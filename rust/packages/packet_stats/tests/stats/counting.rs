@@ -33,7 +33,7 @@ fn captured_queries_and_responses() {
         ",\"questions\":[{\"kind\":\"question\",\"name\":\"a.example.test.\",\"type\":\"A\",\"count\":2}],\
         \"rcodes\":[{\"kind\":\"rcode\",\"rcode\":\"NOERROR\",\"count\":3}],\
         \"servers\":[{\"kind\":\"server\",\"addr\":\"192.0.2.1\",\"count\":3,\"times\":3,\
-        \"median_ns\":100000,\"percentile_99_ns\":46200999}],\"clients\":[],\"leases\":[],\"members\":[],\
+        \"median_ns\":100000,\"percentile_99_ns\":46200999}],\"clients\":[],\"leases\":[],\"members\":[],\"sources\":[],\
         \"neighbors\":[],\"routers\":[],\"prefixes\":[]",
     );
 }
@@ -104,7 +104,7 @@ fn messages_that_say_nothing() {
     shows(
         Form::Json,
         &mut stats,
-        ",\"questions\":[],\"rcodes\":[],\"servers\":[],\"clients\":[],\"leases\":[],\"members\":[],\
+        ",\"questions\":[],\"rcodes\":[],\"servers\":[],\"clients\":[],\"leases\":[],\"members\":[],\"sources\":[],\
         \"neighbors\":[],\"routers\":[],\"prefixes\":[]",
     );
 }

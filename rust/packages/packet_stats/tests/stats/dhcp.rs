@@ -46,7 +46,7 @@ fn client_and_its_lease() {
         \"clients\":[{\"kind\":\"client\",\"hardware\":\"02:00:00:00:00:07\",\"count\":2}],\
         \"leases\":[{\"kind\":\"lease\",\"addr\":\"192.0.2.50\",\"client\":\"02:00:00:00:00:07\",\
         \"time\":3600000,\"count\":2}],\
-        \"members\":[],\"neighbors\":[],\"routers\":[],\"prefixes\":[]",
+        \"members\":[],\"sources\":[],\"neighbors\":[],\"routers\":[],\"prefixes\":[]",
     );
 }
 

@@ -2,9 +2,9 @@
 // As many rows and times as are kept, and more.
 
 use crate::captured::RESPONSE;
-use crate::made::{counts, query, shows, to_host, to_server, udp};
+use crate::made::{counts, put, query, shows, to_host, to_server, udp};
 use crate::testing::same_of;
-use message_fields::Service;
+use message_fields::{Message, Service};
 use packet_fields::Form;
 use packet_stats::{MOST_ROWS, MOST_TIMES, Stats, show_stats};
 #[allow(unused_imports)]
@@ -29,6 +29,31 @@ fn questions_beyond_the_rows() {
     same_of((), output.starts_with(first), true);
     same_of((), output.ends_with(b"  questions_not_counted=2\n"), true);
     same_of((), MOST_ROWS, 1_024);
+}
+
+// A record of 1,026 sources, of which 2 have no row; the member has its own.
+#[test]
+fn sources_beyond_the_rows() {
+    let mut report = [0; 4_120];
+    put(
+        &mut report,
+        0,
+        &[0x22, 0, 0, 0, 0, 0, 0, 1, 1, 0, 4, 2, 232, 1, 1, 1],
+    );
+    for source in 0..1_026usize {
+        put(&mut report, 16 + 4 * source, &(source as u32).to_be_bytes());
+    }
+    let mut stats = Stats::new();
+    let message = Message::Igmp(&report);
+    counts(&mut stats, &message, &to_server(), None);
+    let mut output = Vec::new();
+    let is_shown = show_stats(&mut output, Form::Lines, &mut stats).is_ok();
+    same_of((), is_shown, true);
+    let first =
+        b"  group=232.1.1.1 member=192.0.2.50 count=1\n  group=232.1.1.1 member=192.0.2.50 source=0.0.0.0 ";
+    same_of((), output.starts_with(first), true);
+    let last = b"source=0.0.3.255 count=1\n  sources_not_counted=2\n";
+    same_of((), output.ends_with(last), true);
 }
 
 // 4,098 times, of which the last 2 are not kept: of 1 to 4,096 the places are 2,048 and 4,056.

@@ -59,7 +59,7 @@ fn address_that_two_hosts_claim() {
     shows(
         Form::Json,
         &mut stats,
-        ",\"questions\":[],\"rcodes\":[],\"servers\":[],\"clients\":[],\"leases\":[],\"members\":[],\
+        ",\"questions\":[],\"rcodes\":[],\"servers\":[],\"clients\":[],\"leases\":[],\"members\":[],\"sources\":[],\
         \"neighbors\":[{\"kind\":\"neighbor\",\"addr\":\"fe80::ff:fe00:7\",\"link\":\"02:00:00:00:00:06\",\"count\":1},\
         {\"kind\":\"neighbor\",\"addr\":\"fe80::ff:fe00:7\",\"link\":\"02:00:00:00:00:07\",\"count\":1}],\
         \"routers\":[],\"prefixes\":[]",

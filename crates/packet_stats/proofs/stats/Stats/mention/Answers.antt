@@ -36,6 +36,11 @@ returns-in-Member-clause-counts c =
     in_table c.count-in-Member.result (state_of c.args.self.now) _ (mention_of c.args.mention) _ _
     (ap subject_of c.in-Member.is) (λ counted. (counted, refl)) c.count-in-Member.ensures.counts
 
+pub returns-in-Source-clause-counts : goal.returns-in-Source-clause-counts
+returns-in-Source-clause-counts c =
+    in_table c.count-in-Source.result (state_of c.args.self.now) _ (mention_of c.args.mention) _ _
+    (ap subject_of c.in-Source.is) (λ counted. (counted, refl)) c.count-in-Source.ensures.counts
+
 pub returns-in-Neighbor-clause-counts : goal.returns-in-Neighbor-clause-counts
 returns-in-Neighbor-clause-counts c =
     in_table c.count-in-Neighbor.result (state_of c.args.self.now) _ (mention_of c.args.mention) _ _

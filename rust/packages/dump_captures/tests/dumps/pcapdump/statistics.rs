@@ -22,7 +22,8 @@ const PAGE_IN_JSON: &str = "\
     \"rcodes\":[{\"kind\":\"rcode\",\"rcode\":\"NOERROR\",\"count\":2}],\
     \"servers\":[{\"kind\":\"server\",\"addr\":\"192.0.2.53\",\"count\":2,\"times\":1,\
     \"median_ns\":4000000000,\"percentile_99_ns\":4000000000}],\
-    \"clients\":[],\"leases\":[],\"members\":[],\"neighbors\":[],\"routers\":[],\"prefixes\":[]}\n";
+    \"clients\":[],\"leases\":[],\"members\":[],\"sources\":[],\"neighbors\":[],\"routers\":[],\
+    \"prefixes\":[]}\n";
 
 #[test]
 fn statistics_in_the_place_of_packets() {
