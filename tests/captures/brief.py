@@ -18,6 +18,7 @@ import netbios  # noqa: E402
 import zones  # noqa: E402
 from dhcp import MESSAGE_TYPE  # noqa: E402
 from frames import Refused  # noqa: E402
+from ip import TCP, UDP  # noqa: E402
 from items import Field, line_value  # noqa: E402
 from registries import DHCP_MESSAGES  # noqa: E402
 from text import address, be  # noqa: E402
@@ -298,9 +299,9 @@ def quoted(by_key):
 
 
 def quoted_end(by_key, side):
-    """An end of a quoted datagram, with its port where that is quoted."""
+    """An end of a quoted datagram, with its port where that is quoted directly behind its header."""
     its_address, port = by_key["quoted_%s_addr" % side].value, by_key["quoted_%s_port" % side].value
-    if port is None:
+    if port is None or by_key["quoted_next_header"].value not in (TCP, UDP):
         return its_address
     return ("[%s]:%d" if ":" in its_address else "%s:%d") % (its_address, port)
 

@@ -130,8 +130,9 @@ def texts(value, name=None):
 
 def entry_lines(entry):
     """How a line may have an entry: a number of its type is left out, and each value may have its key."""
+    hidden = ("type", "class") if "data" in entry else ("type", "class", "c_type")
     (label, first), *rest = [(key, value) for key, value in entry.items() if not (
-        key == "type" and isinstance(value, int))]
+        key in hidden and isinstance(value, int))]
     lines = ["%s=" % first]
     for at, (key, value) in enumerate(rest):
         words = [form % text for text in texts(value) for form in (("%s",) if at == 0 else (" %s", f" {key}=%s"))]
@@ -150,7 +151,7 @@ def listing(found):
             yield [f"{key}={text}" for text in texts(value, found.get(key + "_name"))]
 
 
-LISTS = ("hop_by_hop", "options", "records", "entries")
+LISTS = ("hop_by_hop", "options", "records", "entries", "extensions")
 
 
 def heading(found):

@@ -74,9 +74,13 @@ def quoted_octets(packet, protocol, is_first, count):
     return octets(count, "", data(packet))
 
 
-def quoted_ports(packet, protocol, is_first):
+# Headers that extend IPv6, which tshark passes.
+EXTENSIONS6 = (0, 43, 44, 60)
+
+
+def quoted_ports(packet, protocol, is_first, passed=()):
     for number, name in ((17, "udp"), (6, "tcp")):
-        if protocol == number and is_first and packet.has(name + ".srcport"):
+        if protocol in (number, *passed) and is_first and packet.has(name + ".srcport"):
             return {"quoted_src_port": packet.number(name + ".srcport"),
                     "quoted_dst_port": packet.number(name + ".dstport")}
     return {"quoted_src_port": None, "quoted_dst_port": None}
@@ -108,6 +112,9 @@ def icmp4(packet, missing):
 def quote4(packet):
     header, offset = packet.number("ip.hdr_len", 1), packet.number("ip.frag_offset", 1)
     protocol, length = packet.number("ip.proto", 1), payload_length(packet) - 8 - header
+    # Extensions are behind 128 octets in what is captured here; the table has nothing of their objects.
+    behind = {MORE: None} if packet.has("icmp.ext.version") else {}
+    length = 128 - header if behind else length
     return {
         "quoted_type_of_service": packet.number("ip.dsfield", 1), "quoted_total_len": packet.number("ip.len", 1),
         "quoted_ident": packet.number("ip.id", 1), "quoted_dont_frag": packet.text("ip.flags.df", 1) == "1",
@@ -115,7 +122,7 @@ def quote4(packet):
         "quoted_hop_limit": packet.number("ip.ttl", 1), "quoted_next_header": protocol,
         "quoted_src_addr": packet.text("ip.src", 1), "quoted_dst_addr": packet.text("ip.dst", 1),
         "quoted_options": octets(header - 20), **quoted_ports(packet, protocol, offset == 0),
-        "quoted_payload": quoted_octets(packet, protocol, offset == 0, length),
+        "quoted_payload": quoted_octets(packet, protocol, offset == 0, length), **behind,
     }
 
 
@@ -128,7 +135,7 @@ def icmp6_error(packet):
         "quoted_traffic_class": packet.number("ipv6.tclass", 1), "quoted_flow_label": packet.number("ipv6.flow", 1),
         "quoted_payload_len": packet.number("ipv6.plen", 1), "quoted_hop_limit": packet.number("ipv6.hlim", 1),
         "quoted_next_header": protocol, "quoted_src_addr": packet.text("ipv6.src", 1),
-        "quoted_dst_addr": packet.text("ipv6.dst", 1), **quoted_ports(packet, protocol, True),
+        "quoted_dst_addr": packet.text("ipv6.dst", 1), **quoted_ports(packet, protocol, True, EXTENSIONS6),
         "quoted_payload": quoted_octets(packet, protocol, True, length),
     }
 

@@ -1,6 +1,7 @@
 """Messages of ICMPv4 (RFC 792) and ICMPv6 (RFC 4443) but for those of neighbors and listeners, as items."""
+from extensions import divided
 from frames import Refused
-from ip import TCP, UDP
+from ip import EXTENSIONS, FRAGMENT, TCP, UDP, extension_len
 from items import Field, named
 from queries import QUERIES4, QUERIES6
 from registries import ICMP4_CODES, ICMP4_TYPES, ICMP6_CODES, ICMP6_TYPES, PROTOCOLS
@@ -57,7 +58,9 @@ def items4(octets):
         if octets[1]:
             raise Refused("malformed", "an echo of code %d is not read" % octets[1])
         return echo(octets)
-    return told4(octets) + quote4(octets[8:])
+    # What is quoted is counted in words of 4 octets (RFC 4884 section 4).
+    quote, behind = divided(octets[8:], octets[5] if octets[0] in (3, 11, 12) else 0, 4)
+    return told4(octets) + quote4(quote) + behind
 
 
 def told4(octets):
@@ -114,7 +117,9 @@ def items6(octets):
             raise Refused("malformed", "code %d is not read" % octets[1])
         return echo(octets)
     number = {2: "mtu", 4: "pointer"}.get(octets[0])
-    return ([Field(number, be(octets[4:8]))] if number else []) + quote6(octets[8:])
+    # What is quoted is counted in words of 8 octets (RFC 4884 section 4).
+    quote, behind = divided(octets[8:], octets[4] if octets[0] in (1, 3) else 0, 8)
+    return ([Field(number, be(octets[4:8]))] if number else []) + quote6(quote) + behind
 
 
 def quote6(quote):
@@ -127,7 +132,18 @@ def quote6(quote):
         Field("traffic_class", be(quote[0:2]) >> 4 & 0xFF), Field("flow_label", be(quote[0:4]) % 2 ** 20),
         Field("payload_len", be(quote[4:6])), Field("hop_limit", quote[7]), named("next_header", quote[6], PROTOCOLS),
         Field("src_addr", colons(quote[8:24])), Field("dst_addr", colons(quote[24:40])),
-        *ports_of(quote[6], quote[40:]), Field("payload", quote[40:]))
+        *ports_of(*upper(quote[6], quote[40:])), Field("payload", quote[40:]))
+
+
+def upper(protocol, octets):
+    """The protocol that headers lead to, and the octets from there on (RFC 8200 section 4); none behind a header that is
+    cut, and in a later fragment."""
+    while protocol in EXTENSIONS or protocol == FRAGMENT:
+        length = 8 if protocol == FRAGMENT else extension_len(octets)
+        if len(octets) < length or protocol == FRAGMENT and be(octets[2:4]) >> 3:
+            return None, b""
+        protocol, octets = octets[0], octets[length:]
+    return protocol, octets
 
 
 # ---- quotes

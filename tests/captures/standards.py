@@ -7,6 +7,7 @@ from building import (HOST6, NOON, SERVER6, TCP, attribute, block, c_hdlc, cooke
                       pcap_record, section, session, simple, udp4, udp6)
 from standards_brief import BRIEF
 from standards_dns import DNS
+from standards_extensions import EXTENSIONS
 from standards_fragments import FRAGMENTS, MOST
 from standards_messages import LONG_PARTS, MESSAGES, WHOLE_JUMBOGRAMS
 from standards_mixed import MIXED
@@ -187,7 +188,7 @@ def captures():
 
 def mixed():
     """The captures by name of which the octets of the packets alone are damaged."""
-    return named(TUNNELS, FRAGMENTS, SEGMENTS, NETWORKS, BRIEF, QUERIES)
+    return named(TUNNELS, FRAGMENTS, SEGMENTS, NETWORKS, BRIEF, QUERIES, EXTENSIONS)
 
 
 def named(*tables):

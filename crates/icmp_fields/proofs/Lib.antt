@@ -1,3 +1,5 @@
+pub mod ExtensionEntries
 pub mod Gateways
 pub mod Items
+pub mod Quotes
 pub mod RouterEntries

@@ -6,13 +6,15 @@ use Rattle.wirebase.specs.Bytes.{byte_of}
 use Rattle.wirebase.specs.ByteWriter.{be32}
 use Rattle.wirebase.specs.Icmp.{code_field, type_field}
 use Rattle.icmp4_wire.specs.Icmpv4.{MessageValue, echo_request, echo_reply, unreachable, time_exceeded}
+use Rattle.extension_wire.specs.declared.family.Family.{Family}
 use Rattle.quote_wire.specs.Error.{ErrorValue}
-use Rattle.quote_wire.specs.Icmpv4Error.{kind_number, next_hop_mtu_in}
+use Rattle.quote_wire.specs.Icmpv4Error.{kind_number, length_in, next_hop_mtu_in}
 use Rattle.quote_wire.specs.Quote.{IsIpv4Quote}
 use Rattle.quote_wire.specs.declared.icmpv4_error.Kind.{Kind}
 use Rattle.quote_wire.specs.declared.quote.Ipv4Quote.{Ipv4Quote}
 use Rattle.packet_fields.specs.Fields.{Item, field, number, text, leaf_or_missing}
 use Rattle.icmp_fields.specs.ExtendedEcho.{request_items, reply_items}
+use Rattle.icmp_fields.specs.Extensions.{AreBehind, Division, IsDivision, quoted_in}
 use Rattle.icmp_fields.specs.Icmp.{named_head, echo_items as behind_echo, rest_items, behind_checksum}
 use Rattle.icmp_fields.specs.Icmp.{additional_items, refused_items}
 use Rattle.icmp_fields.specs.IcmpNames.{icmp4_types, icmp4_code_name}
@@ -113,6 +115,12 @@ told_in_rest Kind.ParamProblem v = field (codes "pointer") (number (v.rest / 2 ^
 abbrev pub error_items : ErrorValue Kind → Ipv4Quote → List Item
 error_items v q = head_items (kind_number v.kind) v.code ++ told_in_rest v.kind v ++ ipv4_quote_items q
 
--- an error, with the fields of what it quotes
-abbrev pub AreErrorItems : ErrorValue Kind → List Item → Type 0
-AreErrorItems v items = (q : Ipv4Quote) × IsIpv4Quote v.quoted q × (items ≡ error_items v q)
+-- an error, with the fields of what it quotes, and those of extensions behind these (RFC 4884)
+pub record AreErrorItems (v : ErrorValue Kind) (items : List Item) : Type 0 where
+  pub division : Division
+  pub divides : IsDivision Family.V4 (length_in v) v.quoted division
+  pub quote : Ipv4Quote
+  pub quotes : IsIpv4Quote (quoted_in division v.quoted) quote
+  pub behind : List Item
+  pub extensions : AreBehind division behind
+  pub items_are : items ≡ error_items v quote ++ behind

@@ -5,13 +5,16 @@ use Rattle.wirebase.specs.Bytes.{byte_of}
 use Rattle.wirebase.specs.Icmp.{code_field, type_field}
 use Rattle.icmp6_wire.specs.Icmpv6.{MessageValue, echo_request, echo_reply, unreachable, too_big, time_exceeded}
 use Rattle.icmp6_wire.specs.Icmpv6.{param_problem, mld, ndisc}
+use Rattle.extension_wire.specs.declared.family.Family.{Family}
 use Rattle.quote_wire.specs.Error.{ErrorValue}
-use Rattle.quote_wire.specs.Icmpv6Error.{kind_number}
+use Rattle.quote_wire.specs.Icmpv6Error.{kind_number, length_in}
 use Rattle.quote_wire.specs.Quote.{IsIpv6Quote}
+use Rattle.quote_wire.specs.Upper.{LeadsTo, UpperValue}
 use Rattle.quote_wire.specs.declared.icmpv6_error.Kind.{Kind}
 use Rattle.quote_wire.specs.declared.quote.Ipv6Quote.{Ipv6Quote}
 use Rattle.packet_fields.specs.Fields.{Item, field, number}
 use Rattle.icmp_fields.specs.ExtendedEcho as extended
+use Rattle.icmp_fields.specs.Extensions.{AreBehind, Division, IsDivision, quoted_in}
 use Rattle.icmp_fields.specs.Icmp.{named_head, echo_items as behind_echo, rest_items, behind_checksum, refused_items}
 use Rattle.icmp_fields.specs.IcmpNames.{icmp6_types, icmp6_code_name}
 use Rattle.icmp_fields.specs.Names.{name_in}
@@ -96,10 +99,18 @@ told_in_rest Kind.PktTooBig v = field (codes "mtu") (number v.rest) ∷ []
 told_in_rest Kind.TimeExceeded v = []
 told_in_rest Kind.ParamProblem v = field (codes "pointer") (number v.rest) ∷ []
 
--- an error, and this that it quotes
-abbrev pub error_items : ErrorValue Kind → Ipv6Quote → List Item
-error_items v q = head_items (kind_number v.kind) v.code ++ told_in_rest v.kind v ++ ipv6_quote_items q
+-- an error, and this that it quotes, whose headers lead to this
+abbrev pub error_items : ErrorValue Kind → Ipv6Quote → Option UpperValue → List Item
+error_items v q upper = head_items (kind_number v.kind) v.code ++ told_in_rest v.kind v ++ ipv6_quote_items q upper
 
--- an error, with the fields of what it quotes
-abbrev pub AreErrorItems : ErrorValue Kind → List Item → Type 0
-AreErrorItems v items = (q : Ipv6Quote) × IsIpv6Quote v.quoted q × (items ≡ error_items v q)
+-- an error, with the fields of what it quotes, and those of extensions behind these (RFC 4884)
+pub record AreErrorItems (v : ErrorValue Kind) (items : List Item) : Type 0 where
+  pub division : Division
+  pub divides : IsDivision Family.V6 (length_in v) v.quoted division
+  pub quote : Ipv6Quote
+  pub quotes : IsIpv6Quote (quoted_in division v.quoted) quote
+  pub upper : Option UpperValue
+  pub leads : LeadsTo quote.next_header quote.payload.now upper
+  pub behind : List Item
+  pub extensions : AreBehind division behind
+  pub items_are : items ≡ error_items v quote upper ++ behind

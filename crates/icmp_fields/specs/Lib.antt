@@ -1,4 +1,6 @@
 pub mod ExtendedEcho
+pub mod ExtensionWords
+pub mod Extensions
 pub mod Icmp
 pub mod Icmp4
 pub mod Icmp6
@@ -10,3 +12,4 @@ pub mod Queries
 pub mod Quote
 pub mod Refusal
 pub mod Texts
+pub mod private

@@ -6,6 +6,7 @@ use Rattle.wirebase.specs.Ipv6Address as ipv6
 use Rattle.wirebase.specs.declared.ip.IpProtocol.{IpProtocol}
 use Rattle.quote_wire.specs.declared.quote.Ipv4Quote.{Ipv4Quote}
 use Rattle.quote_wire.specs.declared.quote.Ipv6Quote.{Ipv6Quote}
+use Rattle.quote_wire.specs.Upper.{UpperValue}
 use Rattle.packet_fields.specs.Ports.{ports_in}
 use Rattle.packet_fields.specs.Fields.{Item, field, named, number, truth, text, octets, leaf_or_missing}
 use Rattle.icmp_fields.specs.Names.{name_in}
@@ -71,9 +72,14 @@ ipv6_path_items q =
     ∷ field (codes "quoted_src_addr") (text (ipv6.address_text q.src_addr))
     ∷ field (codes "quoted_dst_addr") (text (ipv6.address_text q.dst_addr)) ∷ []
 
-abbrev pub ipv6_quote_items : Ipv6Quote → List Item
-ipv6_quote_items q =
+-- the ports behind the headers that extend IPv6, where these lead to a protocol
+abbrev pub upper_ports : Option UpperValue → Option (ℕ × ℕ)
+upper_ports None = None
+upper_ports (Some upper) = ports_in upper.protocol upper.octets
+
+abbrev pub ipv6_quote_items : Ipv6Quote → Option UpperValue → List Item
+ipv6_quote_items q upper =
     flow_items q
     ++ ipv6_path_items q
-    ++ ports_items (ports_in q.next_header q.payload.now)
+    ++ ports_items (upper_ports upper)
     ++ (field (codes "quoted_payload") (octets q.payload.now) ∷ [])

@@ -10,6 +10,7 @@ ghost use Rattle.icmp_fields.specs.Icmp4.{head_items, echo_items, typed_items, u
 ghost use Rattle.icmp_fields.specs.Icmp4.{refusal, behind_items, told_or_refused, told_items, told, is_told};
 ghost use Rattle.icmp_fields.specs.Icmp4.{gateway_items, told_in_rest, error_items, AreErrorItems};
 
+use crate::extensions::{quoted_of, show_extensions};
 use crate::icmp::{
     CHECKSUM_END, CODE, HEADER_END, TYPE, show_additional, show_behind_checksum, show_named_head,
     show_refused, show_rest,
@@ -210,18 +211,20 @@ fn show_echo<W: Write>(
     icmp::show_echo(output, form, ident, seq_no, data)
 }
 
-/// Prints an error and what it quotes. Requires that it quotes the start of a datagram, as each error does that
-/// `Repr::parse` gives.
+/// Prints an error, what it quotes, and the extensions behind that (RFC 4884). Requires that it quotes the start of a
+/// datagram, as each error does that `Repr::parse` gives.
 pub fn show_error<W: Write>(output: &mut W, form: Form, error: &Repr<'_>) -> io::Result<()>
     requires { IsDatagram error.now.quoted.now }
     ensures { OnOk result (PrintsSome form (W.contents output.old) (W.contents output.new)
         (AreErrorItems (value_of error.now))) }
 {
-    let Ok(quote) = Ipv4Quote::parse(error.quoted) else {
+    let division = error.parts();
+    let Ok(quote) = Ipv4Quote::parse(quoted_of(&division, error.quoted)) else {
         // The start of a datagram is never refused.
         return Ok(());
     };
-    show_quoting(output, form, error, &quote)
+    show_quoting(output, form, error, &quote)?;
+    show_extensions(output, form, &division)
 }
 
 // Prints an error and this that it quotes.

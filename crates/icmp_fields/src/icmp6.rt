@@ -3,13 +3,16 @@
 #![tactic(auto, using(packet_fields::proofs::Fields::prints_both))]
 
 ghost use Rattle.std.specs.Prelude.{◌≡◌, ◌≤◌, None, OnOk, length};
+ghost use Rattle.std.specs.Option.{option_map};
 ghost use Rattle.icmp6_wire.specs.Icmpv6 as messages;
 ghost use Rattle.quote_wire.specs.Icmpv6Error.{IsPacketFront, value_of};
+ghost use Rattle.quote_wire.specs.Upper.{value_of as upper_of};
 ghost use Rattle.packet_fields.specs.Prints.{Prints, PrintsSome};
 ghost use Rattle.icmp_fields.specs.Icmp6.{head_items, echo_items, typed_items, unread_items, message_items};
 ghost use Rattle.icmp_fields.specs.Icmp6.{refusal, behind_items, told_or_refused, told_items, told, is_told};
 ghost use Rattle.icmp_fields.specs.Icmp6.{told_in_rest, error_items, AreErrorItems};
 
+use crate::extensions::{quoted_of, show_extensions};
 use crate::icmp::{
     CHECKSUM_END, CODE, HEADER_END, TYPE, show_behind_checksum, show_named_head, show_refused,
     show_rest,
@@ -23,7 +26,7 @@ use icmp6_wire::icmpv6;
 use packet_fields::Form;
 use packet_fields::field::field;
 use quote_wire::icmpv6_error::{Kind, Repr};
-use quote_wire::quote::Ipv6Quote;
+use quote_wire::quote::{Ipv6Quote, Upper};
 use std::io;
 use std::io::Write;
 use wirebase::Octets;
@@ -191,33 +194,36 @@ fn show_echo<W: Write>(
     icmp::show_echo(output, form, ident, seq_no, data)
 }
 
-/// Prints an error and what it quotes. Requires that it quotes the start of a packet, as each error does that
-/// `Repr::parse` gives.
+/// Prints an error, what it quotes, and the extensions behind that (RFC 4884). Requires that it quotes the start of a
+/// packet, as each error does that `Repr::parse` gives.
 pub fn show_error<W: Write>(output: &mut W, form: Form, error: &Repr<'_>) -> io::Result<()>
     requires { IsPacketFront error.now.quoted.now }
     ensures { OnOk result (PrintsSome form (W.contents output.old) (W.contents output.new)
         (AreErrorItems (value_of error.now))) }
 {
-    let Ok(quote) = Ipv6Quote::parse(error.quoted) else {
+    let division = error.parts();
+    let Ok(quote) = Ipv6Quote::parse(quoted_of(&division, error.quoted)) else {
         // The start of a packet is never refused.
         return Ok(());
     };
-    show_quoting(output, form, error, &quote)
+    show_quoting(output, form, error, &quote, quote.upper())?;
+    show_extensions(output, form, &division)
 }
 
-// Prints an error and this that it quotes.
+// Prints an error and this that it quotes, with what the quoted headers lead to.
 fn show_quoting<W: Write>(
     output: &mut W,
     form: Form,
     error: &Repr<'_>,
     quote: &Ipv6Quote<'_>,
+    upper: Option<Upper<'_>>,
 ) -> io::Result<()>
     ensures { OnOk result (Prints form (W.contents output.old) (W.contents output.new)
-        (error_items (value_of error.now) quote.now)) }
+        (error_items (value_of error.now) quote.now (option_map upper_of upper.entry))) }
 {
     show_head(output, form, error.kind.number(), error.code)?;
     show_told(output, form, error)?;
-    show_ipv6_quote(output, form, quote)
+    show_ipv6_quote(output, form, quote, upper)
 }
 
 // Prints what the four bytes after the checksum say.

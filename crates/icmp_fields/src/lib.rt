@@ -2,6 +2,7 @@
 #![tactic(auto)]
 
 mod extended_echo;
+mod extensions;
 mod icmp;
 pub mod icmp4;
 pub mod icmp6;

@@ -3,15 +3,18 @@
 #![tactic(auto, using(packet_fields::proofs::Fields::prints_both))]
 
 ghost use Rattle.std.specs.Prelude.{◌∷◌, [], ◌≡◌, Option, OnOk};
+ghost use Rattle.std.specs.Option.{option_map};
+ghost use Rattle.quote_wire.specs.Upper.{value_of as upper_of};
 ghost use Rattle.packet_fields.specs.Prints.{Prints};
 ghost use Rattle.icmp_fields.specs.Quote.{protocol_item, port_items, ports_items, fragment_items, ipv4_path_items};
 ghost use Rattle.icmp_fields.specs.Quote.{ipv4_ports, ipv4_quote_items, flow_items, ipv6_path_items, ipv6_quote_items};
+ghost use Rattle.icmp_fields.specs.Quote.{upper_ports};
 
 use crate::protocol_names::protocol_name;
 use packet_fields::Form;
 use packet_fields::field::{field, named};
 use packet_fields::ports::ports_of;
-use quote_wire::quote::{Ipv4Quote, Ipv6Quote};
+use quote_wire::quote::{Ipv4Quote, Ipv6Quote, Upper};
 use std::io;
 use std::io::Write;
 use wirebase::IpProtocol;
@@ -70,19 +73,31 @@ fn ipv4_ports_of(quote: &Ipv4Quote<'_>) -> Option<(u16, u16)>
     }
 }
 
-/// Prints what an ICMPv6 error quotes (RFC 4443 section 3): the fields of the packet's header, and all that follows it.
+/// Prints what an ICMPv6 error quotes (RFC 4443 section 3): the fields of the packet's header, the ports behind its
+/// extension headers, which lead to `upper`, and all that follows the header.
 pub fn show_ipv6_quote<W: Write>(
     output: &mut W,
     form: Form,
     quote: &Ipv6Quote<'_>,
+    upper: Option<Upper<'_>>,
 ) -> io::Result<()>
     ensures { OnOk result (Prints form (W.contents output.old) (W.contents output.new)
-        (ipv6_quote_items quote.now)) }
+        (ipv6_quote_items quote.now (option_map upper_of upper.entry))) }
 {
     show_flow(output, form, quote)?;
     show_ipv6_path(output, form, quote)?;
-    show_ports(output, form, ports_of(quote.next_header, quote.payload))?;
+    show_ports(output, form, upper_ports(upper))?;
     field(output, form, "quoted_payload", quote.payload)
+}
+
+// The ports behind the extension headers.
+fn upper_ports(upper: Option<Upper<'_>>) -> Option<(u16, u16)>
+    ensures { result ≡ upper_ports (option_map upper_of upper.entry) }
+{
+    match upper {
+        Some(upper) => ports_of(upper.protocol, upper.octets),
+        None => None,
+    }
 }
 
 fn show_flow<W: Write>(output: &mut W, form: Form, quote: &Ipv6Quote<'_>) -> io::Result<()>

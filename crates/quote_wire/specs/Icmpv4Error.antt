@@ -60,6 +60,18 @@ gateway_in v = if kind_number v.kind == 5 then Some (be32 v.rest) else None
 abbrev pub pointer_in : ErrorValue Kind → Option ℕ
 pointer_in v = if kind_number v.kind == 12 then Some (v.rest / 2 ^ 24) else None
 
+-- the length of the quoted datagram in 32 bit words, where extensions may follow it: the second byte after the checksum
+-- of the types that may have some (RFC 4884 section 4)
+abbrev pub length_by : Kind → ℕ → ℕ
+length_by Kind.DstUnreachable rest = rest / 2 ^ 16 % 2 ^ 8
+length_by Kind.SourceQuench rest = 0
+length_by Kind.Redirect rest = 0
+length_by Kind.TimeExceeded rest = rest / 2 ^ 16 % 2 ^ 8
+length_by Kind.ParamProblem rest = rest / 2 ^ 16 % 2 ^ 8
+
+abbrev pub length_in : ErrorValue Kind → ℕ
+length_in v = length_by v.kind v.rest
+
 -- what a type prints, and what an error does
 abbrev pub kind_display : Kind → List ℕ
 kind_display Kind.DstUnreachable = codes "destination unreachable"

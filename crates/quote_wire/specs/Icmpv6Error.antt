@@ -52,6 +52,17 @@ mtu_in v = if kind_number v.kind == 2 then Some v.rest else None
 abbrev pub pointer_in : ErrorValue Kind → Option ℕ
 pointer_in v = if kind_number v.kind == 4 then Some v.rest else None
 
+-- the length of the quoted packet in 64 bit words, where extensions may follow it: the first byte after the checksum of
+-- the types that may have some (RFC 4884 section 4)
+abbrev pub length_by : Kind → ℕ → ℕ
+length_by Kind.DstUnreachable rest = rest / 2 ^ 24
+length_by Kind.PktTooBig rest = 0
+length_by Kind.TimeExceeded rest = rest / 2 ^ 24
+length_by Kind.ParamProblem rest = 0
+
+abbrev pub length_in : ErrorValue Kind → ℕ
+length_in v = length_by v.kind v.rest
+
 -- what a type prints, and what an error does
 abbrev pub kind_display : Kind → List ℕ
 kind_display Kind.DstUnreachable = codes "destination unreachable"

@@ -7,3 +7,4 @@ pub mod Icmpv6Message
 pub mod Icmpv6Reason
 pub mod Quote
 pub mod Reason
+pub mod Upper

@@ -2,6 +2,9 @@
 
 ghost use Rattle.std.specs.Prelude.{◌≡◌, ◌≤◌, ◌↔◌, length, IfOk, IfErr, IsOkAnd, IfSome, IsNone, IsTrue, Some};
 ghost use Rattle.std.specs.Option.{option_map};
+ghost use Rattle.extension_wire.specs.Split as split;
+ghost use Rattle.extension_wire.specs.Split.{PartsValue, IsSplit};
+ghost use Rattle.extension_wire.specs.declared.family.Family.{Family as AnyFamily};
 ghost use Rattle.wirebase.specs.Bytes.{Reaches};
 ghost use Rattle.wirebase.specs.Format.{Rewrites, SameText};
 ghost use Rattle.wirebase.specs.Icmp.{checksum_field, header};
@@ -9,7 +12,7 @@ ghost use Rattle.wirebase.specs.Ipv4.{octets_of};
 ghost use Rattle.quote_wire.specs.Error.{ErrorValue, IsError, IsRead, Refuses, text_len, packet_text};
 ghost use Rattle.quote_wire.specs.Error.{seal as sealed_octets, format, Emits};
 ghost use Rattle.quote_wire.specs.Icmpv4Error.{kind_number, IsDatagram, protocol, value_of};
-ghost use Rattle.quote_wire.specs.Icmpv4Error.{next_hop_mtu_in, gateway_in, pointer_in};
+ghost use Rattle.quote_wire.specs.Icmpv4Error.{next_hop_mtu_in, gateway_in, pointer_in, length_in};
 ghost use Rattle.quote_wire.specs.declared.icmpv4_error.Kind.{Kind as AnyKind};
 ghost use Rattle.wirebase.specs.declared.capabilities.ChecksumCapabilities.{ChecksumCapabilities as AnyCapabilities};
 
@@ -20,6 +23,7 @@ pub use crate::error::Refusal;
 use crate::error::write_error;
 use crate::field;
 use crate::quote::why_no_datagram;
+use extension_wire::{Family, Parts, SplitRefusal};
 use wirebase::{ChecksumCapabilities, Error, Ipv4Address, Octets, Result, are_bytes, checksum};
 
 /// The most bytes of a datagram that an error quotes: with the error's own headers they make 576, which every host
@@ -110,7 +114,8 @@ pub struct Repr<'a> {
     pub rest: u32,
     /// All that follows the header: the datagram that is quoted, of version 4, from its header on, with at least 8
     /// bytes after it. A router may append zeros and extensions, such as MPLS labels; these are part of `quoted` too
-    /// (RFC 4884 sections 4 and 7). An error that is written has at most the first 548 bytes.
+    /// (RFC 4884 sections 4 and 7), and [`Repr::parts`] tells them apart. An error that is written has at most the
+    /// first 548 bytes.
     pub quoted: &'a [u8],
 }
 
@@ -229,6 +234,47 @@ impl<'a> Repr<'a> {
         match self.kind {
             Kind::ParamProblem => Some((self.rest >> 24) as u8),
             _ => None,
+        }
+    }
+
+    /// The quoted datagram and the extensions behind it (RFC 4884 section 4), told apart by the error's length: the
+    /// second byte of `rest`, in words of 4 bytes, of destination unreachable, time exceeded and parameter problem. The
+    /// other types have none, and where it is 0, all is quoted. Refused where the datagram has fewer than 128 bytes by
+    /// its length, or more than there are.
+    ///
+    /// ```
+    /// use quote_wire::icmpv4_error::{Kind, Repr};
+    ///
+    /// // A quote of 128 bytes, which are 32 words, and the header of an extension structure behind it.
+    /// let mut quoted = [0; 132];
+    /// quoted[0] = 0x45;
+    /// quoted[128] = 0x20;
+    /// let error = Repr { kind: Kind::TimeExceeded, code: 0, rest: 32 << 16, quoted: &quoted };
+    /// let parts = error.parts().unwrap();
+    /// assert_eq!(parts.quoted, &quoted[..128]);
+    /// assert_eq!(parts.extensions, Some(&quoted[128..]));
+    /// ```
+    pub fn parts(&self) -> std::result::Result<Parts<'a>, SplitRefusal>
+        ensures sound { IfOk result (λ parts.
+            IsSplit AnyFamily.V4 (length_in (value_of self.now)) self.now.quoted.now (split.value_of parts)) }
+        ensures complete { (value : PartsValue)
+            → IsSplit AnyFamily.V4 (length_in (value_of self.now)) self.now.quoted.now value
+            → IsOkAnd result (λ parts. split.value_of parts ≡ value) }
+        ensures told { IfErr result
+            (split.Refuses AnyFamily.V4 (length_in (value_of self.now)) self.now.quoted.now) }
+    {
+        Parts::split(self.quoted, self.length(), Family::V4)
+    }
+
+    // The length of the quoted datagram in words; 0 where none is told.
+    fn length(&self) -> u8
+        ensures { result ≡ length_in (value_of self.now) }
+    {
+        match self.kind {
+            Kind::DstUnreachable | Kind::TimeExceeded | Kind::ParamProblem => {
+                (self.rest / (1 << 16) % (1 << 8)) as u8
+            }
+            Kind::SourceQuench | Kind::Redirect => 0,
         }
     }
 

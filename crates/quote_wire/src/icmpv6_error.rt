@@ -1,6 +1,9 @@
 //! ICMPv6 errors with the bytes that they quote (RFC 4443 section 3), and the error about a packet.
 
 ghost use Rattle.std.specs.Prelude.{◌≡◌, ◌≤◌, ◌↔◌, length, IfOk, IfErr, IsOkAnd, IfSome, IsNone, IsTrue, Some};
+ghost use Rattle.extension_wire.specs.Split as split;
+ghost use Rattle.extension_wire.specs.Split.{PartsValue, IsSplit};
+ghost use Rattle.extension_wire.specs.declared.family.Family.{Family as AnyFamily};
 ghost use Rattle.wirebase.specs.Bytes.{Reaches};
 ghost use Rattle.wirebase.specs.Checksum.{fold, IsGood};
 ghost use Rattle.wirebase.specs.Format.{Rewrites, SameText};
@@ -10,7 +13,7 @@ ghost use Rattle.wirebase.specs.declared.ipv6.address.Ipv6Address.{Ipv6Address a
 ghost use Rattle.quote_wire.specs.Error.{ErrorValue, IsError, IsRead, Refuses, text_len, packet_text};
 ghost use Rattle.quote_wire.specs.Error.{seal as sealed_octets, format, Emits};
 ghost use Rattle.quote_wire.specs.Icmpv6Error.{kind_number, IsPacketFront, protocol, extra_sum, value_of, mtu_in};
-ghost use Rattle.quote_wire.specs.Icmpv6Error.{pointer_in};
+ghost use Rattle.quote_wire.specs.Icmpv6Error.{pointer_in, length_in};
 ghost use Rattle.quote_wire.specs.declared.icmpv6_error.Kind.{Kind as AnyKind};
 
 mod display;
@@ -20,6 +23,7 @@ pub use crate::error::Refusal;
 use crate::error::write_error;
 use crate::field;
 use crate::quote::why_no_packet;
+use extension_wire::{Family, Parts, SplitRefusal};
 use wirebase::{
     ChecksumCapabilities, Error, IPV6_HEADER_LEN, IpProtocol, Ipv6Address, Octets, Result,
     are_bytes, checksum,
@@ -105,7 +109,8 @@ pub struct Repr<'a> {
     pub rest: u32,
     /// All that follows the header: the packet that is quoted, of version 6, from its header on. A router may append
     /// zeros and extensions to destination unreachable and time exceeded; these are part of `quoted` too (RFC 4884
-    /// sections 4 and 7). An error that is written has at most the first 1,232 bytes.
+    /// sections 4 and 7), and [`Repr::parts`] tells them apart. An error that is written has at most the first 1,232
+    /// bytes.
     pub quoted: &'a [u8],
 }
 
@@ -238,6 +243,45 @@ impl<'a> Repr<'a> {
         match self.kind {
             Kind::ParamProblem => Some(self.rest),
             _ => None,
+        }
+    }
+
+    /// The quoted packet and the extensions behind it (RFC 4884 section 4), told apart by the error's length: the first
+    /// byte of `rest`, in words of 8 bytes, of destination unreachable and time exceeded. The other types have none, and
+    /// where it is 0, all is quoted. Refused where the packet has fewer than 128 bytes by its length, or more than there
+    /// are.
+    ///
+    /// ```
+    /// use quote_wire::icmpv6_error::{Kind, Repr};
+    ///
+    /// // A quote of 128 bytes, which are 16 words, and the header of an extension structure behind it.
+    /// let mut quoted = [0; 132];
+    /// quoted[0] = 0x60;
+    /// quoted[128] = 0x20;
+    /// let error = Repr { kind: Kind::TimeExceeded, code: 0, rest: 16 << 24, quoted: &quoted };
+    /// let parts = error.parts().unwrap();
+    /// assert_eq!(parts.quoted, &quoted[..128]);
+    /// assert_eq!(parts.extensions, Some(&quoted[128..]));
+    /// ```
+    pub fn parts(&self) -> std::result::Result<Parts<'a>, SplitRefusal>
+        ensures sound { IfOk result (λ parts.
+            IsSplit AnyFamily.V6 (length_in (value_of self.now)) self.now.quoted.now (split.value_of parts)) }
+        ensures complete { (value : PartsValue)
+            → IsSplit AnyFamily.V6 (length_in (value_of self.now)) self.now.quoted.now value
+            → IsOkAnd result (λ parts. split.value_of parts ≡ value) }
+        ensures told { IfErr result
+            (split.Refuses AnyFamily.V6 (length_in (value_of self.now)) self.now.quoted.now) }
+    {
+        Parts::split(self.quoted, self.length(), Family::V6)
+    }
+
+    // The length of the quoted packet in words; 0 where none is told.
+    fn length(&self) -> u8
+        ensures { result ≡ length_in (value_of self.now) }
+    {
+        match self.kind {
+            Kind::DstUnreachable | Kind::TimeExceeded => (self.rest >> 24) as u8,
+            Kind::PktTooBig | Kind::ParamProblem => 0,
         }
     }
 

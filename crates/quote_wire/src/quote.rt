@@ -8,12 +8,14 @@ ghost use Rattle.quote_wire.specs.Quote.{IsIpv4Quote, IsIpv6Quote, ipv4_front_di
 ghost use Rattle.quote_wire.specs.Quote.{ipv4_quote_display, ipv6_quote_display};
 
 mod refusal;
+mod upper;
 
 use super::icmpv4_error::is_datagram;
 use super::icmpv6_error::is_packet_front;
 pub use refusal::Refusal;
 pub(crate) use refusal::{why_no_datagram, why_no_packet};
 use std::fmt;
+pub use upper::Upper;
 use wirebase::{
     Error, Field, IPV6_HEADER_LEN, IpProtocol, Ipv4Address, Ipv4Packet, Ipv6Address, Ipv6Packet,
     Octets, Result,
@@ -55,14 +57,15 @@ pub struct Ipv4Quote<'a> {
     pub options: &'a [u8],
     /// All that follows the header: the quoted part of the payload and, where a router appends extensions to its error,
     /// such as MPLS labels, these too (RFC 4884 sections 4 and 7). Extensions follow at least 128 bytes of the
-    /// datagram, padded with zeros where it has fewer. Nothing is cut at `total_len`, which may be smaller; the second
-    /// byte of the error's `rest` tells where extensions begin.
+    /// datagram, padded with zeros where it has fewer. Nothing is cut at `total_len`, which may be smaller;
+    /// `icmpv4_error::Repr::parts` has the octets without extensions.
     pub payload: &'a [u8],
 }
 
 impl<'a> Ipv4Quote<'a> {
-    /// The quote in these octets, which are `icmpv4_error::Repr::quoted`. Refused where they are not the start of a
-    /// datagram of version 4: a header of 20 bytes or more by its own length, and 8 bytes or more after it.
+    /// The quote in these octets, which are `icmpv4_error::Repr::quoted`, or what its `parts` has of it. Refused where
+    /// they are not the start of a datagram of version 4: a header of 20 bytes or more by its own length, and 8 bytes or
+    /// more after it.
     pub fn parse(octets: &'a [u8]) -> Result<Ipv4Quote<'a>>
         ensures accepts { IsOk result ↔ IsDatagram octets.now }
         ensures fields { IfOk result (IsIpv4Quote octets.now) }
@@ -163,14 +166,14 @@ pub struct Ipv6Quote<'a> {
     pub dst_addr: Ipv6Address,
     /// All that follows the header: the quoted part of the payload and, where a router appends extensions to its error,
     /// these too (RFC 4884 sections 4 and 7). Extensions follow at least 128 bytes of the packet, padded with zeros
-    /// where it has fewer. Nothing is cut at `payload_len`, which may be smaller; the first byte of the error's `rest`
-    /// tells where extensions begin.
+    /// where it has fewer. Nothing is cut at `payload_len`, which may be smaller; `icmpv6_error::Repr::parts` has the
+    /// octets without extensions.
     pub payload: &'a [u8],
 }
 
 impl<'a> Ipv6Quote<'a> {
-    /// The quote in these octets, which are `icmpv6_error::Repr::quoted`. Refused where they do not begin with a header
-    /// of version 6, 40 bytes.
+    /// The quote in these octets, which are `icmpv6_error::Repr::quoted`, or what its `parts` has of it. Refused where
+    /// they do not begin with a header of version 6, 40 bytes.
     pub fn parse(octets: &'a [u8]) -> Result<Ipv6Quote<'a>>
         ensures accepts { IsOk result ↔ IsPacketFront octets.now }
         ensures fields { IfOk result (IsIpv6Quote octets.now) }

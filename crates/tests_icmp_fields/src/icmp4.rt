@@ -193,6 +193,65 @@ fn gateway_and_pointer_of_errors(rt: HostRuntime) {
     }
 }
 
+// What an error prints behind its quote, of 128 bytes, where this follows it.
+fn behind_quote(rt: &impl Abort, alloc: Global, length: u8, behind: &[u8], want: &str) {
+    let mut octets = [0; 200];
+    octets[..36].copy_from_slice(TOO_LONG);
+    octets[0] = 11;
+    octets[5] = length;
+    let end = 136 + behind.len();
+    octets[136..end].copy_from_slice(behind);
+    let fields = listing(rt, alloc, Form::Lines, &octets[..end]);
+    holds_of(rt, want, fields.as_slice().ends_with(want.as_bytes()));
+}
+
+#[test]
+fn extensions_behind_a_quote(rt: HostRuntime) {
+    // Structures of no checksum (RFC 4884 section 7), with objects by RFC 4950 and RFC 5837.
+    let rows: &[(u8, &[u8], &str)] = &[
+        (
+            32,
+            &[
+                0x20, 0, 0, 0, 0, 12, 1, 1, 0x03, 0xe8, 0x10, 1, 0xff, 0xff, 0xfb, 0xfe,
+            ],
+            "00\n  mpls_label=16001 traffic_class=0 bottom=false ttl=1\n  \
+             mpls_label=1048575 traffic_class=5 bottom=true ttl=254\n",
+        ),
+        (
+            32,
+            &[
+                0x20, 0, 0, 0, 0, 28, 2, 0x8f, 0, 0, 0, 3, 0, 1, 0, 0, 192, 0, 2, 1, 8, b'e', b't',
+                b'h', b'"', 0, 0, 0, 0, 0, 5, 220,
+            ],
+            "00\n  interface_information=outgoing index=3 address=192.0.2.1 name=eth\\\" mtu=1500\n",
+        ),
+        (
+            32,
+            &[0x20, 0, 0, 0, 0, 6, 247, 9, 1, 2, 0, 4],
+            "00\n  object_247=0102 c_type=9\n  object=0004 refused=the header of the object is cut\n",
+        ),
+        (
+            32,
+            &[0x20, 0, 0, 0, 0, 6, 1, 1, 1, 2],
+            "00\n  mpls_label_stack=0102 c_type=1 refused=the stack of labels ends within an entry\n",
+        ),
+        (
+            32,
+            &[0x10, 0, 0, 0],
+            "00\n  extensions_refused=the extensions are of version 1\n  extensions_octets=10000000\n",
+        ),
+        (32, &[0x20, 0, 0, 0], "00\n"),
+        (
+            33,
+            &[],
+            "00\n  extensions_refused=the original datagram is cut\n",
+        ),
+    ];
+    for &(length, behind, want) in rows {
+        behind_quote(&rt, rt.alloc(), length, behind, want);
+    }
+}
+
 #[test]
 fn messages_of_other_types_by_their_octets(rt: HostRuntime) {
     let rows: &[(&[u8], &str)] = &[

@@ -4,6 +4,7 @@
 mod display;
 mod reason;
 
+use crate::extensions::{Family, Parts, SplitRefusal};
 pub use crate::quotes::error::Refusal;
 use crate::quotes::error::write_error;
 use crate::quotes::field;
@@ -93,7 +94,8 @@ pub struct Repr<'a> {
     pub rest: u32,
     /// All that follows the header: the datagram that is quoted, of version 4, from its header on, with at least 8
     /// bytes after it. A router may append zeros and extensions, such as MPLS labels; these are part of `quoted` too
-    /// (RFC 4884 sections 4 and 7). An error that is written has at most the first 548 bytes.
+    /// (RFC 4884 sections 4 and 7), and [`Repr::parts`] tells them apart. An error that is written has at most the
+    /// first 548 bytes.
     pub quoted: &'a [u8],
 }
 
@@ -187,6 +189,37 @@ impl<'a> Repr<'a> {
         match self.kind {
             Kind::ParamProblem => Some((self.rest >> 24) as u8),
             _ => None,
+        }
+    }
+
+    /// The quoted datagram and the extensions behind it (RFC 4884 section 4), told apart by the error's length: the
+    /// second byte of `rest`, in words of 4 bytes, of destination unreachable, time exceeded and parameter problem. The
+    /// other types have none, and where it is 0, all is quoted. Refused where the datagram has fewer than 128 bytes by
+    /// its length, or more than there are.
+    ///
+    /// ```
+    /// use control_wire::quotes::icmpv4_error::{Kind, Repr};
+    ///
+    /// // A quote of 128 bytes, which are 32 words, and the header of an extension structure behind it.
+    /// let mut quoted = [0; 132];
+    /// quoted[0] = 0x45;
+    /// quoted[128] = 0x20;
+    /// let error = Repr { kind: Kind::TimeExceeded, code: 0, rest: 32 << 16, quoted: &quoted };
+    /// let parts = error.parts().unwrap();
+    /// assert_eq!(parts.quoted, &quoted[..128]);
+    /// assert_eq!(parts.extensions, Some(&quoted[128..]));
+    /// ```
+    pub fn parts(&self) -> core::result::Result<Parts<'a>, SplitRefusal> {
+        Parts::split(self.quoted, self.length(), Family::V4)
+    }
+
+    // The length of the quoted datagram in words; 0 where none is told.
+    fn length(&self) -> u8 {
+        match self.kind {
+            Kind::DstUnreachable | Kind::TimeExceeded | Kind::ParamProblem => {
+                (self.rest / (1 << 16) % (1 << 8)) as u8
+            }
+            Kind::SourceQuench | Kind::Redirect => 0,
         }
     }
 

@@ -4,6 +4,7 @@
 mod display;
 mod reason;
 
+use crate::extensions::{Family, Parts, SplitRefusal};
 pub use crate::quotes::error::Refusal;
 use crate::quotes::error::write_error;
 use crate::quotes::field;
@@ -87,7 +88,8 @@ pub struct Repr<'a> {
     pub rest: u32,
     /// All that follows the header: the packet that is quoted, of version 6, from its header on. A router may append
     /// zeros and extensions to destination unreachable and time exceeded; these are part of `quoted` too (RFC 4884
-    /// sections 4 and 7). An error that is written has at most the first 1,232 bytes.
+    /// sections 4 and 7), and [`Repr::parts`] tells them apart. An error that is written has at most the first 1,232
+    /// bytes.
     pub quoted: &'a [u8],
 }
 
@@ -188,6 +190,35 @@ impl<'a> Repr<'a> {
         match self.kind {
             Kind::ParamProblem => Some(self.rest),
             _ => None,
+        }
+    }
+
+    /// The quoted packet and the extensions behind it (RFC 4884 section 4), told apart by the error's length: the first
+    /// byte of `rest`, in words of 8 bytes, of destination unreachable and time exceeded. The other types have none, and
+    /// where it is 0, all is quoted. Refused where the packet has fewer than 128 bytes by its length, or more than there
+    /// are.
+    ///
+    /// ```
+    /// use control_wire::quotes::icmpv6_error::{Kind, Repr};
+    ///
+    /// // A quote of 128 bytes, which are 16 words, and the header of an extension structure behind it.
+    /// let mut quoted = [0; 132];
+    /// quoted[0] = 0x60;
+    /// quoted[128] = 0x20;
+    /// let error = Repr { kind: Kind::TimeExceeded, code: 0, rest: 16 << 24, quoted: &quoted };
+    /// let parts = error.parts().unwrap();
+    /// assert_eq!(parts.quoted, &quoted[..128]);
+    /// assert_eq!(parts.extensions, Some(&quoted[128..]));
+    /// ```
+    pub fn parts(&self) -> core::result::Result<Parts<'a>, SplitRefusal> {
+        Parts::split(self.quoted, self.length(), Family::V6)
+    }
+
+    // The length of the quoted packet in words; 0 where none is told.
+    fn length(&self) -> u8 {
+        match self.kind {
+            Kind::DstUnreachable | Kind::TimeExceeded => (self.rest >> 24) as u8,
+            Kind::PktTooBig | Kind::ParamProblem => 0,
         }
     }
 

@@ -2,6 +2,7 @@
 //! The quote in an error: the fields of the quoted header, and all that follows it.
 
 mod refusal;
+mod upper;
 
 use super::icmpv4_error::is_datagram;
 use super::icmpv6_error::is_packet_front;
@@ -12,6 +13,7 @@ use crate::wirebase::{
 use core::fmt;
 pub use refusal::Refusal;
 pub(crate) use refusal::{why_no_datagram, why_no_packet};
+pub use upper::Upper;
 
 // The type of service of an IPv4 header, and the end of its fixed fields.
 const TYPE_OF_SERVICE: Field = 1..2;
@@ -49,14 +51,15 @@ pub struct Ipv4Quote<'a> {
     pub options: &'a [u8],
     /// All that follows the header: the quoted part of the payload and, where a router appends extensions to its error,
     /// such as MPLS labels, these too (RFC 4884 sections 4 and 7). Extensions follow at least 128 bytes of the
-    /// datagram, padded with zeros where it has fewer. Nothing is cut at `total_len`, which may be smaller; the second
-    /// byte of the error's `rest` tells where extensions begin.
+    /// datagram, padded with zeros where it has fewer. Nothing is cut at `total_len`, which may be smaller;
+    /// `icmpv4_error::Repr::parts` has the octets without extensions.
     pub payload: &'a [u8],
 }
 
 impl<'a> Ipv4Quote<'a> {
-    /// The quote in these octets, which are `icmpv4_error::Repr::quoted`. Refused where they are not the start of a
-    /// datagram of version 4: a header of 20 bytes or more by its own length, and 8 bytes or more after it.
+    /// The quote in these octets, which are `icmpv4_error::Repr::quoted`, or what its `parts` has of it. Refused where
+    /// they are not the start of a datagram of version 4: a header of 20 bytes or more by its own length, and 8 bytes or
+    /// more after it.
     pub fn parse(octets: &'a [u8]) -> Result<Ipv4Quote<'a>> {
         if !is_datagram(octets) {
             return Err(Error);
@@ -148,14 +151,14 @@ pub struct Ipv6Quote<'a> {
     pub dst_addr: Ipv6Address,
     /// All that follows the header: the quoted part of the payload and, where a router appends extensions to its error,
     /// these too (RFC 4884 sections 4 and 7). Extensions follow at least 128 bytes of the packet, padded with zeros
-    /// where it has fewer. Nothing is cut at `payload_len`, which may be smaller; the first byte of the error's `rest`
-    /// tells where extensions begin.
+    /// where it has fewer. Nothing is cut at `payload_len`, which may be smaller; `icmpv6_error::Repr::parts` has the
+    /// octets without extensions.
     pub payload: &'a [u8],
 }
 
 impl<'a> Ipv6Quote<'a> {
-    /// The quote in these octets, which are `icmpv6_error::Repr::quoted`. Refused where they do not begin with a header
-    /// of version 6, 40 bytes.
+    /// The quote in these octets, which are `icmpv6_error::Repr::quoted`, or what its `parts` has of it. Refused where
+    /// they do not begin with a header of version 6, 40 bytes.
     pub fn parse(octets: &'a [u8]) -> Result<Ipv6Quote<'a>> {
         if !is_packet_front(octets) {
             return Err(Error);

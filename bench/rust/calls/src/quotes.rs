@@ -81,6 +81,7 @@ pub fn cases() {
     reads("ipv4_quote_parse", &errors, |error| {
         Ipv4Quote::parse(error.quoted)
     });
+    reads("icmpv4_quoting_error_parts", &errors, |error| error.parts());
     let errors_v6 = errors_v6(41);
     let got = got(&errors_v6);
     reads("icmpv6_quoting_error_parse", &got, |got| {
@@ -96,6 +97,14 @@ pub fn cases() {
     reads("ipv6_quote_parse", &errors_v6, |error| {
         Ipv6Quote::parse(error.quoted)
     });
+    reads("icmpv6_quoting_error_parts", &errors_v6, |error| {
+        error.parts()
+    });
+    let quotes: Vec<Ipv6Quote<'_>> = errors_v6
+        .iter()
+        .filter_map(|error| Ipv6Quote::parse(error.quoted).ok())
+        .collect();
+    reads("ipv6_quote_upper", &quotes, |quote| quote.upper());
     #[cfg(feature = "later")]
     later(&octets, &got);
 }

@@ -1,6 +1,7 @@
 //! Errors of ICMPv6: what a path MTU discovery gets, and what a host sends.
 
 use crate::testing::{prints, same, same_of};
+use extension_wire::SplitRefusal;
 use quote_wire::icmpv6_error::{Kind, MAX_QUOTED, Refusal, Repr};
 use quote_wire::quote;
 use quote_wire::quote::Ipv6Quote;
@@ -82,6 +83,75 @@ fn padding_and_extensions_stand_in_the_payload_of_a_quote(rt: HostRuntime) {
     if let Some(quote) = quote {
         same(&rt, quote.payload_len, 0);
         same(&rt, quote.payload, &quoted[40..]);
+    }
+}
+
+#[test]
+fn length_of_an_error_tells_extensions_from_its_quote(rt: HostRuntime) {
+    // Words of 8 bytes in the first byte behind the checksum, of the types that may have extensions (RFC 4884 section
+    // 4): 16 of them are 128 bytes.
+    let quoted = [0x60; 132];
+    let rows: &[(Kind, u32, Result<usize, SplitRefusal>)] = &[
+        (Kind::TimeExceeded, 0x1000_0000, Ok(128)),
+        (Kind::DstUnreachable, 0x10ff_ffff, Ok(128)),
+        (Kind::DstUnreachable, 0x00ff_ffff, Ok(132)),
+        (Kind::TimeExceeded, 0x0f00_0000, Err(SplitRefusal::Short)),
+        (Kind::TimeExceeded, 0x1100_0000, Err(SplitRefusal::Cut)),
+        (Kind::PktTooBig, 0x1000_0000, Ok(132)),
+        (Kind::ParamProblem, 0x1000_0000, Ok(132)),
+    ];
+    for &(kind, rest, want) in rows {
+        match about(kind, 0, rest, &quoted).parts() {
+            Ok(parts) => same_of(&rt, rest, Ok(parts.quoted.len()), want),
+            Err(refusal) => same_of(&rt, rest, Err(refusal), want),
+        }
+    }
+}
+
+#[test]
+fn upper_protocol_stands_behind_extension_headers(rt: HostRuntime) {
+    // Hop-by-hop options, a routing header of 16 bytes, and a first fragment of a datagram of UDP (RFC 8200 section 4).
+    let headers = [
+        43, 0, 1, 4, 0, 0, 0, 0, 44, 1, 4, 0, 0, 0, 0, 0, 0, 0, 0, 0, 0, 0, 0, 0, //
+        17, 0, 0, 1, 0, 0, 0, 7, 0x9c, 0x40, 0, 53,
+    ];
+    let rows: &[(IpProtocol, usize, usize, Option<(IpProtocol, usize)>)] = &[
+        (IpProtocol::HopByHop, 0, 36, Some((IpProtocol::Udp, 4))),
+        (IpProtocol::HopByHop, 0, 32, Some((IpProtocol::Udp, 0))),
+        (IpProtocol::HopByHop, 0, 31, None),
+        (IpProtocol::HopByHop, 0, 23, None),
+        (IpProtocol::HopByHop, 0, 7, None),
+        (IpProtocol::HopByHop, 0, 0, None),
+        (IpProtocol::Ipv6Frag, 24, 36, Some((IpProtocol::Udp, 4))),
+        // A later fragment, whose offset is one unit.
+        (IpProtocol::Ipv6Frag, 0, 8, None),
+        (
+            IpProtocol::Ipv6NoNxt,
+            0,
+            8,
+            Some((IpProtocol::Ipv6NoNxt, 8)),
+        ),
+    ];
+    for &(next_header, start, end, want) in rows {
+        let quote = Ipv6Quote {
+            traffic_class: 0,
+            flow_label: 0,
+            payload_len: 36,
+            next_header,
+            hop_limit: 64,
+            src_addr: to(),
+            dst_addr: from(),
+            payload: &headers[start..end],
+        };
+        match quote.upper() {
+            Some(upper) => same_of(
+                &rt,
+                (start, end),
+                Some((upper.protocol, upper.octets.len())),
+                want,
+            ),
+            None => same_of(&rt, (start, end), None, want),
+        }
     }
 }
 

@@ -1,6 +1,7 @@
 // Made from crates/icmp_fields/src/icmp6.rt by rust/erase.
 //! ICMPv6 messages (RFC 4443).
 
+use crate::extensions::{quoted_of, show_extensions};
 use crate::icmp::{
     CHECKSUM_END, CODE, HEADER_END, TYPE, show_behind_checksum, show_named_head, show_refused,
     show_rest,
@@ -13,7 +14,7 @@ use crate::{extended_echo, icmp, node_information};
 use control_wire::Octets;
 use control_wire::icmpv6;
 use control_wire::quotes::icmpv6_error::{Kind, Repr};
-use control_wire::quotes::quote::Ipv6Quote;
+use control_wire::quotes::quote::{Ipv6Quote, Upper};
 use packet_fields::Form;
 use packet_fields::field::field;
 use rattle_std::io;
@@ -146,26 +147,29 @@ fn show_echo<W: Write>(
     icmp::show_echo(output, form, ident, seq_no, data)
 }
 
-/// Prints an error and what it quotes. Requires that it quotes the start of a packet, as each error does that
-/// `Repr::parse` gives.
+/// Prints an error, what it quotes, and the extensions behind that (RFC 4884). Requires that it quotes the start of a
+/// packet, as each error does that `Repr::parse` gives.
 pub fn show_error<W: Write>(output: &mut W, form: Form, error: &Repr<'_>) -> io::Result<()> {
-    let Ok(quote) = Ipv6Quote::parse(error.quoted) else {
+    let division = error.parts();
+    let Ok(quote) = Ipv6Quote::parse(quoted_of(&division, error.quoted)) else {
         // The start of a packet is never refused.
         return Ok(());
     };
-    show_quoting(output, form, error, &quote)
+    show_quoting(output, form, error, &quote, quote.upper())?;
+    show_extensions(output, form, &division)
 }
 
-// Prints an error and this that it quotes.
+// Prints an error and this that it quotes, with what the quoted headers lead to.
 fn show_quoting<W: Write>(
     output: &mut W,
     form: Form,
     error: &Repr<'_>,
     quote: &Ipv6Quote<'_>,
+    upper: Option<Upper<'_>>,
 ) -> io::Result<()> {
     show_head(output, form, error.kind.number(), error.code)?;
     show_told(output, form, error)?;
-    show_ipv6_quote(output, form, quote)
+    show_ipv6_quote(output, form, quote, upper)
 }
 
 // Prints what the four bytes after the checksum say.

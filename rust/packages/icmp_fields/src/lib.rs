@@ -2,6 +2,7 @@
 //! The fields of ICMP messages, in lines or in JSON.
 
 mod extended_echo;
+mod extensions;
 mod icmp;
 pub mod icmp4;
 pub mod icmp6;

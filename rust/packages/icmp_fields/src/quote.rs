@@ -3,7 +3,7 @@
 
 use crate::protocol_names::protocol_name;
 use control_wire::IpProtocol;
-use control_wire::quotes::quote::{Ipv4Quote, Ipv6Quote};
+use control_wire::quotes::quote::{Ipv4Quote, Ipv6Quote, Upper};
 use packet_fields::Form;
 use packet_fields::field::{field, named};
 use packet_fields::ports::ports_of;
@@ -53,16 +53,26 @@ fn ipv4_ports_of(quote: &Ipv4Quote<'_>) -> Option<(u16, u16)> {
     }
 }
 
-/// Prints what an ICMPv6 error quotes (RFC 4443 section 3): the fields of the packet's header, and all that follows it.
+/// Prints what an ICMPv6 error quotes (RFC 4443 section 3): the fields of the packet's header, the ports behind its
+/// extension headers, which lead to `upper`, and all that follows the header.
 pub fn show_ipv6_quote<W: Write>(
     output: &mut W,
     form: Form,
     quote: &Ipv6Quote<'_>,
+    upper: Option<Upper<'_>>,
 ) -> io::Result<()> {
     show_flow(output, form, quote)?;
     show_ipv6_path(output, form, quote)?;
-    show_ports(output, form, ports_of(quote.next_header, quote.payload))?;
+    show_ports(output, form, upper_ports(upper))?;
     field(output, form, "quoted_payload", quote.payload)
+}
+
+// The ports behind the extension headers.
+fn upper_ports(upper: Option<Upper<'_>>) -> Option<(u16, u16)> {
+    match upper {
+        Some(upper) => ports_of(upper.protocol, upper.octets),
+        None => None,
+    }
 }
 
 fn show_flow<W: Write>(output: &mut W, form: Form, quote: &Ipv6Quote<'_>) -> io::Result<()> {

@@ -1,13 +1,37 @@
--- The error, with the fields of what it quotes.
-use Rattle.std.proofs.Common.{refl}
-use Rattle.quote_wire.specs.Icmpv4Error.{value_of}
+-- The error, with the fields of what it quotes, and of the extensions behind that.
+use Rattle.std.proofs.Common.{◌≡◌, false, refl, subst, sym, true}
+use Rattle.extension_wire.specs.declared.family.Family.{Family}
+use Rattle.quote_wire.specs.Icmpv4Error.{IsDatagram, length_in, value_of}
+use Rattle.icmp_fields.specs.Extensions.{AreBehind, IsDivision, division_of}
 use Rattle.icmp_fields.specs.Icmp4.{AreErrorItems, error_items}
-use Rattle.icmp_fields.proofs.Items.{printed_items}
+use Rattle.icmp_fields.proofs.ExtensionEntries.{some_behind}
+use Rattle.icmp_fields.proofs.Quotes.{is_division, quoted_datagram}
 use Rattle.icmp_fields.proofs.icmp4.show_error.Goals as goal
+
+pub returns-in_default : goal.returns-in_default
+returns-in_default g c =
+    let error = value_of c.args.error.now in
+    let divides : IsDivision Family.V4 (length_in error) error.quoted (division_of c.parts-division.result) =
+    is_division _ _ _ c.parts-division.result c.parts-division.ensures.sound c.parts-division.ensures.told in
+    let datagram : IsDatagram c.quoted_of.result.now =
+    subst IsDatagram (sym c.quoted_of.ensures) (quoted_datagram _ _ _ divides c.requires) in
+    let both : false ≡ true = c.in_default.ensures.accepts.1 datagram in cc
 
 pub returns : goal.returns
 returns g c =
     let error = value_of c.args.error.now in
-    let quote = c.in-Ok.quote in
-    printed_items (AreErrorItems error) (error_items error quote) _ _ _ _ (quote, c.in-Ok.ensures.fields, refl)
-    c.show_quoting.ensures
+    let division = division_of c.parts-division.result in
+    let divides : IsDivision Family.V4 (length_in error) error.quoted division =
+    is_division _ _ _ c.parts-division.result c.parts-division.ensures.sound c.parts-division.ensures.told in
+    some_behind _ _ _ _ (error_items error c.in-Ok.quote) (AreBehind division) (AreErrorItems error) _
+    c.in_ok-show_quoting.ensures
+    (λ behind are. record {
+      division = division;
+      divides = divides;
+      quote = c.in-Ok.quote;
+      quotes = rw c.quoted_of.ensures at c.in-Ok.ensures.fields;
+      behind = behind;
+      extensions = are;
+      items_are = refl;
+    })
+    c.show_extensions.ensures

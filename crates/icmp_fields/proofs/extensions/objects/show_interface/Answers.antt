@@ -1,0 +1,13 @@
+-- What the object says, or why it says nothing.
+use Rattle.std.proofs.Common.{refl}
+use Rattle.icmp_fields.specs.Extensions.{read, refused}
+use Rattle.icmp_fields.proofs.ExtensionEntries.{some_printed}
+use Rattle.icmp_fields.proofs.extensions.objects.show_interface.Goals as goal
+
+pub returns-in-Ok : goal.returns-in-Ok
+returns-in-Ok g c =
+    some_printed _ _ _ _ _ _ _ (read _ c.in-Ok.ensures.sound refl) c.show_information.ensures
+
+pub returns-in-Err : goal.returns-in-Err
+returns-in-Err g c =
+    some_printed _ _ _ _ _ _ _ (refused _ c.in-Err.ensures.told refl) c.show_plain.ensures

@@ -1,0 +1,105 @@
+//! Extensions of ICMP errors (RFC 4884).
+
+#![tactic(auto, using(packet_fields::proofs::Fields::prints_both))]
+
+ghost use Rattle.std.specs.Prelude.{◌≡◌, OnOk};
+ghost use Rattle.std.specs.Option.{option_map};
+ghost use Rattle.packet_fields.specs.Prints.{Prints, PrintsSome};
+ghost use Rattle.icmp_fields.specs.Extensions.{division_of, quoted_in, AreBehind, AreExtensions, AreStructureItems};
+ghost use Rattle.icmp_fields.specs.Extensions.{refused_items, refused_structure_items, AreObjectsItems};
+ghost use Rattle.icmp_fields.specs.ExtensionWords.{why_text};
+
+mod objects;
+mod words;
+
+use self::objects::show_objects;
+use self::words::{Why, Word};
+use extension_wire::{Parts, SplitRefusal, structure};
+use packet_fields::Form;
+use packet_fields::entry::{close_list, open_list};
+use packet_fields::field::field;
+use std::io;
+use std::io::Write;
+
+// The bytes of a structure's header.
+const HEADER_LEN: usize = 4;
+
+// What is quoted: all octets where extensions are not told apart from it.
+pub(crate) fn quoted_of<'a>(parts: &Result<Parts<'a>, SplitRefusal>, octets: &'a [u8]) -> &'a [u8]
+    ensures { result.now ≡ quoted_in (division_of parts.now) octets.now }
+{
+    match parts {
+        Ok(parts) => parts.quoted,
+        Err(_) => octets,
+    }
+}
+
+// Prints the extensions behind what is quoted, or why they are not told apart.
+pub(crate) fn show_extensions<W: Write>(
+    output: &mut W,
+    form: Form,
+    parts: &Result<Parts<'_>, SplitRefusal>,
+) -> io::Result<()>
+    ensures { OnOk result (PrintsSome form (W.contents output.old) (W.contents output.new)
+        (AreBehind (division_of parts.now))) }
+{
+    match parts {
+        Ok(parts) => show_any(output, form, parts.extensions),
+        Err(refusal) => show_refused(output, form, Why::Split(*refusal)),
+    }
+}
+
+// Prints why extensions are not read.
+fn show_refused<W: Write>(output: &mut W, form: Form, why: Why) -> io::Result<()>
+    ensures { OnOk result (Prints form (W.contents output.old) (W.contents output.new)
+        (refused_items (why_text why))) }
+{
+    field(output, form, "extensions_refused", Word(why))
+}
+
+// Prints extensions, where there are any.
+#[tactic(auto, using(packet_fields::proofs::Fields::prints_none))]
+fn show_any<W: Write>(output: &mut W, form: Form, extensions: Option<&[u8]>) -> io::Result<()>
+    ensures { OnOk result (PrintsSome form (W.contents output.old) (W.contents output.new)
+        (AreExtensions (option_map (λ some. some.now) extensions.entry))) }
+{
+    match extensions {
+        Some(octets) => show_structure(output, form, octets),
+        None => Ok(()),
+    }
+}
+
+// Prints a structure by its objects, or why it is refused, and its octets.
+fn show_structure<W: Write>(output: &mut W, form: Form, octets: &[u8]) -> io::Result<()>
+    ensures { OnOk result (PrintsSome form (W.contents output.old) (W.contents output.new)
+        (AreStructureItems octets.now)) }
+{
+    if let Err(refusal) = structure::parse(octets) {
+        return show_refused_structure(output, form, Why::Structure(refusal), octets);
+    }
+    let (_, inside) = octets.split_at(HEADER_LEN);
+    show_list(output, form, inside)
+}
+
+fn show_refused_structure<W: Write>(
+    output: &mut W,
+    form: Form,
+    why: Why,
+    octets: &[u8],
+) -> io::Result<()>
+    ensures { OnOk result (Prints form (W.contents output.old) (W.contents output.new)
+        (refused_structure_items (why_text why) octets.now)) }
+{
+    show_refused(output, form, why)?;
+    field(output, form, "extensions_octets", octets)
+}
+
+// Prints the list of the objects in these octets.
+fn show_list<W: Write>(output: &mut W, form: Form, octets: &[u8]) -> io::Result<()>
+    ensures { OnOk result (PrintsSome form (W.contents output.old) (W.contents output.new)
+        (AreObjectsItems octets.now)) }
+{
+    open_list(output, form, "extensions")?;
+    show_objects(output, form, octets)?;
+    close_list(output, form)
+}

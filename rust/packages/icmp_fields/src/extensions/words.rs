@@ -1,0 +1,140 @@
+// Made from crates/icmp_fields/src/extensions/words.rt by rust/erase.
+//! Words about extensions: why they are refused, the roles and the names of interfaces.
+
+use control_wire::extensions::{
+    InterfaceRefusal, LabelRefusal, ObjectRefusal, Role, SplitRefusal, StructureRefusal,
+};
+use control_wire::inside::text::{Sink, put_hex, put_number};
+use packet_fields::Form;
+use packet_fields::value::{Text, Value, put_text};
+use rattle_std::io;
+use rattle_std::io::Write;
+
+/// Why extensions are not read, or one of them.
+#[derive(Debug, PartialEq, Eq, Clone, Copy)]
+pub enum Why {
+    /// They are not told apart from what is quoted.
+    Split(SplitRefusal),
+    /// The structure is refused.
+    Structure(StructureRefusal),
+    /// No object begins.
+    Object(ObjectRefusal),
+    /// An object has no stack of labels.
+    Labels(LabelRefusal),
+    /// An object says nothing of an interface.
+    Interface(InterfaceRefusal),
+}
+
+impl Text for Why {
+    fn put_into<O, S: Sink<O>>(self, output: &mut O) -> Result<(), S::Error> {
+        match self {
+            Why::Split(SplitRefusal::Short) => S::put_str(
+                output,
+                "the original datagram has fewer than 128 bytes by its length",
+            ),
+            Why::Split(SplitRefusal::Cut) => S::put_str(output, "the original datagram is cut"),
+            Why::Structure(StructureRefusal::Short) => {
+                S::put_str(output, "the header of the extensions is cut")
+            }
+            Why::Structure(StructureRefusal::Version(version)) => {
+                put_with::<O, S>(output, "the extensions are of version ", version as u64)
+            }
+            Why::Structure(StructureRefusal::Checksum) => {
+                S::put_str(output, "the checksum of the extensions is wrong")
+            }
+            Why::Object(ObjectRefusal::Short) => {
+                S::put_str(output, "the header of the object is cut")
+            }
+            Why::Object(ObjectRefusal::Length) => {
+                S::put_str(output, "the object has fewer than 4 bytes by its length")
+            }
+            Why::Object(ObjectRefusal::Cut) => S::put_str(output, "the object is cut"),
+            Why::Labels(LabelRefusal) => {
+                S::put_str(output, "the stack of labels ends within an entry")
+            }
+            Why::Interface(refusal) => put_interface::<O, S>(output, refusal),
+            _ => unreachable!(),
+        }
+    }
+}
+
+// Puts why an object says nothing of an interface.
+fn put_interface<O, S: Sink<O>>(output: &mut O, refusal: InterfaceRefusal) -> Result<(), S::Error> {
+    match refusal {
+        InterfaceRefusal::Cut => S::put_str(output, "the object about the interface is cut"),
+        InterfaceRefusal::AddressFamily(family) => put_with::<O, S>(
+            output,
+            "the interface has an address of family ",
+            family as u64,
+        ),
+        InterfaceRefusal::NameLength(len) => put_with::<O, S>(
+            output,
+            "the name of the interface has a length of ",
+            len as u64,
+        ),
+        _ => unreachable!(),
+    }
+}
+
+// Puts a phrase, and a number behind it.
+fn put_with<O, S: Sink<O>>(output: &mut O, phrase: &str, number: u64) -> Result<(), S::Error> {
+    S::put_str(output, phrase)?;
+    put_number::<O, S>(output, number)
+}
+
+// A text as a value.
+#[derive(Clone, Copy)]
+pub(crate) struct Word<T>(pub(crate) T);
+
+impl<T: Text> Value for Word<T> {
+    fn put<W: Write>(self, output: &mut W, form: Form) -> io::Result<()> {
+        put_text(output, form, self.0)
+    }
+}
+
+/// The name of a role.
+pub(crate) fn role_name(role: Role) -> &'static str {
+    match role {
+        Role::Incoming => "incoming",
+        Role::SubIp => "sub_ip",
+        Role::Outgoing => "outgoing",
+        Role::NextHop => "next_hop",
+    }
+}
+
+// The name of an interface, whatever its bytes: a quotation mark and a backslash are put behind a backslash, and a byte
+// that is neither a visible character of ASCII nor a space as `\x` and two digits.
+#[derive(Clone, Copy)]
+pub(crate) struct Name<'a>(pub(crate) &'a [u8]);
+
+impl Value for Name<'_> {
+    fn put<W: Write>(self, output: &mut W, form: Form) -> io::Result<()> {
+        put_text(output, form, self)
+    }
+}
+
+impl Text for Name<'_> {
+    fn put_into<O, S: Sink<O>>(self, output: &mut O) -> Result<(), S::Error> {
+        put_characters::<O, S>(output, self.0)
+    }
+}
+
+fn put_characters<O, S: Sink<O>>(output: &mut O, octets: &[u8]) -> Result<(), S::Error> {
+    for octet in octets {
+        put_character::<O, S>(output, *octet)?;
+    }
+    Ok(())
+}
+
+fn put_character<O, S: Sink<O>>(output: &mut O, octet: u8) -> Result<(), S::Error> {
+    match octet {
+        b'"' | b'\\' => S::put(output, &[b'\\', octet]),
+        b' '..=b'~' => S::put(output, &[octet]),
+        _ => put_hidden::<O, S>(output, octet),
+    }
+}
+
+fn put_hidden<O, S: Sink<O>>(output: &mut O, octet: u8) -> Result<(), S::Error> {
+    S::put_str(output, "\\x")?;
+    put_hex::<O, S>(output, &[octet])
+}
