@@ -28,15 +28,13 @@ def message(octets, types, head, items_of, others):
         if len(octets) < 8:
             raise Refused("short", "fewer than 8 bytes")
         if octets[0] in others:
-            return head(octets) + others[octets[0]](octets), Refused("type", None)
+            return head(octets) + others[octets[0]](octets), None
         if octets[0] not in types:
             raise Refused("type", None)
         return head(octets) + items_of(octets), None
     except Refused as refused:
         front, rest = (head(octets), octets[4:]) if len(octets) >= 4 else ([], octets)
-        # Messages of other types are counted as such.
-        is_other = len(octets) >= 8 and octets[0] in others
-        return front + [Field("rest", rest)] + refused.fields(), Refused("type", None) if is_other else refused
+        return front + [Field("rest", rest)] + refused.fields(), refused
 
 
 def head4(octets):

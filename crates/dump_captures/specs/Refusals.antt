@@ -17,6 +17,8 @@ use Rattle.quote_wire.specs.declared.message.icmpv4.Icmpv4Refusal.{Icmpv4Refusal
 use Rattle.quote_wire.specs.declared.message.icmpv4.Icmpv4Refusal.TheVariants as icmp4
 use Rattle.quote_wire.specs.declared.message.icmpv6.Icmpv6Refusal.{Icmpv6Refusal}
 use Rattle.quote_wire.specs.declared.message.icmpv6.Icmpv6Refusal.TheVariants as icmp6
+use Rattle.icmp_fields.specs.declared.refusal.Refusal.{Refusal as QueryRefusal}
+use Rattle.icmp_fields.specs.declared.refusal.Refusal.TheVariants as query
 use Rattle.message_fields.specs.Refusals as message_texts
 use Rattle.message_fields.specs.declared.refusal.Refusal.{Refusal as MessageRefusal}
 use Rattle.message_fields.specs.declared.refusal.Refusal.TheVariants as message
@@ -83,6 +85,11 @@ icmp6_reason (icmp6.Message icmpv6.Checksum) = reason.Checksum
 icmp6_reason (icmp6.Message (icmpv6.UnknownType t)) = reason.UnknownType
 icmp6_reason (icmp6.Message _) = reason.Malformed
 
+abbrev pub query_reason : QueryRefusal → Reason
+query_reason query.Length = reason.Short
+query_reason query.Cut = reason.Short
+query_reason _ = reason.Malformed
+
 abbrev pub dhcp_reason : DhcpRefusal → Reason
 dhcp_reason dhcp.Short = reason.Short
 dhcp_reason _ = reason.Malformed
@@ -105,6 +112,7 @@ message_reason message.Cut = reason.Short
 message_reason (message.Icmp4 r) = icmp4_reason r
 message_reason (message.Igmp r) = igmp_reason r
 message_reason (message.Icmp6 r) = icmp6_reason r
+message_reason (message.Query r) = query_reason r
 message_reason (message.Lack lack) = reason.Short
 message_reason (message.Dhcp r) = dhcp_reason r
 message_reason (message.Dns u) = dns_reason u

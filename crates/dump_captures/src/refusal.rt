@@ -3,11 +3,12 @@
 ghost use Rattle.std.specs.Prelude.{◌≡◌, Some};
 ghost use Rattle.dump_captures.specs.Refusals.{early, frame_reason, datagram_reason, udp_reason, icmp4_reason};
 ghost use Rattle.dump_captures.specs.Refusals.{dhcp_reason, dns_reason, igmp_reason, icmp6_reason, message_reason};
-ghost use Rattle.dump_captures.specs.Refusals.{refusal_display, reason_of};
+ghost use Rattle.dump_captures.specs.Refusals.{refusal_display, reason_of, query_reason};
 
 use crate::kind::Reason;
 use dns_fields::unread::Unread;
 use frame_wire::{link, udp};
+use icmp_fields::refusal::Refusal as QueryRefusal;
 use icmp4_wire::{icmpv4, igmp};
 use icmp6_wire::icmpv6;
 use quote_wire::message::{Icmpv4Refusal, Icmpv6Refusal};
@@ -95,9 +96,21 @@ fn message_reason(refusal: message_fields::Refusal) -> Reason
         message_fields::Refusal::Icmp4(refusal) => icmp4_reason(refusal),
         message_fields::Refusal::Igmp(refusal) => igmp_reason(refusal),
         message_fields::Refusal::Icmp6(refusal) => icmp6_reason(refusal),
+        message_fields::Refusal::Query(refusal) => query_reason(refusal),
         message_fields::Refusal::Lack(_) => Reason::Short,
         message_fields::Refusal::Dhcp(refusal) => dhcp_reason(refusal),
         message_fields::Refusal::Dns(unread) => dns_reason(unread),
+    }
+}
+
+fn query_reason(refusal: QueryRefusal) -> Reason
+    ensures { result ≡ query_reason refusal }
+{
+    match refusal {
+        QueryRefusal::Length | QueryRefusal::Cut => Reason::Short,
+        QueryRefusal::Code(_) | QueryRefusal::NoRouters | QueryRefusal::EntrySize(_) => {
+            Reason::Malformed
+        }
     }
 }
 

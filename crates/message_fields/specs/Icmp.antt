@@ -16,6 +16,8 @@ use Rattle.quote_wire.specs.declared.message.icmpv6.Icmpv6Refusal.TheVariants as
 use Rattle.packet_fields.specs.Fields.{Item, field, text}
 use Rattle.icmp_fields.specs.Icmp4 as fields4
 use Rattle.icmp_fields.specs.Icmp6 as fields6
+use Rattle.icmp_fields.specs.declared.refusal.Told.{Told}
+use Rattle.icmp_fields.specs.declared.refusal.Told.TheVariants as how
 use Rattle.neighbor_fields.specs.Igmp as igmp_fields
 use Rattle.neighbor_fields.specs.Mld as mld_fields
 use Rattle.neighbor_fields.specs.Ndisc as ndisc_fields
@@ -28,13 +30,22 @@ use Rattle.message_fields.specs.declared.refusal.Refusal.TheVariants as refusal
 abbrev pub mistake_items : Refusal → List Item
 mistake_items r = if is_unknown r then [] else refused_items r
 
--- A message prints the fields of the value that its grammar has for its octets; exactly where it has none it is
--- refused, by the check that fails first, and prints its type, its code and its octets.
+-- why it is refused where its reader refuses it: one of a type that the reader does not know may be told otherwise
+abbrev pub told_as : Refusal → Told → Option Refusal
+told_as r how.Fields = None
+told_as r (how.Refused why) = Some (refusal.Query why)
+told_as r how.Octets = Some r
+
+abbrev pub unless_told : Refusal → Told → Option Refusal
+unless_told r t = if is_unknown r then told_as r t else Some r
+
+-- A message prints the fields of the value that its grammar has for its octets; exactly where it has none its reader
+-- refuses it, by the check that fails first, and it prints its type, its code, and its octets or what else is told.
 pub data Reads {V R : Type 0} (IsValue : V → Type 0) (Are : V → List Item → Type 0) (Refuses : R → Type 0)
-    (of : R → Refusal) (unread items : List Item) (told : Option Refusal) : Type 0 where
-  reads : (v : V) → IsValue v → Are v items → told ≡ None → Reads IsValue Are Refuses of unread items told
+    (of : R → Refusal) (how : Told) (unread items : List Item) (told : Option Refusal) : Type 0 where
+  reads : (v : V) → IsValue v → Are v items → told ≡ None → Reads IsValue Are Refuses of how unread items told
   refuses : (r : R) → ((v : V) → IsValue v → ⊥) → Refuses r → items ≡ unread ++ mistake_items (of r)
-      → told ≡ Some (of r) → Reads IsValue Are Refuses of unread items told
+      → told ≡ unless_told (of r) how → Reads IsValue Are Refuses of how unread items told
 
 -- ---- ICMPv4
 
@@ -45,7 +56,8 @@ Icmp4Are octets (icmp4.other v) items = items ≡ fields4.message_items v octets
 abbrev pub Icmp4Is : List ℕ → List Item → Option Refusal → Type 0
 Icmp4Is octets =
     Reads (icmp4.IsMessage (all_of checksum.None) octets) (Icmp4Are octets)
-    (icmp4.Refuses (all_of checksum.None) octets) refusal.Icmp4 (fields4.unread_items octets)
+    (icmp4.Refuses (all_of checksum.None) octets) refusal.Icmp4 (fields4.told octets)
+    (fields4.unread_items octets)
 
 -- a message that has less than it takes or counts
 abbrev pub refusal_of : Option Lack → Option Refusal
@@ -114,7 +126,8 @@ Icmp6Are octets (icmp6.other v) items = items ≡ fields6.message_items v octets
 abbrev pub OthersAre : Ipv6Address → Ipv6Address → List ℕ → List Item → Option Refusal → Type 0
 OthersAre source destination octets =
     Reads (icmp6.IsMessage source destination (all_of checksum.None) octets) (Icmp6Are octets)
-    (icmp6.Refuses source destination (all_of checksum.None) octets) refusal.Icmp6 (fields6.unread_items octets)
+    (icmp6.Refuses source destination (all_of checksum.None) octets) refusal.Icmp6 (fields6.told octets)
+    (fields6.unread_items octets)
 
 -- By its type: a message of multicast listeners, one of neighbor discovery, or another.
 pub data Icmp6Is (source destination : Ipv6Address) (octets : List ℕ) (items : List Item) (told : Option Refusal)

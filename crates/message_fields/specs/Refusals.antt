@@ -11,6 +11,7 @@ use Rattle.quote_wire.specs.declared.error.Refusal.TheVariants as error
 use Rattle.quote_wire.specs.declared.message.icmpv4.Icmpv4Refusal.TheVariants as icmp4
 use Rattle.quote_wire.specs.declared.message.icmpv6.Icmpv6Refusal.TheVariants as icmp6
 use Rattle.packet_fields.specs.Fields.{Item, field, number, text}
+use Rattle.icmp_fields.specs.Refusal as query_texts
 use Rattle.neighbor_fields.specs.Lack.{lack_text}
 use Rattle.dhcp_fields.specs.Refusal as dhcp_texts
 use Rattle.dns_fields.specs.Unread as dns_texts
@@ -38,6 +39,7 @@ refusal_display refusal.Cut = codes "fewer bytes than the header of UDP says"
 refusal_display (refusal.Icmp4 r) = icmp4_texts.refusal_display r
 refusal_display (refusal.Igmp r) = igmp_texts.refusal_display r
 refusal_display (refusal.Icmp6 r) = icmp6_texts.refusal_display r
+refusal_display (refusal.Query r) = query_texts.refusal_text r
 refusal_display (refusal.Lack lack) = lack_text lack
 refusal_display (refusal.Dhcp r) = dhcp_texts.refusal_text r
 refusal_display (refusal.Dns u) = dns_texts.unread_display u

@@ -5,10 +5,11 @@
 ghost use Rattle.std.specs.Prelude.{◌≡◌, IfOk, OnOk};
 ghost use Rattle.packet_fields.specs.Prints.{Prints, PrintsSome};
 ghost use Rattle.message_fields.specs.Icmp.{Icmp4Is, Icmp6Is, IgmpIs, IgmpTold, NdiscTold, NeighborIs, OthersAre, unless_short, group_items, if_group_items, mistake_items, unless_version_3};
-ghost use Rattle.message_fields.specs.Icmp.{has_mld_type, has_ndisc_type, refusal_of};
+ghost use Rattle.message_fields.specs.Icmp.{has_mld_type, has_ndisc_type, refusal_of, unless_told};
 
 use crate::refusal::Refusal;
 use crate::show::{show_phrase, show_refused};
+use icmp_fields::refusal::Told;
 use icmp_fields::{icmp4, icmp6};
 use icmp4_wire::igmp;
 use icmp6_wire::icmpv6;
@@ -50,7 +51,7 @@ pub(crate) fn show_icmp4<W: Write>(
             let refusal = Refusal::Icmp4(refusal);
             icmp4::show_unread(output, form, octets)?;
             show_mistake(output, form, alloc, &refusal)?;
-            Ok(Some(refusal))
+            Ok(unless_told(refusal, icmp4::told(octets)))
         }
     }
 }
@@ -69,6 +70,20 @@ fn show_mistake<W: Write>(
         return Ok(());
     }
     show_refused(output, form, alloc, refusal)
+}
+
+// Why a message is refused whose reader refuses it: one of a type that the reader does not know may be told otherwise.
+fn unless_told(refusal: Refusal, told: Told) -> Option<Refusal>
+    ensures { result ≡ unless_told refusal told }
+{
+    if !refusal.is_unknown() {
+        return Some(refusal);
+    }
+    match told {
+        Told::Fields => None,
+        Told::Refused(why) => Some(Refusal::Query(why)),
+        Told::Octets => Some(refusal),
+    }
 }
 
 /// Prints an IGMP message, and returns why it is refused or read in part.
@@ -259,7 +274,7 @@ fn show_others<W: Write>(
             let refusal = Refusal::Icmp6(refusal);
             icmp6::show_unread(output, form, octets)?;
             show_mistake(output, form, alloc, &refusal)?;
-            Ok(Some(refusal))
+            Ok(unless_told(refusal, icmp6::told(octets)))
         }
     }
 }

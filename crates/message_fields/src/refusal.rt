@@ -5,6 +5,7 @@ ghost use Rattle.message_fields.specs.Refusals.{is_group, is_unknown, refusal_di
 
 use dns_fields::unread::Unread;
 use frame_wire::udp;
+use icmp_fields::refusal::Refusal as QueryRefusal;
 use icmp4_wire::{icmpv4, igmp};
 use icmp6_wire::icmpv6;
 use neighbor_fields::Lack;
@@ -27,6 +28,8 @@ pub enum Refusal {
     Igmp(igmp::Refusal),
     /// The ICMPv6 message is refused.
     Icmp6(Icmpv6Refusal),
+    /// The message of ICMP that is neither an error nor an echo is refused.
+    Query(QueryRefusal),
     /// The message of IGMP or of multicast listeners has less than it takes or counts.
     Lack(Lack),
     /// The DHCP packet is read in part.
@@ -72,6 +75,7 @@ impl fmt::Display for Refusal {
             Refusal::Icmp4(refusal) => write!(f, "{refusal}"),
             Refusal::Igmp(refusal) => write!(f, "{refusal}"),
             Refusal::Icmp6(refusal) => write!(f, "{refusal}"),
+            Refusal::Query(refusal) => write!(f, "{refusal}"),
             Refusal::Lack(lack) => write!(f, "{lack}"),
             Refusal::Dhcp(refusal) => write!(f, "{refusal}"),
             Refusal::Dns(unread) => write!(f, "{unread}"),

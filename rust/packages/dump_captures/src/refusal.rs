@@ -9,6 +9,7 @@ use control_wire::quotes::{icmpv4_error, icmpv6_error};
 use control_wire::record::TextRefusal;
 use control_wire::{icmpv4, igmp};
 use dns_fields::unread::Unread;
+use icmp_fields::refusal::Refusal as QueryRefusal;
 use std::fmt;
 
 /// Why a control packet is refused, as the library that reads it tells.
@@ -85,9 +86,19 @@ fn message_reason(refusal: message_fields::Refusal) -> Reason {
         message_fields::Refusal::Icmp4(refusal) => icmp4_reason(refusal),
         message_fields::Refusal::Igmp(refusal) => igmp_reason(refusal),
         message_fields::Refusal::Icmp6(refusal) => icmp6_reason(refusal),
+        message_fields::Refusal::Query(refusal) => query_reason(refusal),
         message_fields::Refusal::Lack(_) => Reason::Short,
         message_fields::Refusal::Dhcp(refusal) => dhcp_reason(refusal),
         message_fields::Refusal::Dns(unread) => dns_reason(unread),
+    }
+}
+
+fn query_reason(refusal: QueryRefusal) -> Reason {
+    match refusal {
+        QueryRefusal::Length | QueryRefusal::Cut => Reason::Short,
+        QueryRefusal::Code(_) | QueryRefusal::NoRouters | QueryRefusal::EntrySize(_) => {
+            Reason::Malformed
+        }
     }
 }
 

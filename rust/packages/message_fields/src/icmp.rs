@@ -7,6 +7,7 @@ use control_wire::icmpv6;
 use control_wire::igmp;
 use control_wire::quotes::message::{Icmpv4Message, Icmpv6Message, Icmpv6Refusal};
 use control_wire::{ChecksumCapabilities, Ipv6Address};
+use icmp_fields::refusal::Told;
 use icmp_fields::{icmp4, icmp6};
 use neighbor_fields::Lack;
 use neighbor_fields::igmp::show_igmp as show_igmp_fields;
@@ -39,7 +40,7 @@ pub(crate) fn show_icmp4<W: Write>(
             let refusal = Refusal::Icmp4(refusal);
             icmp4::show_unread(output, form, octets)?;
             show_mistake(output, form, &refusal)?;
-            Ok(Some(refusal))
+            Ok(unless_told(refusal, icmp4::told(octets)))
         }
     }
 }
@@ -50,6 +51,18 @@ fn show_mistake<W: Write>(output: &mut W, form: Form, refusal: &Refusal) -> io::
         return Ok(());
     }
     show_refused(output, form, refusal)
+}
+
+// Why a message is refused whose reader refuses it: one of a type that the reader does not know may be told otherwise.
+fn unless_told(refusal: Refusal, told: Told) -> Option<Refusal> {
+    if !refusal.is_unknown() {
+        return Some(refusal);
+    }
+    match told {
+        Told::Fields => None,
+        Told::Refused(why) => Some(Refusal::Query(why)),
+        Told::Octets => Some(refusal),
+    }
 }
 
 /// Prints an IGMP message, and returns why it is refused or read in part.
@@ -194,7 +207,7 @@ fn show_others<W: Write>(
             let refusal = Refusal::Icmp6(refusal);
             icmp6::show_unread(output, form, octets)?;
             show_mistake(output, form, &refusal)?;
-            Ok(Some(refusal))
+            Ok(unless_told(refusal, icmp6::told(octets)))
         }
     }
 }

@@ -7,6 +7,7 @@ use control_wire::quotes::message::{Icmpv4Refusal, Icmpv6Refusal};
 use control_wire::quotes::{icmpv4_error, icmpv6_error};
 use control_wire::{icmpv4, igmp};
 use dns_fields::unread::Unread;
+use icmp_fields::refusal::Refusal as QueryRefusal;
 use neighbor_fields::Lack;
 use std::fmt;
 
@@ -25,6 +26,8 @@ pub enum Refusal {
     Igmp(igmp::Refusal),
     /// The ICMPv6 message is refused.
     Icmp6(Icmpv6Refusal),
+    /// The message of ICMP that is neither an error nor an echo is refused.
+    Query(QueryRefusal),
     /// The message of IGMP or of multicast listeners has less than it takes or counts.
     Lack(Lack),
     /// The DHCP packet is read in part.
@@ -64,6 +67,7 @@ impl fmt::Display for Refusal {
             Refusal::Icmp4(refusal) => write!(f, "{refusal}"),
             Refusal::Igmp(refusal) => write!(f, "{refusal}"),
             Refusal::Icmp6(refusal) => write!(f, "{refusal}"),
+            Refusal::Query(refusal) => write!(f, "{refusal}"),
             Refusal::Lack(lack) => write!(f, "{lack}"),
             Refusal::Dhcp(refusal) => write!(f, "{refusal}"),
             Refusal::Dns(unread) => write!(f, "{unread}"),

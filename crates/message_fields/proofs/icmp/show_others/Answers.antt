@@ -29,6 +29,7 @@ pub returns-in_ok-show_mistake-in-Err : goal.returns-in_ok-show_mistake-in-Err
 returns-in_ok-show_mistake-in-Err g c = (
   _,
   refuses c.in-Err.refusal (rw c.ignored-checksums.ensures at c.in-Err.ensures.complete)
-      (rw c.ignored-checksums.ensures at c.in-Err.ensures.told) refl refl,
+      (rw c.ignored-checksums.ensures at c.in-Err.ensures.told) refl
+      (rw c.told.ensures at c.unless_told.ensures),
   c.in_ok-show_unread-in-Err.ensures and c.in_ok-show_mistake-in-Err.ensures,
 )
