@@ -91,7 +91,8 @@ pub struct Repr {
 }
 
 impl Repr {
-    /// The packet that these octets begin with; what follows its 28 bytes is padding of Ethernet, and is ignored.
+    /// The packet that these octets begin with; what follows its 28 bytes is padding of Ethernet, and is ignored. Any
+    /// addresses are read: a reply with the hardware address of a group is not to be believed (RFC 1812 section 3.3.2).
     pub fn parse(octets: &[u8]) -> Result<Repr, Refusal> {
         if let Some(refusal) = failure(octets) {
             return Err(refusal);

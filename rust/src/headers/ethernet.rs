@@ -15,13 +15,13 @@ mod field {
     pub const ETHER_TYPE: Field = 12..14;
 }
 
-/// The bytes of a header.
+/// The bytes of a header. What a frame has behind it is padded with zeros to 46 bytes (RFC 894).
 pub const LEN: usize = field::ETHER_TYPE.end;
 
 /// The EtherType of IPv4 (RFC 894).
 pub const IPV4: u16 = 0x0800;
 
-/// The EtherType of ARP (RFC 826).
+/// The EtherType of ARP (RFC 9542).
 pub const ARP: u16 = 0x0806;
 
 /// The EtherType of IPv6 (RFC 2464 section 3).
@@ -57,8 +57,8 @@ pub struct Header {
     pub destination: EthernetAddress,
     /// The address that the frame comes from.
     pub source: EthernetAddress,
-    /// The EtherType, which says what the payload is: 0x0600 or more. A number below that is the length of the payload
-    /// (IEEE 802.3); either is read and written as it is.
+    /// The EtherType, which says what the payload is: 0x0600 or more. A number of at most 1,500 is the length of the
+    /// payload (IEEE 802.3), and those between are neither; any is read and written as it is.
     pub ether_type: u16,
 }
 
@@ -106,14 +106,14 @@ fn read(octets: &[u8]) -> Result<(Header, &[u8]), Refusal> {
 }
 
 /// The hardware address of a multicast group of IPv4: 01:00:5e, and the lower 23 bits of the group's address (RFC 1112
-/// section 6.4).
+/// section 6.4). Of an address that is no group this is nobody's; broadcasts go to ff:ff:ff:ff:ff:ff.
 pub fn multicast_v4(group: Ipv4Address) -> EthernetAddress {
     let [_, b, c, d] = group.octets();
     EthernetAddress([0x01, 0x00, 0x5e, b % 128, c, d])
 }
 
 /// The hardware address of a multicast group of IPv6: 33:33, and the last four octets of the group's address (RFC 2464
-/// section 7).
+/// section 7). Of an address that is no group this is nobody's.
 pub fn multicast_v6(group: Ipv6Address) -> EthernetAddress {
     let octets = group.octets();
     EthernetAddress([0x33, 0x33, octets[12], octets[13], octets[14], octets[15]])

@@ -47,7 +47,8 @@ pub enum Refusal {
 pub struct Header {
     /// What the unfragmented packet has behind the header before this one.
     pub next_header: IpProtocol,
-    /// The offset of the payload in that of the unfragmented packet, in units of 8 octets: below 8192.
+    /// Where the payload begins in the part of the packet that is fragmented, which follows the extension headers that
+    /// each fragment repeats: in units of 8 octets, below 8192.
     pub frag_offset: u16,
     /// Other fragments follow this one.
     pub more_frags: bool,
@@ -56,7 +57,9 @@ pub struct Header {
 }
 
 impl Header {
-    /// The header that these octets begin with, and the payload: all that follows it. Reserved bits are not looked at.
+    /// The header that these octets begin with, and the payload: all that follows it, so they are to end where the
+    /// packet does. Reserved bits are not looked at, nor whether a payload that others follow is whole units of 8
+    /// octets, or ends past 65,535 octets; receivers discard such packets (RFC 8200 section 4.5), as `reassembly` does.
     pub fn parse(octets: &[u8]) -> Result<(Header, &[u8]), Refusal> {
         read(octets)
     }

@@ -94,7 +94,9 @@ fn what_is_refused_of_fragments() {
 
 // Checks that a payload has these parts, by their offsets, whether others follow, and their lengths.
 fn check_parts(payload: &[u8], room: usize, wanted: &[(u16, bool, usize)]) {
-    let mut parts = Fragments::new(payload, room);
+    let Some(mut parts) = Fragments::new(payload, room) else {
+        return same_of(room, false, true);
+    };
     let mut rest = payload;
     for &(frag_offset, more_frags, len) in wanted {
         let (part, behind) = rest.split_at(len.min(rest.len()));
@@ -142,14 +144,16 @@ fn parts_of_payloads() {
             same_of(len, false, true);
             continue;
         };
-        check_parts(payload, room.max(8), wanted);
+        check_parts(payload, room, wanted);
     }
 }
 
 #[test]
 fn the_greatest_payload_in_the_smallest_parts() {
     let octets = [0x5a; MAX_PAYLOAD_LEN];
-    let mut parts = Fragments::new(&octets, 8);
+    let Some(mut parts) = Fragments::new(&octets, 8) else {
+        return same(false, true);
+    };
     for frag_offset in 0..8192 {
         let more_frags = frag_offset < 8191;
         let len = if more_frags { 8 } else { 7 };
@@ -161,4 +165,13 @@ fn the_greatest_payload_in_the_smallest_parts() {
         same_of(frag_offset, parts.next(), Some(wanted));
     }
     same(parts.next(), None);
+}
+
+#[test]
+fn what_is_refused_of_payloads() {
+    let octets = [0x5a; MAX_PAYLOAD_LEN + 1];
+    for room in 0..8 {
+        same_of(room, Fragments::new(&octets[..8], room).is_none(), true);
+    }
+    same(Fragments::new(&octets, 1480).is_none(), true);
 }
