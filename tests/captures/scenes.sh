@@ -28,10 +28,7 @@ scene_lease() {
     quietly in_ host udhcpc -B -n -q -t 2 -T 1 -i eth -s /bin/true -x 0x3d:ff0000000063
     quietly in_ host rdisc6 -1 eth
     stop_recording
-    in_ host ip address replace 192.0.2.7/24 dev eth
-    in_ host ip address replace 2001:db8:1::7/64 dev eth nodad
-    in_ host ip route replace default via 192.0.2.1
-    in_ host ip -6 route replace default via 2001:db8:1::1
+    make_host_addresses
 }
 
 # Groups are joined and left in each version of IGMP and MLD, while the bridge asks for their members.
