@@ -18,10 +18,14 @@ import subprocess
 import sys
 
 import contents
+import contents_options
+import contents_page
+import contents_queries
 import datagrams
 import expected
 import fields
 import names
+import patterns
 import plain
 from messages import KINDS, REASONS
 
@@ -58,8 +62,8 @@ def mistakes(wanted, found, place=""):
     """Where what was found is not what is wanted, and both."""
     if isinstance(wanted, dict) and isinstance(found, dict):
         its_keys = list(keys(found, wanted))
-        wanted_keys = [key for key in wanted if key != contents.MORE]
-        is_same = its_keys[:len(wanted_keys)] == wanted_keys if contents.MORE in wanted else its_keys == wanted_keys
+        wanted_keys = [key for key in wanted if key != patterns.MORE]
+        is_same = its_keys[:len(wanted_keys)] == wanted_keys if patterns.MORE in wanted else its_keys == wanted_keys
         if not is_same:
             yield f"{place}: members {wanted_keys}, and not {its_keys}"
         for key in wanted_keys:
@@ -128,11 +132,14 @@ def texts(value, name=None):
     return [value] if value else ["", "-"]
 
 
+def is_hidden(key, value, entry):
+    """Whether a line leaves out a number: of a type, or of a class and a C-Type where the object is told by fields."""
+    return isinstance(value, int) and (key in ("type", "class") or key == "c_type" and "data" not in entry)
+
+
 def entry_lines(entry):
-    """How a line may have an entry: a number of its type is left out, and each value may have its key."""
-    hidden = ("type", "class") if "data" in entry else ("type", "class", "c_type")
-    (label, first), *rest = [(key, value) for key, value in entry.items() if not (
-        key in hidden and isinstance(value, int))]
+    """How a line may have an entry: numbers of its type are left out, and each value may have its key."""
+    (label, first), *rest = [item for item in entry.items() if not is_hidden(*item, entry)]
     lines = ["%s=" % first]
     for at, (key, value) in enumerate(rest):
         words = [form % text for text in texts(value) for form in (("%s",) if at == 0 else (" %s", f" {key}=%s"))]
@@ -151,7 +158,7 @@ def listing(found):
             yield [f"{key}={text}" for text in texts(value, found.get(key + "_name"))]
 
 
-LISTS = ("hop_by_hop", "options", "records", "entries", "extensions")
+LISTS = ("hop_by_hop", "options", "records", "entries", "extensions", "routers", "addresses")
 
 
 def heading(found):
@@ -193,11 +200,11 @@ def known_differences(packet, kind, reason):
         yield from known_refusals(packet, kind, reason)
     elif kind in ("dns", "mdns", "llmnr"):
         yield from known_of_names(packet)
-    elif kind == "icmp4" and packet.has("icmp.ext.version"):
-        yield "icmp4: extensions of an error: part of what it quotes"
-    elif kind == "icmp6" and packet.number("icmpv6.type") in range(133, 138):
-        for number in sorted({*packet.numbers("icmpv6.opt.type")} - {1, 2, 3, 4, 5}):
-            yield f"icmp6: option {number} of neighbor discovery: its octets"
+    elif kind == "icmp4":
+        yield from known_of_errors(packet, "icmp.length")
+    elif kind == "icmp6":
+        yield from known_of_errors(packet, "icmpv6.length")
+        yield from known_of_options(packet)
     elif kind == "dhcp":
         for number in sorted({*packet.numbers("dhcp.option.type")} - {0, 255, *contents.DHCP_OPTIONS}):
             yield f"dhcp: option {number}: its octets"
@@ -206,13 +213,41 @@ def known_differences(packet, kind, reason):
 def known_refusals(packet, kind, reason):
     field = {"icmp4": "icmp", "icmp6": "icmpv6", "igmp": "igmp"}.get(kind, "udp") + ".type"
     if reason == "type":
-        yield f"{kind} of type {packet.number(field)}: its octets"
+        told = {"icmp4": contents_queries.ICMP4_TYPES, "icmp6": contents_queries.ICMP6_TYPES}.get(kind, ())
+        if packet.number(field) not in told:
+            yield f"{kind} of type {packet.number(field)}: its octets"
+        elif packet.has("icmp.addr_entry_size") and packet.number("icmp.addr_entry_size") > 2:
+            yield "icmp4: routers of more than two words: read, where tshark has octets"
     elif reason == "fragment":
-        yield f"{kind}: a fragment within a datagram that came in fragments: refused, where tshark keeps it"
+        what = "within a datagram that came in fragments" if packet.frames else "of no multiple of 8 bytes"
+        yield f"{kind}: a fragment {what}: refused, where tshark keeps it"
     elif reason == "cut" and packet.has(field) and packet.number(field) not in (0, 8, 128, 129):
         yield f"{kind} that the capture cut: its first members are compared"
     elif kind == "dhcp":
         yield "dhcp without the magic cookie (BOOTP): refused as malformed"
+
+
+def known_of_errors(packet, length):
+    if packet.has("icmp.ext.version") and not packet.has(length):
+        yield "icmp: an error without a length: no extensions, which tshark looks for behind 128 bytes"
+    elif "0" in packet.all("icmp.ext.checksum.status"):
+        yield "icmp: extensions with a wrong checksum: refused, and read by tshark"
+    if packet.all("icmp.int_info.name_present").count("1") > len(packet.all("icmp.int_info.name")):
+        yield "icmp: a name of up to three bytes in an extension: not told by tshark"
+    if packet.protocols.count("ipv6") == 2 and packet.has("ipv6.fraghdr.nxt") and packet.number("icmpv6.type") < 128:
+        yield "icmp6: a fragment that is quoted: the ports of the first one, where tshark has octets"
+    if packet.protocols.count("ah"):
+        yield "icmp6: an authentication header that is quoted: no ports behind it, which tshark tells"
+
+
+def known_of_options(packet):
+    if packet.number("icmpv6.type") in range(133, 138):
+        for told in contents_options.neighbor_options(packet)["options"]:
+            its = f'icmp6: option {told["type"]} of neighbor discovery'
+            if told["type"] not in (1, 2, 4, 5, *contents_options.OPTIONS):
+                yield its + ": its octets"
+            elif "refused" in told and not packet.has("_ws.malformed"):
+                yield its + ": refused, and read by tshark"
 
 
 def known_of_names(packet):
@@ -225,8 +260,12 @@ def known_of_names(packet):
 
 # What all captures together have to have, so that one that went wrong is seen: of each field these numbers.
 WANTED = {
-    "icmp.type": {0, 3, 5, 8, 11, 12, 13, 14}, "igmp.type": {0x11, 0x12, 0x16, 0x17, 0x22},
-    "icmpv6.type": {1, 2, 3, 4, 128, 129, 130, 131, 132, 133, 134, 135, 136, 137, 143},
+    "icmp.type": {0, 3, 5, 8, 9, 10, 11, 12, 13, 14, 17, 18, 42, 43}, "igmp.type": {0x11, 0x12, 0x16, 0x17, 0x22},
+    "icmpv6.type": {1, 2, 3, 4, 128, 129, 130, 131, 132, 133, 134, 135, 136, 137, 139, 140, 143, 160, 161},
+    "igmp.version": {1, 2, 3}, "igmp.record_type": set(range(1, 7)), "icmpv6.mldr.mar.record_type": set(range(1, 7)),
+    "icmpv6.opt.type": {1, 2, 3, 4, 5, 7, 8, 14, 24, 25, 31, 37, 38}, "icmpv6.opt.pref64.plc": set(range(8)),
+    "icmp.ext.class": {1, 2, 3, 247}, "icmp.int_info.role": {0, 1, 2, 3}, "icmp.ext.checksum.status": {0, 1},
+    "icmp.int_ident.afi": {1, 2}, "icmpv6.ni.qtype": {0, 2, 3, 4}, "icmp.addr_entry_size": {2, 3},
     "dhcp.option.dhcp": {1, 2, 3, 5, 7}, "dns.qry.type": {1, 2, 5, 6, 12, 13, 15, 16, 28, 33, 35, 255, 257},
     "dns.resp.type": {1, 2, 5, 6, 12, 13, 15, 16, 28, 33, 35, 41, 44, 47, 52, 65, 257, 65280},
     "nbns.type": {10, 32, 33}, "udp.checksum.status": {0, 1, 3}, "vlan.id": {1, 7}, "ieee8021ad.id": {4094},
@@ -273,6 +312,13 @@ def other_brief_line(program, capture):
         wanted = plain.dump(file.read(), plain.Options(is_brief=True)).text.splitlines()
     lines = run(program, "--brief", capture).stdout.splitlines()
     return next((both for both in itertools.zip_longest(lines, wanted) if both[0] != both[1]), None)
+
+
+def other_rows(program, capture, members, sources):
+    """What the page of `--stats` has of members of groups and of their sources that is not this, or None."""
+    found = json.loads(run(program, "--stats", "--json", capture).stdout)
+    wrong = [*mistakes(members, found["members"], "members"), *mistakes(sources, found["sources"], "sources")]
+    return "; ".join(wrong) or None
 
 
 def told(text):
@@ -325,7 +371,7 @@ def compare(program, capture, known, seen):
         packets = [datagrams.Packet(values) for values in fields.packets(table.read())]
     found, status, unread = objects_of(program, capture)
     objects, left, agree, differ = [it for of in found.values() for it in of], dict(found), 0, 0
-    totals, refused = Totals(), set()
+    totals, members, refused = Totals(), contents_page.Members(), set()
     for whole in packets:
         number = whole.text("frame.number")
         for name in WANTED:
@@ -334,6 +380,8 @@ def compare(program, capture, known, seen):
         without_refused(packet, refused)
         wrong, kind, reason = difference(packet, left.pop(number, []))
         totals.add(packet, kind, reason)
+        if kind in ("igmp", "icmp6") and reason != "fragment":
+            members.add(packet, kind)
         known.update(known_differences(packet, kind, reason))
         agree, differ = agree + (wrong is None), differ + (wrong is not None)
         if wrong is not None:
@@ -342,11 +390,12 @@ def compare(program, capture, known, seen):
     lines, line = same(objects, ran.stdout), told(ran.stderr)
     table, printed_table = totals.table(), counts_of(run(program, "--count", capture).stdout)
     by_jq = read_by_jq(program, capture) if shutil.which("jq") else None
-    brief = other_brief_line(program, capture)
+    brief, page = other_brief_line(program, capture), other_rows(program, capture, *members.rows())
     for text, holds in ((f"packets {list(left)} are printed, and not in the capture", not left),
                         (f"the status is {status}", status == 0), (f"no JSON: {unread}", unread is None),
                         (f"jq reads something else: {by_jq}", by_jq is None),
                         (f"{lines}", lines is None), (f"a brief line, and brief.py: {brief}", brief is None),
+                        (f"the page has not the members of groups and their sources: {page}", page is None),
                         (f"the counts are not {table}, but {printed_table}", printed_table == table),
                         (f"the line that sums up has not {dict(totals.line)}, but {line}", line == totals.line)):
         agree, differ = agree + holds, differ + (not holds)

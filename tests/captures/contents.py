@@ -3,30 +3,14 @@ that tshark has of them; see expected.py."""
 
 import re
 
-import names
+from contents_errors import icmp4_error, icmp6_error
+from contents_options import neighbor_options
+from contents_queries import icmp4_query, icmp6_query
 from datagrams import extension_length, payload_length
+from patterns import MORE, Values, data, entry, flags, octets
 
 ICMP4_TYPES = (0, 3, 4, 5, 8, 11, 12)
 ICMP6_TYPES = (1, 2, 3, 4, *range(128, 138), 143)
-
-# A member that stands for all further ones, of which nothing is expected.
-MORE = "..."
-
-
-def octets(count, front="", ending=""):
-    """So many octets: those in front are told as a pattern, of which `..` is an octet, and the last ones."""
-    front, ending = front[:2 * count], ending[-2 * count:] if count else ""
-    return re.compile(front + "[0-9a-f]{%d}" % (2 * count - len(front) - len(ending)) + ending)
-
-
-def data(packet):
-    """The octets at the end that tshark knows no more of. It tells extensions of ICMP apart (RFC 4884)."""
-    return packet.text("data.data") if packet.has("data.data") and not packet.has("icmp.ext.version") else ""
-
-
-def entry(key, number, **values):
-    """An entry of a list, with any label."""
-    return {key: re.compile("[a-z0-9_]+"), **values, "type": number}
 
 
 def hop_by_hop(packet):
@@ -55,37 +39,6 @@ def echo(packet, ident, sequence, missing):
     return {"ident": ident, "seq_no": sequence, "data": octets(count, "", data(packet))}
 
 
-def quoted_octets(packet, protocol, is_first, count):
-    """The quoted octets behind the header: tshark tells their ports, the length of UDP, and what an echo has."""
-    if not is_first:
-        return octets(count)
-    for number, its_name in ((17, "udp"), (6, "tcp")):
-        if protocol == number and packet.has(its_name + ".srcport"):
-            its_front = "%04x%04x" % (packet.number(its_name + ".srcport"), packet.number(its_name + ".dstport"))
-            its_front += "%04x" % packet.number("udp.length") if number == 17 else ""
-            return octets(count, its_front, data(packet))
-    if protocol == 1 and packet.has("icmp.seq"):
-        return octets(count, "%02x00....%04x%04x" % (packet.number("icmp.type", 1), packet.number("icmp.ident"),
-                                                     packet.number("icmp.seq")), data(packet))
-    if protocol == 58 and packet.has("icmpv6.echo.sequence_number"):
-        return octets(count, "%02x00....%04x%04x" % (
-            packet.number("icmpv6.type", 1), packet.number("icmpv6.echo.identifier"),
-            packet.number("icmpv6.echo.sequence_number")), data(packet))
-    return octets(count, "", data(packet))
-
-
-# Headers that extend IPv6, which tshark passes.
-EXTENSIONS6 = (0, 43, 44, 60)
-
-
-def quoted_ports(packet, protocol, is_first, passed=()):
-    for number, name in ((17, "udp"), (6, "tcp")):
-        if protocol in (number, *passed) and is_first and packet.has(name + ".srcport"):
-            return {"quoted_src_port": packet.number(name + ".srcport"),
-                    "quoted_dst_port": packet.number(name + ".dstport")}
-    return {"quoted_src_port": None, "quoted_dst_port": None}
-
-
 def icmp4(packet, missing):
     if not packet.has("icmp.code"):
         return {MORE: None}
@@ -95,49 +48,10 @@ def icmp4(packet, missing):
         return {**front_of, MORE: None}
     if number in (0, 8):
         return {**front_of, **echo(packet, packet.number("icmp.ident"), packet.number("icmp.seq"), missing)}
-    if number not in ICMP4_TYPES:
-        return {**front_of, "rest": octets(payload_length(packet) - 4)}
     if missing:
         return {**front_of, MORE: None}
-    if number == 3:
-        mtu = packet.number("icmp.mtu") if packet.has("icmp.mtu") and code == 4 else 0
-        front_of["next_hop_mtu"] = mtu or None
-    if number == 5:
-        front_of["gateway"] = packet.text("icmp.redir_gw")
-    if number == 12:
-        front_of["pointer"] = packet.number("icmp.pointer")
-    return {**front_of, **quote4(packet)}
-
-
-def quote4(packet):
-    header, offset = packet.number("ip.hdr_len", 1), packet.number("ip.frag_offset", 1)
-    protocol, length = packet.number("ip.proto", 1), payload_length(packet) - 8 - header
-    # Extensions are behind 128 octets in what is captured here; the table has nothing of their objects.
-    behind = {MORE: None} if packet.has("icmp.ext.version") else {}
-    length = 128 - header if behind else length
-    return {
-        "quoted_type_of_service": packet.number("ip.dsfield", 1), "quoted_total_len": packet.number("ip.len", 1),
-        "quoted_ident": packet.number("ip.id", 1), "quoted_dont_frag": packet.text("ip.flags.df", 1) == "1",
-        "quoted_more_frags": packet.text("ip.flags.mf", 1) == "1", "quoted_frag_offset": offset,
-        "quoted_hop_limit": packet.number("ip.ttl", 1), "quoted_next_header": protocol,
-        "quoted_src_addr": packet.text("ip.src", 1), "quoted_dst_addr": packet.text("ip.dst", 1),
-        "quoted_options": octets(header - 20), **quoted_ports(packet, protocol, offset == 0),
-        "quoted_payload": quoted_octets(packet, protocol, offset == 0, length), **behind,
-    }
-
-
-def icmp6_error(packet):
-    number = packet.number("icmpv6.type")
-    told = {2: {"mtu": "icmpv6.mtu"}, 4: {"pointer": "icmpv6.pointer"}}.get(number, {})
-    protocol, length = packet.number("ipv6.nxt", 1), packet.number("ipv6.plen") - 8 - 40
-    return {
-        **{key: packet.number(name) for key, name in told.items()},
-        "quoted_traffic_class": packet.number("ipv6.tclass", 1), "quoted_flow_label": packet.number("ipv6.flow", 1),
-        "quoted_payload_len": packet.number("ipv6.plen", 1), "quoted_hop_limit": packet.number("ipv6.hlim", 1),
-        "quoted_next_header": protocol, "quoted_src_addr": packet.text("ipv6.src", 1),
-        "quoted_dst_addr": packet.text("ipv6.dst", 1), **quoted_ports(packet, protocol, True, EXTENSIONS6),
-        "quoted_payload": quoted_octets(packet, protocol, True, length),
-    }
+    told = icmp4_error(packet, number, code) if number in ICMP4_TYPES else icmp4_query(packet, number)
+    return {**front_of, **told}
 
 
 def igmp(packet, missing):
@@ -146,71 +60,52 @@ def igmp(packet, missing):
     if missing:
         return {**told, MORE: None}
     if number == 0x22:
-        sources, groups = list(packet.all("igmp.saddr")), packet.all("igmp.maddr")
-        return {**told, "version": 3, "records": [
-            entry("record", packet.number("igmp.record_type", at), group_addr=group,
-                  sources=[sources.pop(0) for _ in range(packet.number("igmp.num_src", at))])
-            for at, group in enumerate(groups)]}
+        return {**told, "version": 3, **records(packet, {
+            "count": "igmp.num_grp_recs", "type": "igmp.record_type", "group": "igmp.maddr", "sources": "igmp.num_src",
+            "source": "igmp.saddr", "aux": "igmp.aux_data_len", "data": "igmp.aux_data"})}
     group = {"group_addr": packet.text("igmp.maddr")}
     if number != 0x11:
         return {**told, "version": 1 if number == 0x12 else 2, **group}
-    code = packet.number("igmp.max_resp") if packet.has("igmp.max_resp") else 0
-    version_of = 3 if length > 8 else 2 if code else 1
-    told = {**told, "version": version_of, "max_resp_code": code, "max_resp_time": 100 * code, **group}
+    tenths = packet.number("igmp.max_resp") if packet.has("igmp.max_resp") else 0
+    version_of = 3 if length > 8 else 2 if tenths else 1
+    code = code_of(tenths, 4) if version_of == 3 else tenths
+    told = {**told, "version": version_of, "max_resp_code": code, "max_resp_time": 100 * tenths, **group}
     if version_of == 3:
-        told.update(s_flag=packet.text("igmp.s") == "1", qrv=packet.number("igmp.qrv"),
-                    qqic=packet.number("igmp.qqic"), querier_query_interval=1000 * packet.number("igmp.qqic"),
-                    sources=packet.all("igmp.saddr"))
+        qqic = packet.number("igmp.qqic")
+        told.update(s_flag=packet.text("igmp.s") == "1", qrv=packet.number("igmp.qrv"), qqic=qqic,
+                    querier_query_interval=1000 * floating(qqic, 4), sources=packet.all("igmp.saddr"))
     return told
 
 
+def records(packet, names_of):
+    """The records of a report, whose fields tshark calls by these names, and whether it has as many as it counts."""
+    values, entries = Values(packet), []
+    for number, address in zip(packet.numbers(names_of["type"]), packet.all(names_of["group"])):
+        sources = [values.text(names_of["source"]) for _ in range(values.number(names_of["sources"]))]
+        more = {"aux_data": values.text(names_of["data"])} if values.number(names_of["aux"]) else {}
+        entries.append(entry("record", number, group_addr=address, sources=sources, **more))
+    is_short = len(entries) < packet.number(names_of["count"])
+    return {"records": entries, **({"refused": re.compile(".+")} if is_short else {})}
+
+
+# Numbers below a bound are themselves; others have so many bits of mantissa, and an exponent (RFC 3376 section 4.1.1,
+# RFC 3810 section 5.1.3). For some of them tshark has the number, and for others the code.
+
+def floating(code, digits):
+    """The number of a code."""
+    if code < 8 << digits:
+        return code
+    return (code % (1 << digits) + (1 << digits)) << (code >> digits & 7) + 3
+
+
+def code_of(number, digits):
+    if number < 8 << digits:
+        return number
+    exponent = number.bit_length() - digits - 4
+    return (8 + exponent << digits) + (number >> exponent + 3) - (1 << digits)
+
+
 # ---- neighbor discovery and multicast listeners
-
-def flags(octet, *names_of):
-    return [name for at, name in enumerate(names_of) if octet & 0x80 >> at]
-
-
-def neighbor_options(packet):
-    """The options in their order; those of link addresses and prefixes have lists of their own."""
-    addresses, entries, prefixes = list(packet.all("icmpv6.opt.linkaddr")), [], 0
-    for number, length in zip(packet.numbers("icmpv6.opt.type"), packet.numbers("icmpv6.opt.length")):
-        if number in (1, 2):
-            entries.append(entry("option", number, address=addresses.pop(0)))
-        elif number == 3:
-            entries.append(prefix(packet, prefixes))
-            prefixes += 1
-        elif number == 4:
-            entries.append(redirected(packet))
-        elif number == 5:
-            entries.append(entry("option", number, mtu=packet.number("icmpv6.opt.mtu")))
-        elif number == 25 and len(packet.all("icmpv6.opt.rdnss.lifetime")) == 1:
-            told = "0000%08x" % packet.number("icmpv6.opt.rdnss.lifetime")
-            told += "".join(names.hexadecimal(address) for address in packet.all("icmpv6.opt.rdnss"))
-            entries.append(entry("option", number, data=told))
-        else:
-            entries.append(entry("option", number, data=octets(8 * length - 2)))
-    return {"options": entries}
-
-
-def prefix(packet, at):
-    def number(name):
-        return packet.number("icmpv6.opt.prefix." + name, at)
-
-    return entry("option", 3, prefix=f'{packet.text("icmpv6.opt.prefix", at)}/{number("length")}',
-                 flags=flags(number("flag"), "on_link", "autonomous", "router_address"),
-                 valid_lifetime=1000 * number("valid_lifetime"),
-                 preferred_lifetime=1000 * number("preferred_lifetime"))
-
-
-def redirected(packet):
-    length = packet.number("ipv6.plen", 1)
-    return entry("option", 4, quoted_src_addr=packet.text("ipv6.src", 1), quoted_dst_addr=packet.text("ipv6.dst", 1),
-                 quoted_next_header=packet.number("ipv6.nxt", 1), quoted_hop_limit=packet.number("ipv6.hlim", 1),
-                 quoted_payload_len=length,
-                 # The option is padded to units of eight octets.
-                 quoted_payload=re.compile(quoted_octets(packet, packet.number("ipv6.nxt", 1), True, length).pattern
-                                           + "(00){0,7}"))
-
 
 def router(packet):
     octet = packet.number("icmpv6.nd.ra.flag")
@@ -238,18 +133,19 @@ def neighbor(packet, number):
 
 def listener(packet, number):
     if number == 143:
-        sources = list(packet.all("icmpv6.mldr.mar.source_address"))
-        return {"version": 2, "records": [
-            entry("record", packet.number("icmpv6.mldr.mar.record_type", at), group_addr=address,
-                  sources=[sources.pop(0) for _ in range(packet.number("icmpv6.mldr.mar.nb_sources", at))])
-            for at, address in enumerate(packet.all("icmpv6.mldr.mar.multicast_address"))]}
+        of = "icmpv6.mldr.mar."
+        return {"version": 2, **records(packet, {
+            "count": "icmpv6.mldr.nb_mcast_records", "type": of + "record_type", "group": of + "multicast_address",
+            "sources": of + "nb_sources", "source": of + "source_address", "aux": of + "aux_data_len",
+            "data": of + "auxiliary_data"})}
     group = {"mcast_addr": packet.text("icmpv6.mld.multicast_address")}
     if number != 130 or payload_length(packet) == 24:
         return {"version": 1, "max_resp_delay": packet.number("icmpv6.mld.maximum_response_delay"), **group}
-    code, qqic = packet.number("icmpv6.mld.maximum_response_code"), packet.number("icmpv6.mld.qqi")
-    return {"version": 2, "max_resp_code": code, "max_resp_delay": code, **group,
+    delay, interval = packet.number("icmpv6.mld.maximum_response_code"), packet.number("icmpv6.mld.qqi")
+    return {"version": 2, "max_resp_code": code_of(delay, 12), "max_resp_delay": delay, **group,
             "s_flag": packet.text("icmpv6.mld.flag.s") == "1", "qrv": packet.number("icmpv6.mld.flag.qrv"),
-            "qqic": qqic, "querier_query_interval": 1000 * qqic, "sources": packet.all("icmpv6.mld.source_address")}
+            "qqic": code_of(interval, 4), "querier_query_interval": 1000 * interval,
+            "sources": packet.all("icmpv6.mld.source_address")}
 
 
 def icmp6(packet, missing):
@@ -268,9 +164,7 @@ def icmp6(packet, missing):
         return {**told, **listener(packet, number)}
     if 133 <= number <= 137:
         return {**told, **neighbor(packet, number), **neighbor_options(packet)}
-    if number not in ICMP6_TYPES:
-        return {**told, "rest": octets(payload_length(packet) - 4)}
-    return {**told, **icmp6_error(packet)}
+    return {**told, **(icmp6_error if number in ICMP6_TYPES else icmp6_query)(packet, number)}
 
 
 # ---- DHCP

@@ -84,8 +84,17 @@ def innermost(packet):
     if is_cut(inner):
         inner.part = "cut" if has_header(inner) and is_fragment(inner) else None
     elif is_fragment(inner):
-        inner.part = "refused" if is_joined_outside else "joined" if inner.frames else "kept"
+        is_refused = is_joined_outside or is_uneven(inner)
+        inner.part = "refused" if is_refused else "joined" if inner.frames else "kept"
     return inner
+
+
+def is_uneven(packet):
+    """Whether a fragment of IPv6 that is not the last one has no multiple of 8 bytes (RFC 8200 section 4.5)."""
+    if version(packet) == 4:
+        return False
+    return packet.text("ipv6.fraghdr.more") in ("1", "True") and not packet.has("ipv6.fragment") and (
+        payload_length(packet) % 8 != 0)
 
 
 def before_fragment(packet, names):
@@ -148,7 +157,9 @@ def is_fragment(packet):
     if version(packet) == 4:
         return packet.text("ip.flags.mf") == "1" or packet.number("ip.frag_offset") != 0
     # A fragment that is a whole datagram alone is read as one (RFC 6946).
-    return packet.all("ipv6.fraghdr.offset") + packet.all("ipv6.fraghdr.more") not in ([], ["0", "0"])
+    # An error may quote one.
+    told = packet.all("ipv6.fraghdr.offset") + packet.all("ipv6.fraghdr.more")
+    return told not in ([], ["0", "0"]) and 44 in headers(packet)
 
 
 def ports(packet):

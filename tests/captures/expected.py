@@ -7,8 +7,9 @@ numbers are left to damage."""
 import re
 
 import names
-from contents import ICMP4_TYPES, ICMP6_TYPES, dhcp, hop_by_hop, icmp4, icmp6, igmp, octets
+from contents import ICMP4_TYPES, ICMP6_TYPES, dhcp, hop_by_hop, icmp4, icmp6, igmp
 from datagrams import destination, has_header, headers, is_cut, messages_over_tcp, payload_length, ports, version
+from patterns import octets
 
 IGMP_TYPES = (0x11, 0x12, 0x16, 0x17, 0x22)
 
@@ -24,14 +25,29 @@ ipv6.fragment ipv6.reassembled.in ipv6.reassembled.length
 ipv6.opt.type ipv6.opt.length
 ipv6.opt.router_alert ipv6.opt.padn ipv6.opt.experimental ipv6.opt.unknown
 udp.srcport udp.dstport udp.length udp.checksum.status tcp.srcport tcp.dstport tcp.len tcp.checksum.status
-icmp.type icmp.code icmp.checksum.status icmp.ident icmp.seq icmp.mtu icmp.redir_gw icmp.pointer icmp.ext.version
+icmp.type icmp.code icmp.checksum.status icmp.ident icmp.seq icmp.mtu icmp.redir_gw icmp.pointer icmp.length
+icmp.originate_timestamp icmp.receive_timestamp icmp.transmit_timestamp icmp.address_mask icmp.num_addrs
+icmp.addr_entry_size icmp.lifetime icmp.router_address icmp.pref_level
+icmp.ext.version icmp.ext.checksum.status icmp.ext.length icmp.ext.class icmp.ext.ctype icmp.ext.data
+icmp.mpls.label icmp.mpls.exp icmp.mpls.s icmp.mpls.ttl icmp.int_info.role icmp.int_info.ifindex icmp.int_info.ipaddr
+icmp.int_info.name_present icmp.int_info.mtu_present icmp.int_info.index icmp.int_info.afi icmp.int_info.ipv4
+icmp.int_info.ipv6 icmp.int_info.name icmp.int_info.mtu icmp.int_ident.name icmp.int_ident.index icmp.int_ident.afi
+icmp.int_ident.addr_length icmp.int_ident.ipv4 icmp.int_ident.ipv6 icmp.ext.echo.seq icmp.ext.echo.req.local
+icmp.ext.echo.rsp.state icmp.ext.echo.rsp.active icmp.ext.echo.rsp.ipv4 icmp.ext.echo.rsp.ipv6
 data.data
 igmp.type igmp.max_resp igmp.maddr igmp.version igmp.checksum.status igmp.s igmp.qrv igmp.qqic igmp.num_src igmp.saddr
-igmp.num_grp_recs igmp.record_type igmp.aux_data_len
+igmp.num_grp_recs igmp.record_type igmp.aux_data_len igmp.aux_data
 icmpv6.type icmpv6.code icmpv6.checksum.status icmpv6.echo.identifier icmpv6.echo.sequence_number icmpv6.mtu
+icmpv6.length icmpv6.ext.echo.seq icmpv6.ext.echo.req.local icmpv6.ext.echo.rsp.state icmpv6.ext.echo.rsp.active
+icmpv6.ext.echo.rsp.ipv4 icmpv6.ext.echo.rsp.ipv6 icmpv6.ni.qtype icmpv6.ni.flag icmpv6.ni.nonce
+icmpv6.ni.query.subject_ipv6 icmpv6.ni.query.subject_fqdn icmpv6.ni.query.subject_ipv4 icmpv6.ni.reply.node_ttl
+icmpv6.ni.reply.node_name icmpv6.ni.reply.node_address icmpv6.ni.reply.ipv4_address
 icmpv6.pointer icmpv6.nd.ns.target_address icmpv6.nd.na.target_address icmpv6.nd.na.flag.r icmpv6.nd.na.flag.s
 icmpv6.nd.na.flag.o icmpv6.nd.rd.target_address icmpv6.rd.na.destination_address icmpv6.opt.type icmpv6.opt.linkaddr
-icmpv6.opt.length icmpv6.opt.rdnss icmpv6.opt.rdnss.lifetime icmpv6.opt.mtu icmpv6.opt.prefix.length
+icmpv6.opt.length icmpv6.opt.rdnss icmpv6.opt.rdnss.lifetime icmpv6.opt.dnssl icmpv6.opt.dnssl.lifetime
+icmpv6.opt.nonce icmpv6.opt.route_info.flag icmpv6.opt.route_lifetime icmpv6.opt.captive_portal
+icmpv6.opt.pref64.scaled_lifetime icmpv6.opt.pref64.plc icmpv6.opt.pref64.prefix
+icmpv6.opt.mtu icmpv6.opt.prefix.length
 icmpv6.opt.prefix.flag icmpv6.opt.prefix.valid_lifetime
 icmpv6.opt.prefix.preferred_lifetime icmpv6.opt.prefix icmpv6.nd.ra.cur_hop_limit icmpv6.nd.ra.flag
 icmpv6.nd.ra.router_lifetime icmpv6.nd.ra.reachable_time icmpv6.nd.ra.retrans_timer
@@ -39,7 +55,7 @@ icmpv6.mld.maximum_response_code icmpv6.mld.maximum_response_delay icmpv6.mld.mu
 icmpv6.mld.flag.qrv icmpv6.mld.qqi icmpv6.mld.nb_sources icmpv6.mld.source_address icmpv6.mldr.nb_mcast_records
 icmpv6.mldr.mar.record_type
 icmpv6.mldr.mar.aux_data_len icmpv6.mldr.mar.nb_sources icmpv6.mldr.mar.multicast_address
-icmpv6.mldr.mar.source_address
+icmpv6.mldr.mar.source_address icmpv6.mldr.mar.auxiliary_data
 dhcp.type dhcp.hw.type dhcp.hw.len dhcp.hops dhcp.id dhcp.secs dhcp.flags dhcp.hw.mac_addr dhcp.ip.client dhcp.ip.your
 dhcp.ip.server dhcp.ip.relay dhcp.server dhcp.file dhcp.cookie dhcp.option.type dhcp.option.value dhcp.option.dhcp
 dhcp.option.router dhcp.option.subnet_mask dhcp.option.requested_ip_address dhcp.option.dhcp_server_id
@@ -99,7 +115,12 @@ def refusal(packet, its_kind):
         return None
     if its_kind in TYPES:
         protocol, known = TYPES[its_kind]
-        return None if packet.number(protocol + ".type") in known else "type"
+        if packet.number(protocol + ".type") not in known:
+            return "type"
+        # A report may count more records than it has.
+        counted = packet.numbers("igmp.num_grp_recs") + packet.numbers("icmpv6.mldr.nb_mcast_records")
+        there = packet.all("igmp.record_type") + packet.all("icmpv6.mldr.mar.record_type")
+        return "short" if counted and counted[0] > len(there) else None
     if its_kind == "dhcp":
         return None if packet.has("dhcp.cookie") else "malformed"
     if its_kind != "nbns" and packet.number("udp.length") < 8 + 12:

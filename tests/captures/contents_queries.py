@@ -1,0 +1,156 @@
+"""What pcapdump --json is to print of messages of ICMP that ask and answer, beside echoes, told by the fields that
+tshark has of them; see contents.py."""
+
+import re
+
+from datagrams import payload_length
+from patterns import additional, octets
+
+
+def refused(packet):
+    return {"rest": octets(payload_length(packet) - 4), "refused": re.compile(".+")}
+
+
+# ---- ICMPv4
+
+def ids(packet):
+    return {"ident": packet.number("icmp.ident"), "seq_no": packet.number("icmp.seq")}
+
+
+def timestamps(packet):
+    """RFC 792."""
+    if payload_length(packet) < 20:
+        return refused(packet)
+    times = {key: packet.number(f"icmp.{key}_timestamp") for key in ("originate", "receive", "transmit")}
+    return {**ids(packet), **times, **additional(payload_length(packet) - 20)}
+
+
+def mask(packet):
+    """RFC 950."""
+    if payload_length(packet) < 12:
+        return refused(packet)
+    return {**ids(packet), "mask": packet.text("icmp.address_mask"), **additional(payload_length(packet) - 12)}
+
+
+def solicitation(packet):
+    """RFC 1256."""
+    return additional(payload_length(packet) - 8)
+
+
+def advertisement(packet):
+    """RFC 1256: entries of more than two words are read as well, which tshark does not."""
+    count, words = packet.number("icmp.num_addrs"), packet.number("icmp.addr_entry_size")
+    room = payload_length(packet) - 8 - 4 * words * count
+    if not count or words < 2 or room < 0:
+        return refused(packet)
+    routers = [router(packet, at) if words == 2 else unread_router(packet.text("data.data"), at, words)
+               for at in range(count)]
+    return {"lifetime": 1000 * packet.number("icmp.lifetime"), "routers": routers, **additional(room)}
+
+
+def router(packet, at):
+    return {"entry": "router", "addr": packet.text("icmp.router_address", at),
+            "preference": packet.text("icmp.pref_level", at)}
+
+
+def unread_router(text, at, words):
+    its = bytes.fromhex(text)[4 * words * at:4 * words * (at + 1)]
+    return {"entry": "router", "addr": ".".join(map(str, its[:4])),
+            "preference": str(int.from_bytes(its[4:8], "big", signed=True)), "additional_data": its[8:].hex()}
+
+
+# ---- both (RFC 8335)
+
+def extended_request(packet, protocol, ident):
+    """A request about an interface, which its only object tells."""
+    of = protocol + ".ext.echo."
+    return {"ident": packet.number(ident), "seq_no": packet.number(of + "seq"),
+            "local": packet.text(of + "req.local") == "1", **interface(packet, payload_length(packet) - 8)}
+
+
+def interface(packet, room):
+    """What an object says of the interface by its C-Type."""
+    c_type = packet.number("icmp.ext.ctype") if packet.has("icmp.ext.ctype") else 0
+    if c_type == 1:
+        return {"interface_name": packet.text("icmp.int_ident.name")}
+    if c_type == 2:
+        return {"interface_index": packet.number("icmp.int_ident.index")}
+    if c_type == 3:
+        afi = packet.number("icmp.int_ident.afi")
+        return {"interface_addr_family": afi,
+                "interface_addr": packet.text("icmp.int_ident.ipv4" if afi == 1 else "icmp.int_ident.ipv6")}
+    return {"data": octets(room), "data_refused": re.compile(".+")}
+
+
+def extended_reply(packet, protocol, ident):
+    """The kernel of Linux sends the structure of the request back, of which RFC 8335 has nothing."""
+    of = protocol + ".ext.echo."
+    bits = {key: packet.text(of + "rsp." + key) == "1" for key in ("active", "ipv4", "ipv6")}
+    return {"ident": packet.number(ident), "seq_no": packet.number(of + "seq"),
+            "state": packet.number(of + "rsp.state"), **bits, **additional(payload_length(packet) - 8)}
+
+
+def icmp4_query(packet, number):
+    if number in (42, 43):
+        return (extended_request if number == 42 else extended_reply)(packet, "icmp", "icmp.ident")
+    if number not in ICMP4_QUERIES:
+        return {"rest": octets(payload_length(packet) - 4)}
+    return refused(packet) if packet.number("icmp.code") else ICMP4_QUERIES[number](packet)
+
+
+ICMP4_QUERIES = {9: advertisement, 10: solicitation, 13: timestamps, 14: timestamps, 17: mask, 18: mask}
+
+
+# ---- what is asked of a node (RFC 4620)
+
+# The bits of flags that have names, for queries about addresses.
+NODE_FLAGS = ((0x20, "global_scope"), (0x10, "site_local"), (0x08, "link_local"), (0x04, "compatible"), (0x02, "all"),
+              (0x01, "truncated"))
+
+
+def node(packet, number):
+    if payload_length(packet) < 16:
+        return refused(packet)
+    qtype, bits, code = packet.number("icmpv6.ni.qtype"), packet.number("icmpv6.ni.flag"), packet.number("icmpv6.code")
+    named = dict(NODE_FLAGS) if qtype in (3, 4) else {}
+    told = {"qtype": qtype, "flags": [named.get(1 << at, "0x%04x" % (1 << at)) for at in range(15, -1, -1)
+                                      if bits >> at & 1],
+            "nonce": "%016x" % packet.number("icmpv6.ni.nonce")}
+    return {**told, **(subject(packet, code) if number == 139 else answer(packet, code, qtype))}
+
+
+def subject(packet, code):
+    """The node that is asked about: its address, or the octets of its name."""
+    for its_code, name in ((0, "icmpv6.ni.query.subject_ipv6"), (2, "icmpv6.ni.query.subject_ipv4")):
+        if code == its_code and packet.has(name):
+            return {"subject_addr": packet.text(name)}
+    return {"data": name_octets(packet, "icmpv6.ni.query.subject_fqdn", "")}
+
+
+def answer(packet, code, qtype):
+    """Addresses, each with its time to live, or else octets: a name behind such a time."""
+    for its_qtype, name in ((3, "icmpv6.ni.reply.node_address"), (4, "icmpv6.ni.reply.ipv4_address")):
+        if (code, qtype) == (0, its_qtype):
+            return {"addresses": [{"entry": "address", "addr": text, "ttl": 1000 * time} for text, time in zip(
+                packet.all(name), packet.numbers("icmpv6.ni.reply.node_ttl"))]}
+    time = "%08x" % packet.number("icmpv6.ni.reply.node_ttl") if packet.has("icmpv6.ni.reply.node_ttl") else ""
+    return {"data": name_octets(packet, "icmpv6.ni.reply.node_name", time)}
+
+
+def name_octets(packet, field, front):
+    """All octets behind the fields, which begin with a name."""
+    text = packet.text(field) if packet.has(field) else ""
+    front += "".join("%02x" % len(label) + label.encode().hex() for label in text.split(".") if label)
+    return octets(payload_length(packet) - 16, front)
+
+
+def icmp6_query(packet, number):
+    if number in (139, 140):
+        return node(packet, number)
+    if number in (160, 161):
+        return (extended_request if number == 160 else extended_reply)(packet, "icmpv6", "icmpv6.echo.identifier")
+    return {"rest": octets(payload_length(packet) - 4)}
+
+
+# The types that are told by their fields.
+ICMP4_TYPES, ICMP6_TYPES = (*ICMP4_QUERIES, 42, 43), (139, 140, 160, 161)
