@@ -28,22 +28,28 @@ scene_routers() {
 # it asks with times that are numbers with an exponent (RFC 3376 section 4.1.1).
 scene_sources() {
     querier() { in_ router ip link set lan type bridge "$@"; }
-    set_kernel host ipv4.conf.eth.force_igmp_version=0 ipv6.conf.eth.force_mld_version=0
+    # An interface that saw no querier of an earlier version.
+    join host member router port3
+    in_ router ip link set port3 up master lan
+    in_ host ip address add 192.0.2.17/24 dev member noprefixroute
+    in_ host ip link set member address 02:00:00:00:00:11 up
+    sleep 2
     querier mcast_igmp_version 3 mcast_mld_version 2 mcast_query_response_interval 50 \
         mcast_startup_query_interval 300 mcast_startup_query_count 3
-    # Without what the router and the neighbour say of themselves.
-    record sources.pcap host eth igmp or ip6 and src host not fe80::ff:fe00:9 and not \
+    # Without what others say of themselves.
+    record sources.pcap host member igmp or ip6 and src host not \(fe80::ff:fe00:7 or fe80::ff:fe00:9\) and not \
         '(src host fe80::ff:fe00:1 and dst host ff02::16)'
     querier mcast_querier 1
-    quietly in_ host ./send.py sources eth
+    quietly in_ host ./send.py sources member
     querier mcast_querier 0
     querier mcast_query_interval 20000 mcast_query_response_interval 4000
     querier mcast_querier 1
     sleep 0.3
     querier mcast_querier 0
-    quietly in_ host ./send.py records eth
+    quietly in_ host ./send.py records member
     quietly in_ router ./send.py query lan
     stop_recording
+    in_ host ip link del member
 }
 
 # Requests of ICMPv4 beside echoes, requests about interfaces, which the kernel answers, and queries about a node.
