@@ -196,6 +196,8 @@ def known_differences(packet, kind, reason):
         if inner and not {"icmp", "icmpv6"} & set(packet.protocols):
             what = "dns over tcp, no whole messages" if "tcp" in packet.protocols else f"{inner[0]} over udp"
             yield f"{what}: of another protocol"
+    elif packet.has("icmp.addr_entry_size") and packet.number("icmp.addr_entry_size") > 2:
+        yield "icmp4: routers of more than two words: read, where tshark has octets"
     elif reason is not None:
         yield from known_refusals(packet, kind, reason)
     elif kind in ("dns", "mdns", "llmnr"):
@@ -213,11 +215,8 @@ def known_differences(packet, kind, reason):
 def known_refusals(packet, kind, reason):
     field = {"icmp4": "icmp", "icmp6": "icmpv6", "igmp": "igmp"}.get(kind, "udp") + ".type"
     if reason == "type":
-        told = {"icmp4": contents_queries.ICMP4_TYPES, "icmp6": contents_queries.ICMP6_TYPES}.get(kind, ())
-        if packet.number(field) not in told:
+        if packet.number(field) not in contents_queries.READERS.get(kind, ()):
             yield f"{kind} of type {packet.number(field)}: its octets"
-        elif packet.has("icmp.addr_entry_size") and packet.number("icmp.addr_entry_size") > 2:
-            yield "icmp4: routers of more than two words: read, where tshark has octets"
     elif reason == "fragment":
         what = "within a datagram that came in fragments" if packet.frames else "of no multiple of 8 bytes"
         yield f"{kind}: a fragment {what}: refused, where tshark keeps it"

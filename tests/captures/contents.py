@@ -5,7 +5,7 @@ import re
 
 from contents_errors import icmp4_error, icmp6_error
 from contents_options import neighbor_options
-from contents_queries import icmp4_query, icmp6_query
+from contents_queries import query
 from datagrams import extension_length, payload_length
 from patterns import MORE, Values, data, entry, flags, octets
 
@@ -50,7 +50,7 @@ def icmp4(packet, missing):
         return {**front_of, **echo(packet, packet.number("icmp.ident"), packet.number("icmp.seq"), missing)}
     if missing:
         return {**front_of, MORE: None}
-    told = icmp4_error(packet, number, code) if number in ICMP4_TYPES else icmp4_query(packet, number)
+    told = icmp4_error(packet, number, code) if number in ICMP4_TYPES else query(packet, "icmp4", number)
     return {**front_of, **told}
 
 
@@ -164,7 +164,7 @@ def icmp6(packet, missing):
         return {**told, **listener(packet, number)}
     if 133 <= number <= 137:
         return {**told, **neighbor(packet, number), **neighbor_options(packet)}
-    return {**told, **(icmp6_error if number in ICMP6_TYPES else icmp6_query)(packet, number)}
+    return {**told, **(icmp6_error(packet, number) if number in ICMP6_TYPES else query(packet, "icmp6", number))}
 
 
 # ---- DHCP

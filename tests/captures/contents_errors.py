@@ -130,7 +130,7 @@ class Division:
             return {"extensions_refused": re.compile(".+")}
         if self.quoted == self.there:
             return {}
-        if self.packet.text("icmp.ext.checksum.status") != "1" or self.packet.number("icmp.ext.version") != 2:
+        if self.packet.text("icmp.ext.checksum.status") == "0" or self.packet.number("icmp.ext.version") != 2:
             return {"extensions_refused": re.compile(".+"), "extensions_octets": octets(self.there - self.quoted)}
         return {"extensions": list(objects(self.packet, self.there - self.quoted - 4))}
 

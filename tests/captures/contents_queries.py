@@ -7,8 +7,24 @@ from datagrams import payload_length
 from patterns import additional, octets
 
 
-def refused(packet):
-    return {"rest": octets(payload_length(packet) - 4), "refused": re.compile(".+")}
+def is_refused(packet, kind, number):
+    """Whether a message is not told by its fields: it is short, its code is not 0, or it has wrong routers."""
+    if payload_length(packet) < LEAST.get((kind, number), 8):
+        return True
+    if kind == "icmp6" or number in (42, 43):
+        return False
+    return packet.number("icmp.code") != 0 or number == 9 and has_wrong_routers(packet)
+
+
+def has_wrong_routers(packet):
+    """RFC 1256 section 5.2."""
+    count, words = packet.number("icmp.num_addrs"), packet.number("icmp.addr_entry_size")
+    return not count or words < 2 or payload_length(packet) < 8 + 4 * words * count
+
+
+# The octets that a message has at least.
+LEAST = {("icmp4", 13): 20, ("icmp4", 14): 20, ("icmp4", 17): 12, ("icmp4", 18): 12, ("icmp6", 139): 16,
+         ("icmp6", 140): 16}
 
 
 # ---- ICMPv4
@@ -19,16 +35,12 @@ def ids(packet):
 
 def timestamps(packet):
     """RFC 792."""
-    if payload_length(packet) < 20:
-        return refused(packet)
     times = {key: packet.number(f"icmp.{key}_timestamp") for key in ("originate", "receive", "transmit")}
     return {**ids(packet), **times, **additional(payload_length(packet) - 20)}
 
 
 def mask(packet):
     """RFC 950."""
-    if payload_length(packet) < 12:
-        return refused(packet)
     return {**ids(packet), "mask": packet.text("icmp.address_mask"), **additional(payload_length(packet) - 12)}
 
 
@@ -40,12 +52,10 @@ def solicitation(packet):
 def advertisement(packet):
     """RFC 1256: entries of more than two words are read as well, which tshark does not."""
     count, words = packet.number("icmp.num_addrs"), packet.number("icmp.addr_entry_size")
-    room = payload_length(packet) - 8 - 4 * words * count
-    if not count or words < 2 or room < 0:
-        return refused(packet)
     routers = [router(packet, at) if words == 2 else unread_router(packet.text("data.data"), at, words)
                for at in range(count)]
-    return {"lifetime": 1000 * packet.number("icmp.lifetime"), "routers": routers, **additional(room)}
+    return {"lifetime": 1000 * packet.number("icmp.lifetime"), "routers": routers,
+            **additional(payload_length(packet) - 8 - 4 * words * count)}
 
 
 def router(packet, at):
@@ -90,17 +100,6 @@ def extended_reply(packet, protocol, ident):
             "state": packet.number(of + "rsp.state"), **bits, **additional(payload_length(packet) - 8)}
 
 
-def icmp4_query(packet, number):
-    if number in (42, 43):
-        return (extended_request if number == 42 else extended_reply)(packet, "icmp", "icmp.ident")
-    if number not in ICMP4_QUERIES:
-        return {"rest": octets(payload_length(packet) - 4)}
-    return refused(packet) if packet.number("icmp.code") else ICMP4_QUERIES[number](packet)
-
-
-ICMP4_QUERIES = {9: advertisement, 10: solicitation, 13: timestamps, 14: timestamps, 17: mask, 18: mask}
-
-
 # ---- what is asked of a node (RFC 4620)
 
 # The bits of flags that have names, for queries about addresses.
@@ -108,15 +107,13 @@ NODE_FLAGS = ((0x20, "global_scope"), (0x10, "site_local"), (0x08, "link_local")
               (0x01, "truncated"))
 
 
-def node(packet, number):
-    if payload_length(packet) < 16:
-        return refused(packet)
+def node(packet):
     qtype, bits, code = packet.number("icmpv6.ni.qtype"), packet.number("icmpv6.ni.flag"), packet.number("icmpv6.code")
     named = dict(NODE_FLAGS) if qtype in (3, 4) else {}
     told = {"qtype": qtype, "flags": [named.get(1 << at, "0x%04x" % (1 << at)) for at in range(15, -1, -1)
                                       if bits >> at & 1],
             "nonce": "%016x" % packet.number("icmpv6.ni.nonce")}
-    return {**told, **(subject(packet, code) if number == 139 else answer(packet, code, qtype))}
+    return {**told, **(subject(packet, code) if packet.number("icmpv6.type") == 139 else answer(packet, code, qtype))}
 
 
 def subject(packet, code):
@@ -144,13 +141,23 @@ def name_octets(packet, field, front):
     return octets(payload_length(packet) - 16, front)
 
 
-def icmp6_query(packet, number):
-    if number in (139, 140):
-        return node(packet, number)
-    if number in (160, 161):
-        return (extended_request if number == 160 else extended_reply)(packet, "icmpv6", "icmpv6.echo.identifier")
-    return {"rest": octets(payload_length(packet) - 4)}
+# ---- all of them
+
+# What reads each type.
+READERS = {
+    "icmp4": {9: advertisement, 10: solicitation, 13: timestamps, 14: timestamps, 17: mask, 18: mask,
+              42: lambda packet: extended_request(packet, "icmp", "icmp.ident"),
+              43: lambda packet: extended_reply(packet, "icmp", "icmp.ident")},
+    "icmp6": {139: node, 140: node, 160: lambda packet: extended_request(packet, "icmpv6", "icmpv6.echo.identifier"),
+              161: lambda packet: extended_reply(packet, "icmpv6", "icmpv6.echo.identifier")},
+}
 
 
-# The types that are told by their fields.
-ICMP4_TYPES, ICMP6_TYPES = (*ICMP4_QUERIES, 42, 43), (139, 140, 160, 161)
+def query(packet, kind, number):
+    """The members of a message that is no error and no echo; of a type that is not known by its octets."""
+    rest = {"rest": octets(payload_length(packet) - 4)}
+    if number not in READERS[kind]:
+        return rest
+    if is_refused(packet, kind, number):
+        return {**rest, "refused": re.compile(".+")}
+    return READERS[kind][number](packet)

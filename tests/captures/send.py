@@ -177,9 +177,12 @@ def probes(router4, router6, index):
         four.sendto(sealed(b"\x2a\0\0\0" + fields), (router4, 0))
         other.sendto(b"\xa0\0\0\0" + fields, (router6, 0))
         time.sleep(0.1)
-    # An object of a type that is not assigned, and a request about the neighbor, which is not local.
-    for local, asked in ((1, item(3, 9, bytes(4))), (0, item(3, 3, struct.pack("!HBB", 1, 4, 0) + ROUTER4))):
-        fields = struct.pack("!HBB", 0x1234, 0x20, local) + structure(asked)
+    # An object of a type that is not assigned, a structure with a wrong checksum, and a request about the neighbor,
+    # which is not local.
+    named = structure(item(3, 1, b"lan\0"))
+    about = structure(item(3, 3, struct.pack("!HBB", 1, 4, 0) + ROUTER4))
+    for local, asked in ((1, structure(item(3, 9, bytes(4)))), (1, named[:2] + b"\xde\xad" + named[4:]), (0, about)):
+        fields = struct.pack("!HBB", 0x1234, 0x20, local) + asked
         four.sendto(sealed(b"\x2a\0\0\0" + fields), (router4, 0))
         other.sendto(b"\xa0\0\0\0" + fields, (router6, 0))
     time.sleep(0.3)
@@ -269,8 +272,8 @@ def interface_object(role, index=None, address=None, text=None, mtu=None):
 
 
 def structures():
-    """Extension structures that errors have: two that hold, one with an object of a private class, one with a wrong
-    checksum, and one whose object ends behind it."""
+    """Extension structures that errors have: three that hold, one with an object of a private class, one with a wrong
+    checksum, one without a checksum, and one whose object ends behind it."""
     yield structure(labels((16, 0, 1)))
     yield structure(labels((299776, 5, 254), (1048575, 0, 1)), interface_object(0, 7, ROUTER4, b"eth0", 1500))
     yield structure(interface_object(1, text=b"wan"), interface_object(2, address=six("fe80::1"), mtu=9000),
@@ -278,6 +281,7 @@ def structures():
     yield structure(item(247, 3, bytes.fromhex("c0ffee00")), labels((16, 0, 1)))
     wrong = structure(labels((16, 0, 1)))
     yield wrong[:2] + b"\xde\xad" + wrong[4:]
+    yield wrong[:2] + b"\0\0" + wrong[4:]
     yield structure(labels((16, 0, 1)), struct.pack("!HBB", 64, 1, 1) + bytes(4))
 
 
