@@ -7,7 +7,9 @@ import struct
 import sys
 import time
 
-from speak import checksum, datagram, name
+sys.dont_write_bytecode = True
+
+from speak import checksum, datagram, name  # noqa: E402
 
 HOST4, ROUTER4 = socket.inet_aton("192.0.2.7"), socket.inet_aton("192.0.2.1")
 
