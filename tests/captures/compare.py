@@ -202,11 +202,12 @@ def known_differences(packet, kind, reason):
         yield from known_refusals(packet, kind, reason)
     elif kind in ("dns", "mdns", "llmnr"):
         yield from known_of_names(packet)
-    elif kind == "icmp4":
-        yield from known_of_errors(packet, "icmp.length")
-    elif kind == "icmp6":
-        yield from known_of_errors(packet, "icmpv6.length")
-        yield from known_of_options(packet)
+    elif kind in ("icmp4", "icmp6"):
+        protocol = "icmp" if kind == "icmp4" else "icmpv6"
+        if packet.number(protocol + ".type") not in contents_queries.READERS[kind]:
+            yield from known_of_errors(packet, protocol + ".length")
+        if kind == "icmp6":
+            yield from known_of_options(packet)
     elif kind == "dhcp":
         for number in sorted({*packet.numbers("dhcp.option.type")} - {0, 255, *contents.DHCP_OPTIONS}):
             yield f"dhcp: option {number}: its octets"
@@ -215,8 +216,7 @@ def known_differences(packet, kind, reason):
 def known_refusals(packet, kind, reason):
     field = {"icmp4": "icmp", "icmp6": "icmpv6", "igmp": "igmp"}.get(kind, "udp") + ".type"
     if reason == "type":
-        if packet.number(field) not in contents_queries.READERS.get(kind, ()):
-            yield f"{kind} of type {packet.number(field)}: its octets"
+        yield f"{kind} of type {packet.number(field)}: its octets"
     elif reason == "fragment":
         what = "within a datagram that came in fragments" if packet.frames else "of no multiple of 8 bytes"
         yield f"{kind}: a fragment {what}: refused, where tshark keeps it"

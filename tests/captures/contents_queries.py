@@ -7,19 +7,23 @@ from datagrams import payload_length
 from patterns import additional, octets
 
 
-def is_refused(packet, kind, number):
-    """Whether a message is not told by its fields: it is short, its code is not 0, or it has wrong routers."""
+def refusal(packet, kind, number):
+    """Why a message is not told by its fields, or None: it is short, its code is not 0, or it has wrong routers."""
     if payload_length(packet) < LEAST.get((kind, number), 8):
-        return True
+        return "short"
     if kind == "icmp6" or number in (42, 43):
-        return False
-    return packet.number("icmp.code") != 0 or number == 9 and has_wrong_routers(packet)
+        return None
+    if packet.number("icmp.code") != 0:
+        return "malformed"
+    return wrong_routers(packet) if number == 9 else None
 
 
-def has_wrong_routers(packet):
+def wrong_routers(packet):
     """RFC 1256 section 5.2."""
     count, words = packet.number("icmp.num_addrs"), packet.number("icmp.addr_entry_size")
-    return not count or words < 2 or payload_length(packet) < 8 + 4 * words * count
+    if not count or words < 2:
+        return "malformed"
+    return "short" if payload_length(packet) < 8 + 4 * words * count else None
 
 
 # The octets that a message has at least.
@@ -158,6 +162,6 @@ def query(packet, kind, number):
     rest = {"rest": octets(payload_length(packet) - 4)}
     if number not in READERS[kind]:
         return rest
-    if is_refused(packet, kind, number):
+    if refusal(packet, kind, number):
         return {**rest, "refused": re.compile(".+")}
     return READERS[kind][number](packet)

@@ -6,6 +6,7 @@ numbers are left to damage."""
 
 import re
 
+import contents_queries
 import names
 from contents import ICMP4_TYPES, ICMP6_TYPES, dhcp, hop_by_hop, icmp4, icmp6, igmp
 from datagrams import destination, has_header, headers, is_cut, messages_over_tcp, payload_length, ports, version
@@ -115,7 +116,10 @@ def refusal(packet, its_kind):
         return None
     if its_kind in TYPES:
         protocol, known = TYPES[its_kind]
-        if packet.number(protocol + ".type") not in known:
+        number = packet.number(protocol + ".type")
+        if number in contents_queries.READERS.get(its_kind, ()):
+            return contents_queries.refusal(packet, its_kind, number)
+        if number not in known:
             return "type"
         # A report may count more records than it has.
         counted = packet.numbers("igmp.num_grp_recs") + packet.numbers("icmpv6.mldr.nb_mcast_records")
