@@ -18,10 +18,11 @@ use Rattle.control_wire.specs.NdiscNeighborFlagsType.{NeighborFlags}
 use Rattle.control_wire.specs.NdiscPrefixInformationType.{PrefixInformation}
 use Rattle.control_wire.specs.NdiscRouterFlagsType.{RouterFlags}
 use Rattle.control_wire.specs.RawHardwareAddressType.{RawHardwareAddress}
-use Rattle.examples.specs.Neighbor.{NeighborIn}
+use Rattle.examples.specs.Neighbor.{NeighborIn, RequestIn}
 use Rattle.examples.specs.Ping.{IsGoodMessageV6}
 use Rattle.examples.specs.Router.{RouterIn, options_in, TellPrefixes}
 use Rattle.examples.specs.declared.neighbor.NeighborInformation.{NeighborInformation}
+use Rattle.examples.specs.declared.neighbor.NeighborRequest.{NeighborRequest}
 use Rattle.examples.specs.declared.router.RouterInformation.{RouterInformation}
 
 -- the message of neighbor discovery inside one of ICMPv6
@@ -63,6 +64,17 @@ one_neighbor destination neighbor flags addr lladdr is =
     ∙ ap (λ (a : Ipv6Address). neighbor_of neighbor.flags a lladdr) is.1
     ∙ ap (λ (l : Option RawHardwareAddress). neighbor_of neighbor.flags neighbor.addr l)
     (same_link lladdr neighbor.lladdr is.2)
+
+abbrev request_of : Ipv6Address → Option RawHardwareAddress → NeighborRequest
+request_of target lladdr = record { target = target; lladdr = lladdr }
+
+-- a solicitation looks for one thing
+pub one_request : (peer asked : Ipv6Address) (request : NeighborRequest) (target : Ipv6Address)
+    (lladdr : Option RawHardwareAddress)
+    → RequestIn peer asked request (neighbor_solicit target (link_of lladdr)) → request_of target lladdr ≡ request
+one_request peer asked request target lladdr is =
+    ap (λ (a : Ipv6Address). request_of a lladdr) is.0
+    ∙ ap (λ (l : Option RawHardwareAddress). request_of request.target l) (same_link lladdr request.lladdr is.1)
 
 abbrev router_of : ℕ → RouterFlags → Duration → Duration → Duration → Option RawHardwareAddress → Option ℕ
     → RouterInformation

@@ -13,6 +13,7 @@ use Rattle.control_wire.specs.NdiscNeighborFlagsType.{NeighborFlags}
 use Rattle.control_wire.specs.NdiscTables.{neighbor_bits}
 use Rattle.examples.specs.Ping.{IsGoodMessageV6}
 use Rattle.examples.specs.declared.neighbor.NeighborInformation.{NeighborInformation}
+use Rattle.examples.specs.declared.neighbor.NeighborRequest.{NeighborRequest}
 
 -- ---- addresses
 
@@ -58,6 +59,18 @@ LooksFor peer asked own (neighbor_solicit target told) =
     (octets_of target ≡ octets_of own) × (IsMulticast target → ⊥)
     × (IsUnspecified peer → IsSolicitedNode asked × (told ≡ None))
 LooksFor peer asked own v = ⊥
+
+-- what a message looks for that is a solicitation, and the link-layer address of its sender
+abbrev pub RequestIn : Ipv6Address → Ipv6Address → NeighborRequest → NdiscValue → Type 0
+RequestIn peer asked request (neighbor_solicit target told) =
+    (target ≡ request.target) × (told ≡ link_of request.lladdr) × (IsMulticast target → ⊥)
+    × (IsUnspecified peer → IsSolicitedNode asked × (told ≡ None))
+RequestIn peer asked request v = ⊥
+
+-- a valid solicitation, which looks for this
+abbrev pub TellsRequest : Ipv6Address → Ipv6Address → ℕ → List ℕ → NeighborRequest → Type 0
+TellsRequest peer asked hops bytes request =
+    (v : NdiscValue) × IsReceived peer asked hops bytes v × RequestIn peer asked request v
 
 -- a valid solicitation of the neighbor that has this address
 abbrev pub Solicits : Ipv6Address → Ipv6Address → ℕ → Ipv6Address → List ℕ → Type 0

@@ -1,15 +1,19 @@
--- The entries of the lists that a host keeps of routers, of prefixes on the link, and of recursive DNS servers.
-use Rattle.std.specs.Prelude.{ℕ, ◌-◌, ◌/◌, ◌^◌, ◌==◌, ◌&&◌, nat_eq, nat_lt, Bool, false, if◌then◌else◌}
+-- The entries of the lists that a host keeps of routers, of routes through them, of prefixes on the link, and of
+-- recursive DNS servers.
+use Rattle.std.specs.Prelude.{ℕ, ◌+◌, ◌-◌, ◌*◌, ◌/◌, ◌^◌, ◌==◌, ◌&&◌, nat_eq, nat_lt, Bool, false, if◌then◌else◌}
 use Rattle.std.specs.Prelude.{Option, None, Some}
 use Rattle.std.specs.Cmp.Lexicographic.{pointwise}
 use Rattle.std.specs.Int.{from_be_bytes, w128}
 use Rattle.control_wire.specs.Ipv6Address.{octets_of}
 use Rattle.control_wire.specs.Ipv6AddressType.{Ipv6Address}
+use Rattle.neighbor_wire.specs.declared.preference.Preference.{Preference}
 use Rattle.examples.specs.declared.router_list.entries.Lifetime.{Lifetime}
 use Rattle.examples.specs.declared.router_list.entries.Lifetime.TheVariants.{Seconds, Forever}
 use Rattle.examples.specs.declared.router_list.entries.DefaultRouter.{DefaultRouter}
 use Rattle.examples.specs.declared.router_list.entries.OnLinkPrefix.{OnLinkPrefix}
 use Rattle.examples.specs.declared.router_list.entries.PrefixKey.{PrefixKey}
+use Rattle.examples.specs.declared.router_list.entries.RouteEntry.{RouteEntry}
+use Rattle.examples.specs.declared.router_list.entries.RouteKey.{RouteKey}
 use Rattle.examples.specs.declared.router_list.entries.DnsServer.{DnsServer}
 
 -- ---- times
@@ -54,6 +58,43 @@ prefix_after passed entry =
     let valid = lifetime_after passed entry.valid in
     if is_over valid then None
     else Some (record entry { valid = valid; preferred = lifetime_after passed entry.preferred })
+
+-- an address has the first bits of a prefix
+abbrev pub is_within : ℕ → Ipv6Address → Ipv6Address → Bool
+is_within bits prefix address = network_of bits address == network_of bits prefix
+
+-- ---- routes through routers
+
+-- routes are the same where they lead through the same router to the same prefix
+abbrev pub same_route : RouteKey → RouteEntry → Bool
+same_route key entry =
+    same_address key.router entry.router
+    && (key.prefix_len == entry.prefix_len)
+    && (network_of key.prefix_len key.prefix == network_of key.prefix_len entry.prefix)
+
+abbrev pub route_after : ℕ → RouteEntry → Option RouteEntry
+route_after passed route =
+    let lifetime = lifetime_after passed route.lifetime in
+    if is_over lifetime then None else Some (record route { lifetime = lifetime })
+
+-- the rank of a preference (RFC 4191 section 2.1)
+abbrev pub preference_rank : Preference → ℕ
+preference_rank Preference.High = 3
+preference_rank Preference.Medium = 2
+preference_rank Preference.Reserved = 2
+preference_rank Preference.Low = 1
+
+-- The rank of a way to a destination: that of a longer prefix is higher, and of the same length that of the higher
+-- preference (RFC 4191 section 3.2); 0 where it does not lead there.
+abbrev pub route_rank : Ipv6Address → RouteEntry → ℕ
+route_rank destination route =
+    if is_within route.prefix_len route.prefix destination
+    then 3 * route.prefix_len + preference_rank route.preference
+    else 0
+
+-- a default router leads everywhere
+abbrev pub router_rank : DefaultRouter → ℕ
+router_rank router = preference_rank router.preference
 
 -- ---- recursive DNS servers
 

@@ -13,8 +13,9 @@ ghost use Rattle.control_wire.specs.Ndisc.{NdiscValue, CanEmit, text_len, value_
 ghost use Rattle.control_wire.specs.NdiscOptionsSeen.{link_of};
 ghost use Rattle.examples.specs.Neighbor.{IsUnspecified, IsSolicitedNode, solicited_node_prefix, IsSender};
 ghost use Rattle.examples.specs.Neighbor.{IsSolicitation, IsReceived, LooksFor, Solicits, IsAnswer, NeighborIn};
-ghost use Rattle.examples.specs.Neighbor.{TellsNeighbor};
+ghost use Rattle.examples.specs.Neighbor.{RequestIn, TellsNeighbor, TellsRequest};
 ghost use Rattle.examples.specs.declared.neighbor.NeighborInformation.{NeighborInformation as NeighborValue};
+ghost use Rattle.examples.specs.declared.neighbor.NeighborRequest.{NeighborRequest as RequestValue};
 
 use bitflags::Flags as _;
 use control_wire::icmpv6::{Packet, Repr};
@@ -178,6 +179,60 @@ pub fn solicits(
     match read(peer, asked, hop_limit, octets) {
         Some(message) => looks_for(&message, peer, asked, own),
         None => false,
+    }
+}
+
+/// What a solicitation looks for (RFC 4861 section 4.3).
+#[derive(Debug, PartialEq, Eq, Clone, Copy)]
+pub struct NeighborRequest {
+    /// The address that it looks for.
+    pub target: Ipv6Address,
+    /// The sender's link-layer address.
+    pub lladdr: Option<RawHardwareAddress>,
+}
+
+/// What a solicitation looks for, which came from `peer` with this hop limit and went to `asked`. None exactly where
+/// the octets are no valid solicitation (RFC 4861 section 7.1.1).
+pub fn request(
+    peer: &Ipv6Address,
+    asked: &Ipv6Address,
+    hop_limit: u8,
+    octets: &[u8],
+) -> Option<NeighborRequest>
+    ensures told { IfSome result (λ request. TellsRequest peer.now asked.now hop_limit octets.now request) }
+    ensures all { (request : RequestValue) → TellsRequest peer.now asked.now hop_limit octets.now request
+        → result ≡ Some request }
+{
+    match read(peer, asked, hop_limit, octets) {
+        Some(message) => request_in(&message, peer, asked),
+        None => None,
+    }
+}
+
+// What a message looks for.
+fn request_in(
+    message: &ndisc::Repr<'_>,
+    peer: &Ipv6Address,
+    asked: &Ipv6Address,
+) -> Option<NeighborRequest>
+    ensures sound { IfSome result (λ request. RequestIn peer.now asked.now request (content_of message.now)) }
+    ensures complete { (request : RequestValue) → RequestIn peer.now asked.now request (content_of message.now)
+        → result ≡ Some request }
+{
+    match *message {
+        ndisc::Repr::NeighborSolicit {
+            target_addr,
+            lladdr,
+        } => {
+            if !looks_for(message, peer, asked, &target_addr) {
+                return None;
+            }
+            Some(NeighborRequest {
+                target: target_addr,
+                lladdr,
+            })
+        }
+        _ => None,
     }
 }
 

@@ -1,5 +1,7 @@
+mod addresses;
 mod first;
 mod lease;
+mod link_parameters;
 mod listener_version1;
 mod member;
 mod membership;

@@ -2,7 +2,8 @@ use crate::testing::same;
 use control_wire::ndisc::NeighborFlags;
 use control_wire::{EthernetAddress, IPV6_LINK_LOCAL_ALL_NODES, Ipv6Address, RawHardwareAddress};
 use examples::neighbor::{
-    NeighborInformation, Reply, answer, neighbor, solicit, solicited_node, solicits,
+    NeighborInformation, NeighborRequest, Reply, answer, neighbor, request, solicit,
+    solicited_node, solicits,
 };
 use std::process::Abort;
 
@@ -245,4 +246,27 @@ fn is_not_read(
     octets: &[u8],
 ) {
     same(rt, neighbor(source, destination, hop_limit, octets), None);
+}
+
+#[test]
+fn a_solicitation_tells_what_it_looks_for(rt: HostRuntime) {
+    let (none, asked) = (Ipv6Address::UNSPECIFIED, asked());
+    let looks = NeighborRequest {
+        target: own(),
+        lladdr: Some(RawHardwareAddress::from(PEER_LINK_ADDRESS)),
+    };
+    same(
+        &rt,
+        request(&peer(), &asked, 255, &SOLICITATION),
+        Some(looks),
+    );
+    let looks = NeighborRequest {
+        lladdr: None,
+        ..looks
+    };
+    same(&rt, request(&none, &asked, 255, &WITH_NONCE), Some(looks));
+    same(&rt, request(&none, &asked, 255, &OF_NO_ONE), None);
+    same(&rt, request(&peer(), &asked, 255, &FOR_GROUP), None);
+    same(&rt, request(&peer(), &asked, 254, &SOLICITATION), None);
+    same(&rt, request(&own(), &peer(), 255, &ADVERTISEMENT), None);
 }

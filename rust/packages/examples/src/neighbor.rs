@@ -130,6 +130,52 @@ pub fn solicits(
     }
 }
 
+/// What a solicitation looks for (RFC 4861 section 4.3).
+#[derive(Debug, PartialEq, Eq, Clone, Copy)]
+pub struct NeighborRequest {
+    /// The address that it looks for.
+    pub target: Ipv6Address,
+    /// The sender's link-layer address.
+    pub lladdr: Option<RawHardwareAddress>,
+}
+
+/// What a solicitation looks for, which came from `peer` with this hop limit and went to `asked`. None exactly where
+/// the octets are no valid solicitation (RFC 4861 section 7.1.1).
+pub fn request(
+    peer: &Ipv6Address,
+    asked: &Ipv6Address,
+    hop_limit: u8,
+    octets: &[u8],
+) -> Option<NeighborRequest> {
+    match read(peer, asked, hop_limit, octets) {
+        Some(message) => request_in(&message, peer, asked),
+        None => None,
+    }
+}
+
+// What a message looks for.
+fn request_in(
+    message: &ndisc::Repr<'_>,
+    peer: &Ipv6Address,
+    asked: &Ipv6Address,
+) -> Option<NeighborRequest> {
+    match *message {
+        ndisc::Repr::NeighborSolicit {
+            target_addr,
+            lladdr,
+        } => {
+            if !looks_for(message, peer, asked, &target_addr) {
+                return None;
+            }
+            Some(NeighborRequest {
+                target: target_addr,
+                lladdr,
+            })
+        }
+        _ => None,
+    }
+}
+
 // Whether a message is a solicitation for this address.
 fn looks_for(
     message: &ndisc::Repr<'_>,

@@ -1,6 +1,8 @@
 // Made from crates/examples/src/router_list/entries.rt by rust/erase.
-//! The entries of the lists that a host keeps of routers, of prefixes on the link, and of recursive DNS servers.
+//! The entries of the lists that a host keeps of routers, of routes through them, of prefixes on the link, and of
+//! recursive DNS servers.
 
+use crate::ranked::Ranked;
 use crate::timed_list::Entry;
 use control_wire::Ipv6Address;
 use control_wire::neighbors::Preference;
@@ -144,8 +146,96 @@ impl Entry for OnLinkPrefix {
     }
 }
 
+/// A route through a router (RFC 4191 section 2.3).
+#[derive(Debug, PartialEq, Eq, Clone, Copy)]
+pub struct RouteEntry {
+    /// The router's address on the link.
+    pub router: Ipv6Address,
+    /// The bits of the prefix: 1 to 128.
+    pub prefix_len: u8,
+    /// The prefix. Its bits behind the first `prefix_len` say nothing.
+    pub prefix: Ipv6Address,
+    /// The preference of the route over others of the same prefix: high, medium or low.
+    pub preference: Preference,
+    /// How long the route is still valid.
+    pub lifetime: Lifetime,
+}
+
+impl Default for RouteEntry {
+    fn default() -> RouteEntry {
+        RouteEntry {
+            router: Ipv6Address::UNSPECIFIED,
+            prefix_len: 0,
+            prefix: Ipv6Address::UNSPECIFIED,
+            preference: Preference::Medium,
+            lifetime: Lifetime::Seconds(0),
+        }
+    }
+}
+
+/// What tells routes apart.
+#[derive(Debug, PartialEq, Eq, Clone, Copy)]
+pub struct RouteKey {
+    /// The router's address on the link.
+    pub router: Ipv6Address,
+    /// The bits of the prefix: 1 to 128.
+    pub prefix_len: u8,
+    /// The prefix, or an address with this prefix.
+    pub prefix: Ipv6Address,
+}
+
+impl Entry for RouteEntry {
+    type Key = RouteKey;
+
+    fn is_of(&self, key: &RouteKey) -> bool {
+        key.router == self.router
+            && key.prefix_len == self.prefix_len
+            && network(&key.prefix, key.prefix_len) == network(&self.prefix, key.prefix_len)
+    }
+
+    fn after(&self, passed: u32) -> Option<RouteEntry> {
+        let lifetime = self.lifetime.after(passed);
+        if lifetime.is_over() {
+            return None;
+        }
+        Some(RouteEntry { lifetime, ..*self })
+    }
+}
+
+// A longer prefix is better, and of the same length the higher preference (RFC 4191 section 3.2).
+impl Ranked for RouteEntry {
+    fn rank(&self, destination: &Ipv6Address) -> u32 {
+        if is_within(destination, &self.prefix, self.prefix_len) {
+            3 * self.prefix_len as u32 + preference_rank(self.preference)
+        } else {
+            0
+        }
+    }
+}
+
+// A default router leads everywhere.
+impl Ranked for DefaultRouter {
+    fn rank(&self, _destination: &Ipv6Address) -> u32 {
+        preference_rank(self.preference)
+    }
+}
+
+// The rank of a preference: 1 to 3.
+fn preference_rank(preference: Preference) -> u32 {
+    match preference {
+        Preference::High => 3,
+        Preference::Medium | Preference::Reserved => 2,
+        Preference::Low => 1,
+    }
+}
+
+/// Whether an address has the first bits of a prefix.
+pub(crate) fn is_within(address: &Ipv6Address, prefix: &Ipv6Address, prefix_len: u8) -> bool {
+    network(address, prefix_len) == network(prefix, prefix_len)
+}
+
 // The first bits of an address, as a number.
-fn network(address: &Ipv6Address, prefix_len: u8) -> u128 {
+pub(crate) fn network(address: &Ipv6Address, prefix_len: u8) -> u128 {
     let number = u128::from_be_bytes(address.octets());
     let behind = ADDRESS_BITS.saturating_sub(prefix_len as u32);
     number.checked_shr(behind).unwrap_or(0)

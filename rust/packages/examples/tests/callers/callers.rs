@@ -1,6 +1,8 @@
 // Made from crates/tests_examples/src/callers.rt by rust/erase.
+mod addresses;
 mod first;
 mod lease;
+mod link_parameters;
 mod listener_version1;
 mod member;
 mod membership;

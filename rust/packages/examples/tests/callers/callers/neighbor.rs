@@ -3,7 +3,8 @@ use crate::testing::same;
 use control_wire::ndisc::NeighborFlags;
 use control_wire::{EthernetAddress, IPV6_LINK_LOCAL_ALL_NODES, Ipv6Address, RawHardwareAddress};
 use examples::neighbor::{
-    NeighborInformation, Reply, answer, neighbor, solicit, solicited_node, solicits,
+    NeighborInformation, NeighborRequest, Reply, answer, neighbor, request, solicit,
+    solicited_node, solicits,
 };
 
 const PEER_LINK_ADDRESS: EthernetAddress = EthernetAddress([0x02, 0x00, 0x00, 0x00, 0x00, 0x01]);
@@ -235,4 +236,23 @@ fn advertisements_against_the_rules_are_not_read() {
 
 fn is_not_read(source: &Ipv6Address, destination: &Ipv6Address, hop_limit: u8, octets: &[u8]) {
     same(neighbor(source, destination, hop_limit, octets), None);
+}
+
+#[test]
+fn a_solicitation_tells_what_it_looks_for() {
+    let (none, asked) = (Ipv6Address::UNSPECIFIED, asked());
+    let looks = NeighborRequest {
+        target: own(),
+        lladdr: Some(RawHardwareAddress::from(PEER_LINK_ADDRESS)),
+    };
+    same(request(&peer(), &asked, 255, &SOLICITATION), Some(looks));
+    let looks = NeighborRequest {
+        lladdr: None,
+        ..looks
+    };
+    same(request(&none, &asked, 255, &WITH_NONCE), Some(looks));
+    same(request(&none, &asked, 255, &OF_NO_ONE), None);
+    same(request(&peer(), &asked, 255, &FOR_GROUP), None);
+    same(request(&peer(), &asked, 254, &SOLICITATION), None);
+    same(request(&own(), &peer(), 255, &ADVERTISEMENT), None);
 }
