@@ -1,233 +1,250 @@
-//! Membership of multicast groups: IGMP (RFC 3376) and MLD (RFC 3810), in the version that the querier speaks.
+//! Membership of multicast groups: IGMP (RFC 3376) and MLD (RFC 3810), in the version that the
+//! querier speaks.
 
-use super::Host;
-use control_wire::frames::{Addresses, Datagram};
-use control_wire::groups::{Membership, Message, RecordType, RecordsWriter};
-use control_wire::{
-    IPV6_LINK_LOCAL_ALL_ROUTERS, IpProtocol, Ipv4Address, Ipv6Address, Ipv6OptionRepr,
-};
+use super::*;
+use control_wire::frames::Datagram;
+use control_wire::groups::{Address, Family, Membership, Message, RecordsWriter};
+use control_wire::{Duration, IPV6_LINK_LOCAL_ALL_ROUTERS, Ipv6OptionRepr};
 use control_wire::{ipv6hbh, ipv6option::RouterAlert};
-use examples::listener::{self, version1};
-use examples::{member, neighbor};
+use examples::membership::{Filter, FilterMode, OlderQueriers};
+use examples::membership::{older_querier_time, report_change, report_response, spoken_version};
+use std::fmt::Display;
 use std::hash::{BuildHasher, Hasher, RandomState};
-use std::time::{Duration, Instant};
+use std::mem::take;
 
-/// Where reports go, and the leaves of older versions (RFC 3376 section 4.2.14, RFC 2236 section 3, RFC 3810 section
-/// 5.2.14).
-const IGMP_ROUTERS: Ipv4Address = Ipv4Address::new(224, 0, 0, 22);
-const ALL_ROUTERS: Ipv4Address = Ipv4Address::new(224, 0, 0, 2);
-const MLD_ROUTERS: Ipv6Address = Ipv6Address::new(0xff02, 0, 0, 0, 0, 0, 0, 0x16);
+/// How many milliseconds pass at most until a change is reported again (RFC 3376 section 8.11, RFC
+/// 3810 section 9.11).
+const STEP: u32 = 1_000;
 
-/// How long a querier of an older version counts after its query (RFC 3376 section 8.12, RFC 3810 section 9.12).
-const OLDER_TIME: Duration = Duration::from_secs(260);
+/// How many reports wait at most: a flood of queries takes no more memory.
+const MOST_REPORTS: usize = 256;
 
-/// How often a host says what nobody asked for (RFC 3376 section 8.11, RFC 3810 section 9.11), in these steps.
-const STEP: control_wire::Duration = control_wire::Duration::from_secs(1);
-
-const IGMP: usize = 0;
-const MLD: usize = 1;
-
-/// A part of a time, by chance.
-fn part_of(time: control_wire::Duration) -> Duration {
-    let chance = RandomState::new().build_hasher().finish() % 1_000;
-    Duration::from_micros(time.total_micros() / 1_000 * chance)
+/// A number up to this one, by chance.
+pub fn by_chance(most: u32) -> u32 {
+    (RandomState::new().build_hasher().finish() % (u64::from(most) + 1)) as u32
 }
 
-impl Host {
-    /// The older version of a protocol that a querier speaks.
-    fn older(&self, protocol: usize) -> Option<u8> {
-        let (version, until) = self.older[protocol];
-        (Instant::now() < until).then_some(version)
-    }
+/// The protocol of groups with such addresses, and whom its messages go to: reports, and leaves of
+/// older versions (RFC 3376 section 4.2.14, RFC 2236 section 3, RFC 3810 section 5.2.14, RFC 2710
+/// section 4).
+pub trait Group: Address + Display + PartialEq {
+    const NAME: &'static str;
+    const ALL: Self;
+    const REPORTS: Self;
+    const ROUTERS: Self;
+}
 
-    /// Notes the version of a query, and prints it.
-    fn note(&mut self, protocol: usize, version: u8, is_older: bool) {
-        // That of the oldest querier counts (RFC 3376 section 7.2.1).
-        if is_older && self.older(protocol).is_none_or(|older| version <= older) {
-            self.older[protocol] = (version, Instant::now() + OLDER_TIME);
+impl Group for Ipv4Address {
+    const NAME: &'static str = "IGMP";
+    const ALL: Ipv4Address = Ipv4Address::UNSPECIFIED;
+    const REPORTS: Ipv4Address = Ipv4Address::new(224, 0, 0, 22);
+    const ROUTERS: Ipv4Address = Ipv4Address::new(224, 0, 0, 2);
+}
+
+impl Group for Ipv6Address {
+    const NAME: &'static str = "MLD";
+    const ALL: Ipv6Address = Ipv6Address::UNSPECIFIED;
+    const REPORTS: Ipv6Address = Ipv6Address::new(0xff02, 0, 0, 0, 0, 0, 0, 0x16);
+    const ROUTERS: Ipv6Address = IPV6_LINK_LOCAL_ALL_ROUTERS;
+}
+
+/// The groups that a host is a member of, and what it is to report.
+pub struct Groups<A> {
+    joined: Vec<A>,
+    due: Vec<Due<A>>,
+    older: OlderQueriers,
+    older_time: Duration,
+}
+
+/// What is to be reported of a group in so many milliseconds: how it differs from what it was, or
+/// to a query of these sources, what it is.
+#[derive(Clone)]
+struct Due<A> {
+    left: u32,
+    group: A,
+    before: Option<FilterMode>,
+    asked: Vec<A>,
+}
+
+impl<A: Group> Groups<A> {
+    pub fn new() -> Groups<A> {
+        let (version1, version2) = (Duration::ZERO, Duration::ZERO);
+        Groups {
+            joined: Vec::new(),
+            due: Vec::new(),
+            older: OlderQueriers { version1, version2 },
+            older_time: Duration::from_secs(260),
         }
-        println!("query {} version {version}", ["IGMP", "MLD"][protocol]);
     }
 
-    /// Joins the group of IPv4: says so twice.
-    pub fn join_v4(&mut self) {
-        self.report_v4(RecordType::ChangeToExclude, &[]);
-        self.later(part_of(STEP), |host| {
-            host.report_v4(RecordType::ChangeToExclude, &[])
-        });
+    pub fn has(&self, group: &A) -> bool {
+        self.joined.contains(group)
     }
 
-    /// Says that the host is a member, in the version of the querier.
-    fn report_v4(&mut self, record_type: RecordType, sources: &[Ipv4Address]) {
-        let Some(group) = self.group_v4 else {
-            return;
-        };
-        let mut octets = vec![0; 20 + 4 * sources.len()];
-        let (to, len) = match self.older(IGMP) {
-            Some(1) => {
-                Message::OldestReport { group }.emit_igmp(&mut octets[..8]);
-                (group, 8)
+    /// Is a member of these groups from now on, of all their sources, and reports what changes.
+    fn set(&mut self, groups: Vec<A>) {
+        for group in take(&mut self.joined) {
+            match groups.contains(&group) {
+                true => self.joined.push(group),
+                false => self.change(group, FilterMode::Exclude),
             }
-            Some(_) => {
-                member::join(group, &mut octets[..8]);
-                (group, 8)
+        }
+        for group in groups {
+            if !self.has(&group) {
+                self.joined.push(group);
+                self.change(group, FilterMode::Include);
             }
-            None => {
-                let mut room = vec![0; octets.len()];
-                let mut writer = RecordsWriter::new(&mut room);
-                let _ = writer.push(record_type, group, sources);
-                let report = Message::Report {
-                    records: writer.records(),
-                };
-                report.emit_igmp(&mut octets[..report.buffer_len()]);
-                (IGMP_ROUTERS, report.buffer_len())
-            }
-        };
-        self.send_v4(to, IpProtocol::Igmp, &octets[..len]);
-        println!(
-            "report IGMP version {} {group}",
-            self.older(IGMP).unwrap_or(3)
-        );
+        }
     }
 
-    pub fn receive_igmp(&mut self, octets: &[u8]) -> Option<()> {
-        let query = Membership::parse_igmp(octets).ok()?;
-        let wait = part_of(query.max_resp_time()?);
-        let (group, sources) = match query {
-            Message::OlderQuery { group, .. } => (group, Vec::new()),
+    /// Reports all groups again, as one that does so from another address.
+    pub fn repeat(&mut self) {
+        for group in self.joined.clone() {
+            self.change(group, FilterMode::Include);
+        }
+    }
+
+    /// Reports a group twice that was in this mode.
+    fn change(&mut self, group: A, before: FilterMode) {
+        for left in [0, by_chance(STEP)] {
+            self.later(left, group, Some(before), &[]);
+        }
+    }
+
+    fn later(&mut self, left: u32, group: A, before: Option<FilterMode>, asked: &[A]) {
+        let asked = asked.to_vec();
+        if self.due.len() < MOST_REPORTS {
+            self.due.push(Due {
+                left,
+                group,
+                before,
+                asked,
+            });
+        }
+    }
+
+    /// Answers a query within the time that it tells.
+    fn hear(&mut self, query: &Membership<'_, A>) -> Option<()> {
+        let left = by_chance(query.max_resp_time()?.total_millis() as u32);
+        let (group, asked) = match query {
+            Message::OlderQuery { group, .. } => (*group, Vec::new()),
             Message::Query(query) => (query.group, query.sources.iter().collect()),
             _ => return None,
         };
-        self.note(IGMP, query.version(), query.version() < 3);
-        if group.is_unspecified() || Some(group) == self.group_v4 {
-            let record_type = match sources.is_empty() {
-                true => RecordType::ModeIsExclude,
-                false => RecordType::ModeIsInclude,
-            };
-            self.later(wait, move |host| host.report_v4(record_type, &sources));
-        }
-        Some(())
-    }
-
-    /// The groups of IPv6 that the host is in, but for that of all nodes.
-    pub fn groups_v6(&self) -> Vec<Ipv6Address> {
-        let addresses = self.own.iter().chain(&self.tentative);
-        let mut groups: Vec<_> = addresses.map(neighbor::solicited_node).collect();
-        groups.extend(self.group_v6);
-        groups.dedup();
-        groups
-    }
-
-    /// The source of reports: `::` as long as there is no other (RFC 3590 section 4).
-    fn listener(&self) -> Ipv6Address {
-        let own = self.own.iter().find(|own| own.is_link_local());
-        own.copied().unwrap_or(Ipv6Address::UNSPECIFIED)
-    }
-
-    /// Joins groups of IPv6: says so twice.
-    pub fn join_v6(&mut self, mut groups: Vec<Ipv6Address>) {
-        self.change_v6(&groups);
-        self.later(part_of(STEP), move |host| {
-            groups.retain(|group| host.groups_v6().contains(group));
-            host.change_v6(&groups);
-        });
-    }
-
-    fn change_v6(&mut self, groups: &[Ipv6Address]) {
-        let (own, mut out) = (self.listener(), vec![0; 8 + 20 * groups.len()]);
-        let records: Vec<_> = groups.iter().copied().map(listener::joins).collect();
-        if !groups.is_empty() && listener::report(&own, &records, &mut out).is_some() {
-            self.report_v6(own, groups, &out);
-        }
-    }
-
-    /// Sends this report about groups, or where the querier speaks version 1 one for each group; none where the host
-    /// has left one.
-    fn report_v6(&mut self, own: Ipv6Address, groups: &[Ipv6Address], report: &[u8]) {
-        let listening = self.groups_v6();
-        if !groups.iter().all(|group| listening.contains(group)) {
-            return;
-        }
-        let version = self.older(MLD).unwrap_or(2);
-        if version == 2 {
-            self.send_v6(own, MLD_ROUTERS, 1, report);
-        }
-        for group in groups {
-            let mut out = [0; version1::MESSAGE_LEN];
-            if version == 1 && version1::report(&own, group, &mut out).is_some() {
-                self.send_v6(own, *group, 1, &out);
-            }
-            println!("report MLD version {version} {group}");
-        }
-    }
-
-    /// Leaves the groups of both families, and says so; version 1 of IGMP has no message for it.
-    pub fn leave(&mut self) {
-        match (self.group_v4, self.older(IGMP)) {
-            (Some(_), None) => self.report_v4(RecordType::ChangeToInclude, &[]),
-            (Some(group), Some(2)) => {
-                let mut out = [0; member::MESSAGE_LEN];
-                member::leave(group, &mut out);
-                self.send_v4(ALL_ROUTERS, IpProtocol::Igmp, &out);
-            }
+        self.older_time = older_querier_time(query).unwrap_or(self.older_time);
+        match (A::family(), query.version()) {
+            (_, 1) => self.older.version1 = self.older_time,
+            (Family::Igmp, 2) => self.older.version2 = self.older_time,
             _ => {}
         }
-        if let Some(group) = self.group_v6 {
-            let (own, mut out) = (self.listener(), [0; 28]);
-            let (to, len) = match self.older(MLD) {
-                None => {
-                    let record = listener::leaves(group);
-                    (MLD_ROUTERS, listener::report(&own, &[record], &mut out))
-                }
-                Some(_) => (
-                    IPV6_LINK_LOCAL_ALL_ROUTERS,
-                    version1::done(&own, &group, &mut out),
-                ),
-            };
-            self.send_v6(own, to, 1, &out[..len.unwrap_or(0)]);
+        println!("query {} version {}", A::NAME, query.version());
+        for it in self.joined.clone() {
+            if it == group || group == A::ALL {
+                self.later(left, it, None, &asked);
+            }
         }
-        (self.group_v4, self.group_v6) = (None, None);
-        println!("left");
+        Some(())
     }
 
-    pub fn receive_mld(&mut self, datagram: &Datagram<'_>) -> Option<()> {
-        let (octets, hop_limit) = (datagram.payload, datagram.hop_limit);
-        let Addresses::V6(from, to) = datagram.addresses else {
-            return None;
+    pub fn pass(&mut self, milliseconds: u32) {
+        for due in &mut self.due {
+            due.left = due.left.saturating_sub(milliseconds);
+        }
+        for time in [&mut self.older.version1, &mut self.older.version2] {
+            let micros = 1_000 * u64::from(milliseconds);
+            *time = Duration::from_micros(time.total_micros().saturating_sub(micros));
+        }
+    }
+
+    /// The messages that are due now, each with the address that it goes to.
+    fn reports(&mut self, write: impl Fn(&Membership<'_, A>, A) -> Vec<u8>) -> Vec<(A, Vec<u8>)> {
+        let due = take(&mut self.due).into_iter();
+        let (now, later): (Vec<_>, Vec<_>) = due.partition(|due| due.left == 0);
+        self.due = later;
+        let messages = now.iter().map(|due| self.message(due, &write));
+        messages.flatten().collect()
+    }
+
+    fn message(
+        &self,
+        due: &Due<A>,
+        write: impl Fn(&Membership<'_, A>, A) -> Vec<u8>,
+    ) -> Option<(A, Vec<u8>)> {
+        let (group, is_member) = (due.group, self.has(&due.group));
+        let filter = |mode| Filter { mode, sources: &[] };
+        let state = if is_member {
+            filter(FilterMode::Exclude)
+        } else {
+            Filter::none()
         };
-        // A query has a router alert, and comes from the link (RFC 3810 section 6.2).
+        let mut octets = vec![0; 64 + 16 * due.asked.len()];
+        let mut records = RecordsWriter::new(&mut octets);
+        let mut room = due.asked.clone();
+        let fits = match due.before {
+            Some(before) => report_change(&mut records, group, &filter(before), &state, &mut []),
+            None => report_response(&mut records, group, &state, &due.asked, &mut room),
+        };
+        let (records, version) = (records.records(), spoken_version::<A>(&self.older));
+        let (to, message) = match (A::family(), version) {
+            _ if fits.is_err() || records.is_empty() => return None,
+            (Family::Igmp, 3) | (Family::Mld, 2) => (A::REPORTS, Message::Report { records }),
+            (Family::Igmp, 1) if !is_member => return None,
+            _ if !is_member => (A::ROUTERS, Message::Leave { group }),
+            (_, 1) => (group, Message::OldestReport { group }),
+            _ => (group, Message::OlderReport { group }),
+        };
+        println!("report {} version {version} {group}", A::NAME);
+        Some((to, write(&message, to)))
+    }
+}
+
+impl Host {
+    /// Is a member of its groups, those of its addresses too, and reports what is due.
+    pub fn report(&mut self) {
+        self.igmp.set(self.wanted_v4.into_iter().collect());
+        let write = |it: &Membership<'_, _>, _| {
+            written(it.buffer_len(), |octets| it.emit_igmp(octets), &[])
+        };
+        for (to, message) in self.igmp.reports(write) {
+            self.send_v4(to, IpProtocol::Igmp, &message);
+        }
+        let own = self.addresses.entries().iter();
+        let own = own.filter(|own| own.state != State::Duplicate);
+        let groups = own.map(|own| neighbor::solicited_node(&own.address));
+        self.mld.set(groups.chain(self.wanted_v6).collect());
+        // It is `::` as long as there is no other (RFC 3590 section 4).
+        let own = self.addresses.source(&self.link_local);
+        let own = own.unwrap_or(Ipv6Address::UNSPECIFIED);
+        let write = |it: &Membership<'_, _>, to| {
+            written(
+                it.buffer_len(),
+                |octets| it.emit_mld(octets, &own, &to),
+                &[],
+            )
+        };
+        for (to, message) in self.mld.reports(write) {
+            self.send_v6(own, to, 1, &message);
+        }
+    }
+
+    pub fn receive_igmp(&mut self, octets: &[u8]) -> Option<()> {
+        self.igmp.hear(&Membership::parse_igmp(octets).ok()?)
+    }
+
+    /// Takes a query, which has a router alert and comes from the link (RFC 3810 section 6.2).
+    pub fn receive_mld(
+        &mut self,
+        datagram: &Datagram<'_>,
+        from: Ipv6Address,
+        to: Ipv6Address,
+    ) -> Option<()> {
         let options = ipv6hbh::Header::new_unchecked(datagram.hop_by_hop?);
+        let options = ipv6hbh::Repr::parse(&options).ok()?.options;
         let alert = Ipv6OptionRepr::RouterAlert(RouterAlert::MulticastListenerDiscovery);
-        let has_alert = ipv6hbh::Repr::parse(&options)
-            .ok()?
-            .options
-            .contains(&alert);
-        if !has_alert || hop_limit != 1 || !from.is_link_local() {
+        if !options.contains(&alert) || datagram.hop_limit != 1 || !from.is_link_local() {
             return None;
         }
-        let query = Membership::parse_mld(octets, &from, &to).ok()?;
-        let asked = match query {
-            Message::OlderQuery { group, .. } => group,
-            Message::Query(query) => query.group,
-            _ => return None,
-        };
-        self.note(MLD, query.version(), query.version() == 1);
-        let (own, mut groups) = (self.listener(), self.groups_v6());
-        groups.retain(|group| asked.is_unspecified() || *group == asked);
-        let records: Vec<_> = groups.iter().copied().map(listener::listens).collect();
-        let mut out = vec![0; octets.len() + 8 + 20 * records.len()];
-        let wait = match query.version() {
-            1 => version1::max_delay(&from, &to, hop_limit, groups.first()?, octets)?,
-            _ => {
-                let answer =
-                    listener::answer(&from, &to, hop_limit, &own, &records, octets, &mut out)?;
-                out.truncate(answer.len);
-                answer.max_delay
-            }
-        };
-        self.later(part_of(wait), move |host| {
-            host.report_v6(own, &groups, &out)
-        });
-        Some(())
+        let query = Membership::parse_mld(datagram.payload, &from, &to);
+        self.mld.hear(&query.ok()?)
     }
 }

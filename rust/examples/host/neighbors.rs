@@ -1,224 +1,200 @@
-//! Neighbor discovery (RFC 4861) and the addresses that a host forms itself (RFC 4862).
+//! Neighbors, by ARP (RFC 826) and by neighbor discovery (RFC 4861), and the addresses that a host
+//! forms itself (RFC 4862).
 
-use super::Host;
-use super::link::{Way, prefix_of};
-use control_wire::frames::{Addresses, Datagram};
+use super::{link::on_ethernet, *};
+use control_wire::headers::{arp, ethernet};
 use control_wire::ndisc::NeighborFlags;
 use control_wire::neighbors::preference::router_preference;
-use control_wire::neighbors::{Names, NeighborOption, NeighborOptions, Preference, Prefix};
+use control_wire::neighbors::{NeighborOption, NeighborOptions};
 use control_wire::record::Name;
-use control_wire::{IPV6_LINK_LOCAL_ALL_ROUTERS, Ipv6Address, dns};
-use examples::{neighbor, router};
-use std::net::IpAddr;
-use std::time::{Duration, Instant};
-
-/// The bytes of a solicitation before its options.
-const SOLICITATION_LEN: usize = 24;
-
-/// How many addresses the host tries at most, whatever routers advertise.
-const MOST_ADDRESSES: usize = 16;
+use control_wire::{IPV6_LINK_LOCAL_ALL_ROUTERS, RawHardwareAddress, dns};
+use examples::neighbor::NeighborInformation;
+use examples::neighbor_cache::entry;
+use examples::router::{self, RouterInformation};
 
 impl Host {
-    /// Begins, as soon as the device is up, with the address of IPv4 and the link-local one (RFC 4862 section 5.3).
-    pub fn begin(&mut self) {
-        if !self.announce() {
-            return self.later(Duration::from_secs(1), |host| host.begin());
+    /// Learns of a neighbor, and prints its hardware address where it is new.
+    fn learn<T>(&mut self, of: Ipv6Address, learn: impl FnOnce(&mut NeighborCache) -> T) -> T {
+        let before = self.neighbors.look_up(&of).and_then(|it| it.lladdr);
+        let learned = learn(&mut self.neighbors);
+        match self.neighbors.look_up(&of).and_then(|it| it.lladdr) {
+            Some(hardware) if before != Some(hardware) => {
+                println!("neighbor {} {hardware}", unmapped(of))
+            }
+            _ => {}
         }
-        self.join_v4();
-        self.detect(self.link_local);
+        learned
     }
 
-    /// Looks whether an address is free: it is this host's if nobody says otherwise for a second (RFC 4862 section 5.4).
-    fn detect(&mut self, address: Ipv6Address) {
-        let known = [&self.own[..], &self.tentative, &self.taken].concat();
-        if known.contains(&address) || known.len() >= MOST_ADDRESSES {
-            return;
-        }
-        println!("tentative {address}");
-        self.tentative.push(address);
-        self.join_v6(vec![neighbor::solicited_node(&address)]);
-        self.solicit(Ipv6Address::UNSPECIFIED, address);
-        self.later(Duration::from_secs(1), move |host| host.take(address));
+    /// Learns that the sender of a message has this hardware address.
+    fn learn_sender(&mut self, from: Ipv6Address, hardware: Option<RawHardwareAddress>) {
+        self.learn(from, |cache| cache.learn_from_solicitation(&from, hardware));
     }
 
-    fn take(&mut self, address: Ipv6Address) {
-        if !self.tentative.contains(&address) {
-            return;
-        }
-        self.tentative.retain(|it| *it != address);
-        self.own.push(address);
-        println!("address {address}");
-        if address == self.link_local {
-            self.join_v6(self.groups_v6());
-            self.solicit_routers(3);
+    /// Learns what a neighbor says of itself.
+    fn learn_told(&mut self, told: &NeighborInformation) {
+        let time = self.link.reachable_time.total_millis() as u32;
+        if self.learn(told.addr, |cache| {
+            cache.learn_from_advertisement(told, time)
+        }) {
+            self.routers.remove_router(&told.addr);
         }
     }
 
-    /// Gives an address up that another host has. Without the link-local one there is no IPv6 (RFC 4862 section 5.4.5).
+    /// Asks for the neighbors that are due: for one that is known, at its own address.
+    pub fn ask(&mut self) {
+        let time = self.link.retrans_time.total_millis() as u32;
+        while let Some(entry) = self.neighbors.next_solicitation(time) {
+            let known = entry.lladdr.filter(|_| entry.state == entry::State::Probe);
+            if let IpAddr::V4(target) = unmapped(entry.address) {
+                let to = known.map_or(EthernetAddress::BROADCAST, on_ethernet);
+                self.send_arp(arp::Operation::Request, to, target.into());
+            } else if let Some(own) = self.addresses.source(&entry.address) {
+                let group = neighbor::solicited_node(&entry.address);
+                self.solicit(own, known.map_or(group, |_| entry.address), entry.address);
+            }
+        }
+    }
+
+    fn solicit(&mut self, own: Ipv6Address, to: Ipv6Address, target: Ipv6Address) {
+        let mut out = [0; 32];
+        let len = neighbor::solicit(&own, &to, &target, self.hardware, &mut out);
+        self.send_v6(own, to, 255, &out[..len.unwrap_or(0)]);
+    }
+
+    /// Sees whether its addresses are free (RFC 4862 section 5.4).
+    pub fn detect(&mut self) {
+        while let Some(own) = self.addresses.next_step() {
+            if own.state == State::Tentative {
+                println!("tentative {}", own.address);
+                let group = neighbor::solicited_node(&own.address);
+                self.solicit(Ipv6Address::UNSPECIFIED, group, own.address);
+                continue;
+            }
+            println!("address {}", own.address);
+            if own.address == self.link_local {
+                self.mld.repeat();
+                self.soliciting = Some(9);
+                self.solicit_routers();
+            }
+        }
+    }
+
+    /// Gives an address up that another host has or wants (RFC 4862 section 5.4.5).
     fn give_up(&mut self, address: Ipv6Address) {
-        println!("duplicate {address}");
-        self.tentative.retain(|it| *it != address);
-        self.taken.push(address);
+        if self.addresses.refuse(&address) {
+            println!("duplicate {address}");
+        }
     }
 
-    /// Solicits routers up to so many times, until one answers (RFC 4861 section 6.3.7).
-    fn solicit_routers(&mut self, times: u8) {
-        if times == 0 || self.ways.iter().any(|way| way.router.is_some()) {
-            return;
-        }
-        let mut out = [0; 16];
-        if let Some(len) = router::solicit(&self.link_local, self.hardware, &mut out) {
+    /// Solicits routers each four seconds, until one answers (RFC 4861 section 6.3.7).
+    pub fn solicit_routers(&mut self) {
+        let left = self.soliciting.unwrap_or(0);
+        self.soliciting = Some(left.saturating_sub(1));
+        let (own, mut out) = (self.link_local, [0; 16]);
+        if left % 4 == 1 && self.routers.routers.is_empty() {
             println!("solicits routers");
-            self.send_v6(
-                self.link_local,
-                IPV6_LINK_LOCAL_ALL_ROUTERS,
-                255,
-                &out[..len],
-            );
+            let len = router::solicit(&own, self.hardware, &mut out).unwrap_or(0);
+            self.send_v6(own, IPV6_LINK_LOCAL_ALL_ROUTERS, 255, &out[..len]);
         }
-        self.later(Duration::from_secs(4), move |host| {
-            host.solicit_routers(times - 1)
-        });
     }
 
-    pub fn receive_neighbor(&mut self, datagram: &Datagram<'_>) -> Option<()> {
-        let Addresses::V6(from, to) = datagram.addresses else {
+    fn send_arp(&mut self, kind: arp::Operation, to: EthernetAddress, target: Ipv4Address) -> bool {
+        let packet = arp::Repr {
+            operation: kind,
+            source_hardware_addr: self.hardware,
+            source_protocol_addr: self.v4,
+            target_hardware_addr: to,
+            target_protocol_addr: target,
+        };
+        let packet = written(arp::LEN, |octets| packet.emit_into(octets), &[]);
+        self.transmit(to, ethernet::ARP, &packet)
+    }
+
+    /// Announces the address of IPv4 (RFC 5227 section 2.3).
+    pub fn announce(&mut self) -> bool {
+        self.send_arp(arp::Operation::Request, EthernetAddress::BROADCAST, self.v4)
+    }
+
+    pub fn receive_arp(&mut self, octets: &[u8]) -> Option<()> {
+        let told = arp::Repr::parse(octets).ok()?;
+        if told.target_protocol_addr != self.v4 {
             return None;
-        };
-        let (octets, hop_limit) = (datagram.payload, datagram.hop_limit);
-        match *octets.first()? {
-            134 => self.receive_router(from, to, hop_limit, octets),
-            135 => {
-                let solicits =
-                    |own: &&Ipv6Address| neighbor::solicits(&from, &to, hop_limit, own, octets);
-                if let Some(own) = self.tentative.iter().find(solicits) {
-                    if from.is_unspecified() {
-                        self.give_up(*own);
-                    }
-                    return None;
-                }
-                let own = *self.own.iter().find(solicits)?;
-                println!("solicited {own} by {from}");
-                for option in NeighborOptions::new(&octets[SOLICITATION_LEN..]).flatten() {
-                    if let NeighborOption::SourceLinkLayerAddress(hardware) = option {
-                        self.learn(IpAddr::V6(from.into()), hardware);
-                    }
-                }
-                let mut out = [0; 32];
-                let answer =
-                    neighbor::answer(&from, &to, hop_limit, &own, self.hardware, octets, &mut out)?;
-                self.send_v6(own, answer.destination, 255, &out[..answer.len]);
-                Some(())
-            }
-            136 => {
-                let told = neighbor::neighbor(&from, &to, hop_limit, octets)?;
-                if self.tentative.contains(&told.addr) {
-                    self.give_up(told.addr);
-                }
-                // Of one that nobody looks for nothing is kept (RFC 4861 section 7.2.5).
-                let it = IpAddr::V6(told.addr.into());
-                let overrides = told.flags.contains(NeighborFlags::OVERRIDE);
-                if self.waiting.iter().any(|(next, _)| *next == it)
-                    || self.neighbors.contains_key(&it) && overrides
-                {
-                    self.learn(it, told.lladdr?.as_bytes())?;
-                }
-                Some(())
-            }
-            _ => None,
         }
-    }
-
-    /// Takes what a router advertises (RFC 4861 section 6.3.4, RFC 4191, RFC 8106).
-    fn receive_router(
-        &mut self,
-        from: Ipv6Address,
-        to: Ipv6Address,
-        hop_limit: u8,
-        octets: &[u8],
-    ) -> Option<()> {
-        let told = router::router_information(&from, &to, hop_limit, octets)?;
-        let preference = router_preference(octets[5]);
-        let seconds = told.lifetime.secs() as u32;
-        println!(
-            "router {from} lifetime={seconds} preference={preference} flags={} hop_limit={} \
-             reachable_time={} retrans_time={}",
-            told.flags,
-            told.hop_limit,
-            told.reachable_time.total_millis(),
-            told.retrans_time.total_millis()
-        );
-        if told.hop_limit > 0 {
-            self.hop_limit = told.hop_limit;
+        let (hardware, sender) = (told.source_hardware_addr, told.source_protocol_addr);
+        let (addr, lladdr) = (mapped(sender), Some(hardware.into()));
+        if told.operation == arp::Operation::Request {
+            self.send_arp(arp::Operation::Reply, hardware, sender);
+            self.learn_sender(addr, lladdr);
+        } else {
+            let flags = NeighborFlags::SOLICITED | NeighborFlags::OVERRIDE;
+            self.learn_told(&NeighborInformation {
+                addr,
+                flags,
+                lladdr,
+            });
         }
-        if let Some(hardware) = told.lladdr {
-            self.learn(IpAddr::V6(from.into()), hardware.as_bytes());
-        }
-        let default = Way {
-            address: Ipv6Address::UNSPECIFIED,
-            len: 0,
-            preference,
-            router: Some(from),
-            until: Instant::now(),
-        };
-        for option in NeighborOptions::new(router::options(octets)).flatten() {
-            match option {
-                NeighborOption::SearchList { lifetime, names } => {
-                    println!("search list lifetime={lifetime}{}", text_of(&names))
-                }
-                option => println!("{option}"),
-            }
-            match option {
-                NeighborOption::Mtu(mtu @ 1_280..=1_500) => self.mtu = mtu as usize,
-                NeighborOption::Prefix(prefix) if !prefix.prefix.is_link_local() => {
-                    self.take_prefix(&prefix)
-                }
-                NeighborOption::Route(route) if route.preference != Preference::Reserved => {
-                    let (address, len) = (route.destination(), route.prefix_len);
-                    let preference = route.preference;
-                    self.set_way(
-                        route.lifetime,
-                        Way {
-                            address,
-                            len,
-                            preference,
-                            ..default
-                        },
-                    );
-                }
-                _ => {}
-            }
-        }
-        self.set_way(seconds, default);
         Some(())
     }
 
-    fn take_prefix(&mut self, prefix: &Prefix) {
-        let (valid, preferred) = (prefix.valid_lifetime, prefix.preferred_lifetime);
-        if prefix.on_link {
-            let way = Way {
-                address: prefix.prefix,
-                len: prefix.prefix_len,
-                preference: Preference::Medium,
-                router: None,
-                until: Instant::now(),
-            };
-            self.set_way(valid, way);
+    /// Takes a message of neighbor discovery.
+    pub fn receive_ndisc(
+        &mut self,
+        from: Ipv6Address,
+        to: Ipv6Address,
+        hops: u8,
+        octets: &[u8],
+    ) -> Option<()> {
+        if let Some(told) = neighbor::neighbor(&from, &to, hops, octets) {
+            self.give_up(told.addr);
+            self.learn_told(&told);
+        } else if let Some(told) = router::router_information(&from, &to, hops, octets) {
+            self.routers.learn(&from, &to, hops, octets);
+            self.learn_router(from, &told, octets);
+        } else {
+            let asked = neighbor::request(&from, &to, hops, octets)?;
+            let own = self.addresses.look_up(&asked.target)?;
+            if own.state == State::Assigned {
+                println!("solicited {} by {from}", own.address);
+                self.learn_sender(from, asked.lladdr);
+                let (own, mut out) = (own.address, [0; 32]);
+                let answer =
+                    neighbor::answer(&from, &to, hops, &own, self.hardware, octets, &mut out)?;
+                self.send_v6(own, answer.destination, 255, &out[..answer.len]);
+            } else if from.is_unspecified() {
+                self.give_up(own.address);
+            }
         }
-        let forms = prefix.autonomous && prefix.prefix_len == 64 && 0 < valid && preferred <= valid;
-        if forms {
-            let rest = self.link_local.to_bits() & u128::from(u64::MAX);
-            self.detect(Ipv6Address::from_bits(prefix_of(prefix.prefix, 64) | rest));
+        Some(())
+    }
+
+    /// Takes what a router advertises (RFC 4861 section 6.3.4, RFC 8106).
+    fn learn_router(&mut self, from: Ipv6Address, told: &RouterInformation, octets: &[u8]) {
+        let (preference, flags) = (router_preference(octets[5]), told.flags);
+        let (lifetime, hop_limit) = (told.lifetime.secs(), told.hop_limit);
+        let reachable_time = told.reachable_time.total_millis();
+        let retrans_time = told.retrans_time.total_millis();
+        print!("router {from} lifetime={lifetime} preference={preference} flags={flags} ");
+        print!("hop_limit={hop_limit} reachable_time={reachable_time} ");
+        println!("retrans_time={retrans_time}");
+        self.link.learn(told);
+        self.learn_sender(from, told.lladdr);
+        for option in NeighborOptions::new(router::options(octets)).flatten() {
+            match option {
+                NeighborOption::SearchList { lifetime, names } => {
+                    let packet = dns::Packet::new_unchecked(&[0; 12]); // no name points to it
+                    let names = names
+                        .iter()
+                        .flatten()
+                        .flat_map(|it| Name::read(&packet, it));
+                    let names: String = names.map(|name| format!(" {name}")).collect();
+                    println!("search list lifetime={lifetime}{names}");
+                }
+                option => println!("{option}"),
+            }
+            if let NeighborOption::Prefix(prefix) = option {
+                self.addresses.learn_prefix(&prefix, &self.link_local);
+            }
         }
     }
-}
-
-/// The names of a search list, each after a space.
-fn text_of(names: &Names<'_>) -> String {
-    let packet = dns::Packet::new_unchecked(&[0; 12]); // to which no name here points
-    let names = names
-        .iter()
-        .flatten()
-        .flat_map(|name| Name::read(&packet, name));
-    names.map(|name| format!(" {name}")).collect()
 }
