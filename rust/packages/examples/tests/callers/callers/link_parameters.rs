@@ -5,24 +5,24 @@ use control_wire::ndisc::RouterFlags;
 use examples::link_parameters::LinkParameters;
 use examples::router::RouterInformation;
 
-fn told(hop_limit: u8, mtu: Option<u32>, reachable: u64, retrans: u64) -> RouterInformation {
+fn told(hop_limit: u8, mtu: Option<u32>, reachable: u32, retrans: u32) -> RouterInformation {
     RouterInformation {
         hop_limit,
         flags: RouterFlags::OTHER,
         lifetime: Duration::from_secs(0),
-        reachable_time: Duration::from_millis(reachable),
-        retrans_time: Duration::from_millis(retrans),
+        reachable_time: Duration::from_millis(reachable as u64),
+        retrans_time: Duration::from_millis(retrans as u64),
         lladdr: None,
         mtu,
     }
 }
 
-fn parameters(hop_limit: u8, mtu: u32, reachable: u64, retrans: u64) -> LinkParameters {
+fn parameters(hop_limit: u8, mtu: u32, reachable: u32, retrans: u32) -> LinkParameters {
     LinkParameters {
         hop_limit,
         mtu,
-        reachable_time: Duration::from_millis(reachable),
-        retrans_time: Duration::from_millis(retrans),
+        reachable_time: Duration::from_millis(reachable as u64),
+        retrans_time: Duration::from_millis(retrans as u64),
     }
 }
 
