@@ -8,6 +8,7 @@ mod membership;
 mod neighbor;
 mod neighbor_cache;
 mod ping;
+mod querier;
 mod resolver;
 mod router;
 mod router_list;

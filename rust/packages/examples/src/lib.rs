@@ -11,6 +11,7 @@ pub mod membership;
 pub mod neighbor;
 pub mod neighbor_cache;
 pub mod ping;
+pub mod querier;
 pub mod ranked;
 pub mod resolver;
 pub mod router;

@@ -9,6 +9,7 @@ mod membership;
 mod neighbor;
 mod neighbor_cache;
 mod ping;
+mod querier;
 mod resolver;
 mod router;
 mod router_list;

@@ -1,0 +1,233 @@
+//! What some host of a link wants: an entry of the list of a querier.
+
+ghost use Rattle.std.specs.Prelude.{◌≡◌, Bool, replicate};
+ghost use Rattle.std.specs.List.{find};
+ghost use Rattle.group_wire.specs.Family.{width};
+ghost use Rattle.examples.specs.Reception.{asked, is_due, is_meant, key_of, lowered, oldest_of, received, same_source};
+
+use crate::timed_list::Entry;
+use control_wire::{Ipv4Address, Ipv6Address};
+use group_wire::Address;
+
+/// An address of a group, of a source, or of a router. Of routers on a link, that with the lowest address asks (RFC 3376
+/// section 6.6.2, RFC 3810 section 7.6.2).
+pub trait RouterAddress: Address + PartialEq {
+    /// Whether an address, as a number, is below another.
+    ghost is_below: { Self → Self → Bool };
+
+    /// Whether it is below another.
+    fn is_below(&self, other: &Self) -> bool
+        ensures { result ≡ is_below self.now other.now };
+
+    /// The address `0.0.0.0` or `::`.
+    fn unspecified() -> Self
+        ensures { Self.bytes result ≡ replicate (width Self.family) 0 };
+}
+
+impl RouterAddress for Ipv4Address {
+    ghost use Rattle.std.specs.Prelude.{nat_lt};
+    ghost use Rattle.std.specs.Int.{from_be_bytes, w32};
+    ghost use Rattle.control_wire.specs.Ipv4.{octets_of};
+
+    ghost is_below = { λ a b. nat_lt (from_be_bytes w32 (octets_of a)) (from_be_bytes w32 (octets_of b)) };
+
+    fn is_below(&self, other: &Ipv4Address) -> bool {
+        u32::from_be_bytes(self.octets()) < u32::from_be_bytes(other.octets())
+    }
+
+    fn unspecified() -> Ipv4Address {
+        Ipv4Address::UNSPECIFIED
+    }
+}
+
+impl RouterAddress for Ipv6Address {
+    ghost use Rattle.std.specs.Prelude.{nat_lt};
+    ghost use Rattle.std.specs.Int.{from_be_bytes, w128};
+    ghost use Rattle.control_wire.specs.Ipv6Address.{octets_of};
+
+    ghost is_below = { λ a b. nat_lt (from_be_bytes w128 (octets_of a)) (from_be_bytes w128 (octets_of b)) };
+
+    fn is_below(&self, other: &Ipv6Address) -> bool {
+        u128::from_be_bytes(self.octets()) < u128::from_be_bytes(other.octets())
+    }
+
+    fn unspecified() -> Ipv6Address {
+        Ipv6Address::UNSPECIFIED
+    }
+}
+
+/// What some host of the link wants: a group, from this source or from all (RFC 3376 section 6.2). Times are in
+/// milliseconds.
+#[derive(Debug, PartialEq, Eq, Clone, Copy)]
+pub struct Reception<A> {
+    /// The group.
+    pub group: A,
+    /// The source. None for all sources.
+    pub source: Option<A>,
+    /// How long it still counts: the source timer, or the group timer.
+    pub left: u64,
+    /// How long a host of version 1 of IGMP still counts, which leaves without a message: as long no other one is
+    /// asked whether it is there (RFC 3376 section 7.3.2).
+    pub oldest: u64,
+    /// How many queries about it are left.
+    pub queries: u8,
+    /// The time until the next of them.
+    pub next: u64,
+}
+
+/// What tells receptions apart.
+#[derive(Debug, PartialEq, Eq, Clone, Copy)]
+pub struct ReceptionKey<A> {
+    /// The group.
+    pub group: A,
+    /// The source. None for all sources.
+    pub source: Option<A>,
+}
+
+// Which receptions are meant: all of a group, or one.
+#[derive(Debug, PartialEq, Eq, Clone, Copy)]
+pub(crate) enum Meant<A> {
+    Group(A),
+    One(ReceptionKey<A>),
+}
+
+impl<A: RouterAddress> Default for Reception<A> {
+    fn default() -> Reception<A> {
+        Reception {
+            group: A::unspecified(),
+            source: None,
+            left: 0,
+            oldest: 0,
+            queries: 0,
+            next: 0,
+        }
+    }
+}
+
+impl<A: RouterAddress> Entry for Reception<A> {
+    ghost use Rattle.examples.specs.Reception.{is_about, reception_after};
+
+    type Key = ReceptionKey<A>;
+
+    ghost is_of = { is_about A.eq };
+
+    ghost after = { reception_after };
+
+    fn is_of(&self, key: &ReceptionKey<A>) -> bool {
+        self.group == key.group && is_same(&self.source, &key.source)
+    }
+
+    fn after(&self, passed: u32) -> Option<Reception<A>> {
+        let passed = passed as u64;
+        if passed >= self.left {
+            return None;
+        }
+        Some(Reception {
+            left: self.left - passed,
+            oldest: self.oldest.saturating_sub(passed),
+            next: self.next.saturating_sub(passed),
+            ..*self
+        })
+    }
+}
+
+// Whether two sources are the same.
+fn is_same<A: PartialEq>(a: &Option<A>, b: &Option<A>) -> bool
+    ensures { result ≡ same_source A.eq a.now b.now }
+{
+    match (a, b) {
+        (Some(a), Some(b)) => a == b,
+        (None, None) => true,
+        _ => false,
+    }
+}
+
+impl<A: RouterAddress> Reception<A> {
+    /// What it is about.
+    pub fn key(&self) -> ReceptionKey<A>
+        ensures { result ≡ key_of self.now }
+    {
+        ReceptionKey {
+            group: self.group,
+            source: self.source,
+        }
+    }
+
+    // Whether it is meant.
+    fn is_meant(&self, meant: &Meant<A>) -> bool
+        ensures { result ≡ is_meant A.eq meant.now self.now }
+    {
+        match meant {
+            Meant::Group(group) => self.group == *group,
+            Meant::One(key) => self.is_of(key),
+        }
+    }
+
+    // The reception where a host leaves what is meant: it counts for no longer than this, and is asked about so often.
+    pub(crate) fn lowered(&self, meant: &Meant<A>, limit: u64, queries: u8) -> Reception<A>
+        ensures { result ≡ lowered A.eq meant.now limit queries self.now }
+    {
+        if self.is_meant(meant) && self.left > limit && self.oldest == 0 {
+            Reception {
+                left: limit,
+                queries,
+                next: 0,
+                ..*self
+            }
+        } else {
+            *self
+        }
+    }
+}
+
+// The reception that a host tells, with what was known of it.
+pub(crate) fn received<A: Copy>(
+    key: &ReceptionKey<A>,
+    time: u64,
+    oldest: u64,
+    before: Option<Reception<A>>,
+) -> Reception<A>
+    ensures { result ≡ received key.now time oldest before }
+{
+    Reception {
+        group: key.group,
+        source: key.source,
+        left: time,
+        oldest: oldest_of(before).max(oldest),
+        queries: 0,
+        next: 0,
+    }
+}
+
+// How long a host of version 1 of IGMP counts.
+fn oldest_of<A>(known: Option<Reception<A>>) -> u64
+    ensures { result ≡ oldest_of known }
+{
+    match known {
+        Some(reception) => reception.oldest,
+        None => 0,
+    }
+}
+
+// The first of these that is to be asked about now.
+pub(crate) fn next_due<A: Copy>(receptions: &[Reception<A>]) -> Option<Reception<A>>
+    ensures { result ≡ find is_due receptions.now }
+{
+    for reception in receptions {
+        if reception.next == 0 && reception.queries > 0 {
+            return Some(*reception);
+        }
+    }
+    None
+}
+
+// The reception that was asked about once more, and may be so again in this time.
+pub(crate) fn asked<A: Copy>(reception: &Reception<A>, interval: u64) -> Reception<A>
+    ensures { result ≡ asked interval reception.now }
+{
+    Reception {
+        queries: reception.queries.saturating_sub(1),
+        next: interval,
+        ..*reception
+    }
+}

@@ -1,0 +1,172 @@
+// Made from crates/examples/src/querier.rt by rust/erase.
+//! A router that asks the hosts of a link which multicast groups they want, and keeps what they answer: IGMP, versions
+//! 2 and 3 (RFC 2236 section 7, RFC 3376 section 6), over IPv4, and MLD, versions 1 and 2 (RFC 2710 section 5, RFC 3810
+//! section 7), over IPv6.
+//!
+//! It keeps which groups some host wants, from all sources or from single ones. Of sources that a host excludes it keeps
+//! nothing, as a group is wanted from them too where another host excludes others (RFC 5790 section 5). The caller
+//! brings messages, which came from the link, and the time, and sends the queries, to all hosts (224.0.0.1, `ff02::1`)
+//! or to the group, with hop limit 1 and a router alert.
+
+pub mod reception;
+mod reports;
+pub mod variables;
+
+use crate::timed_list::{pass, renew};
+use arrayvec::ArrayVec;
+use control_wire::groups::{Membership, Message, Sources};
+use reception::{Meant, Reception, ReceptionKey, RouterAddress, asked, next_due};
+use reports::{Change, hear_report, hear_sources, leave, receive};
+use variables::Times;
+
+/// What a query asks about.
+#[derive(Debug, PartialEq, Eq, Clone, Copy)]
+pub enum Asked<A> {
+    /// All groups.
+    All,
+    /// A group, or a source of it.
+    Reception(ReceptionKey<A>),
+}
+
+/// A router on a link, which is the querier where no other has a lower address. It keeps up to `N` receptions; one that
+/// finds the list full is not kept.
+pub struct Querier<A, const N: usize> {
+    own: A,
+    times: Times,
+    // The milliseconds for which another router is the querier.
+    other: u64,
+    // How many general queries of those at start are left, and the milliseconds until the next one.
+    startup: u8,
+    next: u64,
+    receptions: ArrayVec<Reception<A>, N>,
+}
+
+impl<A: RouterAddress, const N: usize> Querier<A, N> {
+    /// A router with this address on the link, which begins to ask.
+    pub fn new(own: A, times: Times) -> Querier<A, N> {
+        Querier {
+            own,
+            times,
+            other: 0,
+            startup: times.robustness,
+            next: 0,
+            receptions: ArrayVec::new(),
+        }
+    }
+
+    /// What the hosts of the link want, in the order in which it was first heard.
+    pub fn receptions(&self) -> &[Reception<A>] {
+        self.receptions.as_slice()
+    }
+
+    /// Whether it is the querier.
+    pub fn is_querier(&self) -> bool {
+        self.other == 0
+    }
+
+    /// Lets so many milliseconds pass: what no host asked for again in its time is dropped.
+    pub fn pass(&mut self, milliseconds: u32) {
+        self.other = self.other.saturating_sub(milliseconds as u64);
+        self.next = self.next.saturating_sub(milliseconds as u64);
+        pass(&mut self.receptions, milliseconds);
+    }
+
+    /// Takes a message that came from this address. A report says what a host wants, which counts for the group
+    /// membership interval. Where one leaves, the querier asks whether others are left, and waits no longer for them
+    /// than the last member query time (RFC 3376 section 6.4). A query from a lower address says that its sender is the
+    /// querier, and the time in which a group or source that it asks about is to be answered (RFC 3376 section 6.6). The
+    /// caller checks that a query did not come from the unspecified address, which is no router's.
+    pub fn hear(&mut self, source: &A, message: &Membership<'_, A>) {
+        let times = self.times;
+        match message {
+            Message::OlderQuery { group, .. } => {
+                self.hear_query(source, false, group, Sources::none());
+            }
+            Message::Query(query) => {
+                self.hear_query(source, query.s_flag, &query.group, query.sources);
+            }
+            Message::OldestReport { group } => self.hear_group(group, times.membership),
+            Message::OlderReport { group } => self.hear_group(group, 0),
+            Message::Leave { group } => {
+                let asks = self.asks();
+                let meant = Meant::Group(*group);
+                leave(&mut self.receptions, &meant, times.last_member_time, asks);
+            }
+            Message::Report { records } => {
+                let asks = self.asks();
+                hear_report(&mut self.receptions, records, &times, asks);
+            }
+        }
+    }
+
+    // A host wants a group from all sources, and is of version 1 of IGMP for this time.
+    fn hear_group(&mut self, group: &A, oldest: u64) {
+        let key = ReceptionKey {
+            group: *group,
+            source: None,
+        };
+        receive(&mut self.receptions, &key, self.times.membership, oldest);
+    }
+
+    // How often it asks where a host leaves. None where it is not the querier.
+    fn asks(&self) -> Option<u8> {
+        if self.other == 0 {
+            Some(self.times.robustness)
+        } else {
+            None
+        }
+    }
+
+    // Takes a query.
+    fn hear_query(&mut self, source: &A, s_flag: bool, group: &A, sources: Sources<'_, A>) {
+        if !source.is_below(&self.own) {
+            return;
+        }
+        self.other = self.times.other_querier;
+        self.startup = 0;
+        self.next = 0;
+        let times = self.times;
+        hear_asked(&mut self.receptions, s_flag, group, sources, &times);
+    }
+
+    /// The query that is to be sent now. It counts as sent: a general query is so again after the query interval, at
+    /// start after a quarter of it, and one of a group or source after the last member query interval, until its number
+    /// is reached or a host answers. None where none is, or where another router is the querier.
+    pub fn next_query(&mut self) -> Option<Asked<A>> {
+        if self.other > 0 {
+            return None;
+        }
+        if self.next == 0 {
+            self.next = self.times.after(self.startup);
+            self.startup = self.startup.saturating_sub(1);
+            return Some(Asked::All);
+        }
+        let reception = next_due(self.receptions.as_slice())?;
+        let key = reception.key();
+        let after = asked(&reception, self.times.last_member_interval);
+        let _kept = renew(&mut self.receptions, &key, after);
+        Some(Asked::Reception(key))
+    }
+}
+
+// What another router asks about is to be answered within the last member query time, but where the flag S is set.
+fn hear_asked<A: RouterAddress, const N: usize>(
+    receptions: &mut ArrayVec<Reception<A>, N>,
+    s_flag: bool,
+    group: &A,
+    sources: Sources<'_, A>,
+    times: &Times,
+) {
+    if s_flag {
+        return;
+    }
+    if sources.is_empty() {
+        let meant = Meant::One(ReceptionKey {
+            group: *group,
+            source: None,
+        });
+        leave(receptions, &meant, times.last_member_time, Some(0));
+    } else {
+        hear_sources(receptions, *group, sources, times, Change::Leaves(Some(0)));
+    }
+}
