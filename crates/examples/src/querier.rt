@@ -7,9 +7,11 @@
 //! brings messages, which came from the link, and the time, and sends the queries, to all hosts (224.0.0.1, `ff02::1`)
 //! or to the group, with hop limit 1 and a router alert.
 
-ghost use Rattle.std.specs.Prelude.{◌≡◌, ◌↔◌, IsTrue};
-ghost use Rattle.examples.specs.Querier.{asked_in, asks_in, initial, later, state_of, with_group, with_query};
+ghost use Rattle.std.specs.Prelude.{◌≡◌, ◌↔◌, IsTrue, option_map};
+ghost use Rattle.std.specs.List.{find};
+ghost use Rattle.examples.specs.Querier.{asked_in, asks_in, initial, later, state_of, with_asked, with_group, with_query};
 ghost use Rattle.examples.specs.Querier.{Hears, HearsAsked, HearsQuery};
+ghost use Rattle.examples.specs.Reception.{is_due, key_of};
 ghost use Rattle.group_wire.specs.Sources.{octets_in};
 
 pub mod reception;
@@ -167,11 +169,26 @@ impl<A: RouterAddress, const N: usize> Querier<A, N> {
             self.startup = self.startup.saturating_sub(1);
             return Some(Asked::All);
         }
-        let reception = next_due(self.receptions.as_slice())?;
-        let key = reception.key();
-        let after = asked(&reception, self.times.last_member_interval);
-        let _kept = renew(&mut self.receptions, &key, after);
-        Some(Asked::Reception(key))
+        ask(&mut self.receptions, self.times.last_member_interval)
+    }
+}
+
+// The first reception of which a query is due, and counts as sent.
+fn ask<A: RouterAddress, const N: usize>(
+    receptions: &mut ArrayVec<Reception<A>, N>,
+    interval: u64,
+) -> Option<Asked<A>>
+    ensures value { result ≡ option_map (λ r. Asked.Reception (key_of r)) (find is_due receptions.old.items) }
+    ensures list { receptions.new.items
+        ≡ with_asked A.eq N interval receptions.old.items (find is_due receptions.old.items) }
+{
+    match next_due(receptions.as_slice()) {
+        Some(reception) => {
+            let key = reception.key();
+            let _kept = renew(receptions, &key, asked(&reception, interval));
+            Some(Asked::Reception(key))
+        }
+        None => None,
     }
 }
 

@@ -1,13 +1,14 @@
 //! What some host of a link wants: an entry of the list of a querier.
 
-ghost use Rattle.std.specs.Prelude.{◌≡◌, Bool, replicate};
+ghost use Rattle.std.specs.Prelude.{◌≡◌, ◌≤◌, Bool, length, replicate};
 ghost use Rattle.std.specs.List.{find};
 ghost use Rattle.group_wire.specs.Family.{width};
+ghost use Rattle.group_wire.specs.Sources.{octets_in};
 ghost use Rattle.examples.specs.Reception.{asked, is_due, is_meant, key_of, lowered, oldest_of, received, same_source};
 
 use crate::timed_list::Entry;
 use control_wire::{Ipv4Address, Ipv6Address};
-use group_wire::Address;
+use group_wire::{Address, Sources};
 
 /// An address of a group, of a source, or of a router. Of routers on a link, that with the lowest address asks (RFC 3376
 /// section 6.6.2, RFC 3810 section 7.6.2).
@@ -22,6 +23,12 @@ pub trait RouterAddress: Address + PartialEq {
     /// The address `0.0.0.0` or `::`.
     fn unspecified() -> Self
         ensures { Self.bytes result ≡ replicate (width Self.family) 0 };
+
+    /// Writes the address over the front of the octets, and gives it as the source of a query. Requires as many as an
+    /// address has.
+    fn as_source<'a>(&self, octets: &'a mut [u8]) -> Sources<'a, Self>
+        requires { width Self.family ≤ length octets.old }
+        ensures { octets_in result ≡ Self.bytes self.now };
 }
 
 impl RouterAddress for Ipv4Address {
@@ -38,6 +45,13 @@ impl RouterAddress for Ipv4Address {
     fn unspecified() -> Ipv4Address {
         Ipv4Address::UNSPECIFIED
     }
+
+    fn as_source<'a>(&self, octets: &'a mut [u8]) -> Sources<'a, Ipv4Address> {
+        match Sources::write(&[*self], octets) {
+            Some(sources) => sources,
+            None => Sources::none(),
+        }
+    }
 }
 
 impl RouterAddress for Ipv6Address {
@@ -53,6 +67,13 @@ impl RouterAddress for Ipv6Address {
 
     fn unspecified() -> Ipv6Address {
         Ipv6Address::UNSPECIFIED
+    }
+
+    fn as_source<'a>(&self, octets: &'a mut [u8]) -> Sources<'a, Ipv6Address> {
+        match Sources::write(&[*self], octets) {
+            Some(sources) => sources,
+            None => Sources::none(),
+        }
     }
 }
 
@@ -200,7 +221,7 @@ pub(crate) fn received<A: Copy>(
 }
 
 // How long a host of version 1 of IGMP counts.
-fn oldest_of<A>(known: Option<Reception<A>>) -> u64
+fn oldest_of<A: Copy>(known: Option<Reception<A>>) -> u64
     ensures { result ≡ oldest_of known }
 {
     match known {

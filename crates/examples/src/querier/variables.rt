@@ -1,8 +1,7 @@
 //! The variables of a querier (RFC 3376 section 8, RFC 3810 section 9), the times that follow from them, and the queries
 //! that state them.
 
-ghost use Rattle.std.specs.Prelude.{◌≡◌, ◌≤◌, length};
-ghost use Rattle.std.specs.List.{concat};
+ghost use Rattle.std.specs.Prelude.{◌≡◌, ◌≤◌, ◌*◌, length};
 ghost use Rattle.group_wire.specs.Family.{width};
 ghost use Rattle.group_wire.specs.Membership.{value_of};
 ghost use Rattle.group_wire.specs.Sources.{octets_in};
@@ -142,11 +141,8 @@ fn source<'a, A: RouterAddress>(asked: &Asked<A>, octets: &'a mut [u8]) -> Sourc
     let Asked::Reception(key) = asked else {
         return Sources::none();
     };
-    let Some(source) = key.source else {
-        return Sources::none();
-    };
-    match Sources::write(&[source], octets) {
-        Some(sources) => sources,
+    match key.source {
+        Some(source) => source.as_source(octets),
         None => Sources::none(),
     }
 }
