@@ -2,10 +2,9 @@
 //! 2 and 3 (RFC 2236 section 7, RFC 3376 section 6), over IPv4, and MLD, versions 1 and 2 (RFC 2710 section 5, RFC 3810
 //! section 7), over IPv6.
 //!
-//! It keeps which groups some host wants, from all sources or from single ones. Of sources that a host excludes it keeps
-//! nothing, as a group is wanted from them too where another host excludes others (RFC 5790 section 5). The caller
-//! brings messages, which came from the link, and the time, and sends the queries, to all hosts (224.0.0.1, `ff02::1`)
-//! or to the group, with hop limit 1 and a router alert.
+//! It keeps which groups some host wants, from all sources or from single ones; where a host excludes sources, the group
+//! counts as wanted from all (RFC 5790 section 5). The caller brings the messages that came from the link, and the time,
+//! and sends the queries, to all hosts (224.0.0.1, `ff02::1`) or to the group, with hop limit 1 and a router alert.
 
 ghost use Rattle.std.specs.Prelude.{◌≡◌, ◌↔◌, IsTrue, option_map};
 ghost use Rattle.std.specs.List.{find};

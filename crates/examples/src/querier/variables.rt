@@ -18,7 +18,7 @@ use group_wire::{Membership, Message, Query, Sources};
 /// times of MLD below 32,768.
 #[derive(Debug, PartialEq, Eq, Clone, Copy)]
 pub struct Variables {
-    /// The robustness variable, by default 2. A query states one above 7 as 0.
+    /// The robustness variable, at least 1 and by default 2. A query states one above 7 as 0.
     pub robustness: u8,
     /// The query interval, by default 125 seconds.
     pub interval_code: u8,
