@@ -3,10 +3,9 @@
 //! 2 and 3 (RFC 2236 section 7, RFC 3376 section 6), over IPv4, and MLD, versions 1 and 2 (RFC 2710 section 5, RFC 3810
 //! section 7), over IPv6.
 //!
-//! It keeps which groups some host wants, from all sources or from single ones. Of sources that a host excludes it keeps
-//! nothing, as a group is wanted from them too where another host excludes others (RFC 5790 section 5). The caller
-//! brings messages, which came from the link, and the time, and sends the queries, to all hosts (224.0.0.1, `ff02::1`)
-//! or to the group, with hop limit 1 and a router alert.
+//! It keeps which groups some host wants, from all sources or from single ones; where a host excludes sources, the group
+//! counts as wanted from all (RFC 5790 section 5). The caller brings the messages that came from the link, and the time,
+//! and sends the queries, to all hosts (224.0.0.1, `ff02::1`) or to the group, with hop limit 1 and a router alert.
 
 pub mod reception;
 mod reports;
@@ -141,11 +140,22 @@ impl<A: RouterAddress, const N: usize> Querier<A, N> {
             self.startup = self.startup.saturating_sub(1);
             return Some(Asked::All);
         }
-        let reception = next_due(self.receptions.as_slice())?;
-        let key = reception.key();
-        let after = asked(&reception, self.times.last_member_interval);
-        let _kept = renew(&mut self.receptions, &key, after);
-        Some(Asked::Reception(key))
+        ask(&mut self.receptions, self.times.last_member_interval)
+    }
+}
+
+// The first reception of which a query is due, and counts as sent.
+fn ask<A: RouterAddress, const N: usize>(
+    receptions: &mut ArrayVec<Reception<A>, N>,
+    interval: u64,
+) -> Option<Asked<A>> {
+    match next_due(receptions.as_slice()) {
+        Some(reception) => {
+            let key = reception.key();
+            let _kept = renew(receptions, &key, asked(&reception, interval));
+            Some(Asked::Reception(key))
+        }
+        None => None,
     }
 }
 

@@ -2,7 +2,7 @@
 //! What some host of a link wants: an entry of the list of a querier.
 
 use crate::timed_list::Entry;
-use control_wire::groups::Address;
+use control_wire::groups::{Address, Sources};
 use control_wire::{Ipv4Address, Ipv6Address};
 
 /// An address of a group, of a source, or of a router. Of routers on a link, that with the lowest address asks (RFC 3376
@@ -13,6 +13,10 @@ pub trait RouterAddress: Address + PartialEq {
 
     /// The address `0.0.0.0` or `::`.
     fn unspecified() -> Self;
+
+    /// Writes the address over the front of the octets, and gives it as the source of a query. Requires as many as an
+    /// address has.
+    fn as_source<'a>(&self, octets: &'a mut [u8]) -> Sources<'a, Self>;
 }
 
 impl RouterAddress for Ipv4Address {
@@ -23,6 +27,13 @@ impl RouterAddress for Ipv4Address {
     fn unspecified() -> Ipv4Address {
         Ipv4Address::UNSPECIFIED
     }
+
+    fn as_source<'a>(&self, octets: &'a mut [u8]) -> Sources<'a, Ipv4Address> {
+        match Sources::write(&[*self], octets) {
+            Some(sources) => sources,
+            None => Sources::none(),
+        }
+    }
 }
 
 impl RouterAddress for Ipv6Address {
@@ -32,6 +43,13 @@ impl RouterAddress for Ipv6Address {
 
     fn unspecified() -> Ipv6Address {
         Ipv6Address::UNSPECIFIED
+    }
+
+    fn as_source<'a>(&self, octets: &'a mut [u8]) -> Sources<'a, Ipv6Address> {
+        match Sources::write(&[*self], octets) {
+            Some(sources) => sources,
+            None => Sources::none(),
+        }
     }
 }
 
@@ -163,7 +181,7 @@ pub(crate) fn received<A: Copy>(
 }
 
 // How long a host of version 1 of IGMP counts.
-fn oldest_of<A>(known: Option<Reception<A>>) -> u64 {
+fn oldest_of<A: Copy>(known: Option<Reception<A>>) -> u64 {
     match known {
         Some(reception) => reception.oldest,
         None => 0,

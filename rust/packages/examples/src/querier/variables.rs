@@ -11,7 +11,7 @@ use control_wire::groups::{Membership, Message, Query, Sources};
 /// times of MLD below 32,768.
 #[derive(Debug, PartialEq, Eq, Clone, Copy)]
 pub struct Variables {
-    /// The robustness variable, by default 2. A query states one above 7 as 0.
+    /// The robustness variable, at least 1 and by default 2. A query states one above 7 as 0.
     pub robustness: u8,
     /// The query interval, by default 125 seconds.
     pub interval_code: u8,
@@ -118,11 +118,8 @@ fn source<'a, A: RouterAddress>(asked: &Asked<A>, octets: &'a mut [u8]) -> Sourc
     let Asked::Reception(key) = asked else {
         return Sources::none();
     };
-    let Some(source) = key.source else {
-        return Sources::none();
-    };
-    match Sources::write(&[source], octets) {
-        Some(sources) => sources,
+    match key.source {
+        Some(source) => source.as_source(octets),
         None => Sources::none(),
     }
 }
