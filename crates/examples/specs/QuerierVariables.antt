@@ -1,6 +1,6 @@
 -- The variables of a querier, its times in milliseconds, and what its queries say (RFC 3376 sections 4.1 and 8, RFC
 -- 3810 sections 5.1 and 9).
-use Rattle.std.specs.Prelude.{ℕ, ◌+◌, ◌*◌, ◌/◌, nat_lt, Bool, false, if◌then◌else◌, Option, None, Some, List, []}
+use Rattle.std.specs.Prelude.{ℕ, ◌+◌, ◌*◌, ◌/◌, nat_lt, false, if◌then◌else◌, Option, None, Some, List, []}
 use Rattle.std.specs.Prelude.{replicate}
 use Rattle.group_wire.specs.declared.family.Family.{Family}
 use Rattle.group_wire.specs.Family.{width}

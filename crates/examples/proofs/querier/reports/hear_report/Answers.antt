@@ -1,6 +1,5 @@
 use Rattle.std.proofs.Common.{List, ℕ, subst}
 use Rattle.examples.specs.QuerierReports.{HearsRecords, ends, more}
-use Rattle.examples.specs.declared.querier.reception.Reception.{Reception}
 use Rattle.examples.proofs.querier.reports.hear_report.Goals as goal
 
 pub loop-record-preserved : goal.loop-record-preserved
