@@ -14,11 +14,13 @@ const DEFAULTS: Variables = Variables {
     last_member_code: 10,
 };
 
-const GROUP: Ipv4Address = Ipv4Address::new(233, 252, 0, 1);
+fn group() -> Ipv4Address {
+    Ipv4Address::new(233, 252, 0, 1)
+}
 
-const SOURCE: Ipv4Address = Ipv4Address::new(192, 0, 2, 77);
-
-const OTHER_SOURCE: Ipv4Address = Ipv4Address::new(192, 0, 2, 78);
+fn source() -> Ipv4Address {
+    Ipv4Address::new(192, 0, 2, 77)
+}
 
 // Reports and a leave of the group by versions 1 and 2 (RFC 2236 section 2).
 const OLDEST_REPORT: &[u8] = &[0x12, 0, 4, 2, 233, 252, 0, 1];
@@ -61,14 +63,14 @@ fn hear(querier: &mut Querier<Ipv4Address, 2>, octets: &[u8]) {
 
 fn key(source: Option<Ipv4Address>) -> ReceptionKey<Ipv4Address> {
     ReceptionKey {
-        group: GROUP,
+        group: group(),
         source,
     }
 }
 
 fn reception(source: Option<Ipv4Address>, left: u64) -> Reception<Ipv4Address> {
     Reception {
-        group: GROUP,
+        group: group(),
         source,
         left,
         oldest: 0,
@@ -88,7 +90,7 @@ fn asked(source: Option<Ipv4Address>) -> Reception<Ipv4Address> {
 // The general queries at start are 31.25 s apart, and then 125 s (RFC 3376 sections 8.2, 8.6 and 8.7).
 #[test]
 fn all_groups_are_asked_about_in_turn() {
-    let mut querier = Querier::<Ipv4Address, 2>::new(SOURCE, DEFAULTS.times::<Ipv4Address>());
+    let mut querier = Querier::<Ipv4Address, 2>::new(source(), DEFAULTS.times::<Ipv4Address>());
     for wait in [0, 31_250, 125_000, 125_000] {
         if wait > 0 {
             querier.pass(wait - 1);
@@ -121,17 +123,17 @@ fn times_are_those_of_the_defaults() {
 #[test]
 fn reports_say_what_hosts_want() {
     let all = reception(None, 260_000);
-    let source = reception(Some(SOURCE), 260_000);
+    let of_source = reception(Some(source()), 260_000);
     let rows: [(&[u8], &[Reception<Ipv4Address>]); 9] = [
         (INCLUDES, &[]),
         (LEAVE, &[]),
         (BLOCKS, &[]),
-        (ALLOWS, &[source]),
-        (BLOCKS, &[asked(Some(SOURCE))]),
-        (OLDER_REPORT, &[asked(Some(SOURCE)), all]),
-        (INCLUDES_SOURCE, &[source, asked(None)]),
-        (EXCLUDES, &[source, all]),
-        (LEAVE, &[asked(Some(SOURCE)), asked(None)]),
+        (ALLOWS, &[of_source]),
+        (BLOCKS, &[asked(Some(source()))]),
+        (OLDER_REPORT, &[asked(Some(source())), all]),
+        (INCLUDES_SOURCE, &[of_source, asked(None)]),
+        (EXCLUDES, &[of_source, all]),
+        (LEAVE, &[asked(Some(source())), asked(None)]),
     ];
     let mut querier = querier();
     for (message, wanted) in rows {
@@ -167,7 +169,7 @@ fn a_group_that_a_host_leaves_is_asked_about() {
     same(querier.receptions().len(), 0);
     hear(&mut querier, ALLOWS);
     hear(&mut querier, BLOCKS);
-    let of_source = Some(Asked::Reception(key(Some(SOURCE))));
+    let of_source = Some(Asked::Reception(key(Some(source()))));
     same(querier.next_query(), of_source);
     hear(&mut querier, ALLOWS);
     querier.pass(1_000);
@@ -199,10 +201,10 @@ fn a_full_list_keeps_what_it_has() {
     hear(&mut querier, EXCLUDES);
     hear(&mut querier, ALLOWS);
     let other = Message::OlderReport {
-        group: OTHER_SOURCE,
+        group: Ipv4Address::new(233, 252, 0, 2),
     };
-    querier.hear(&SOURCE, &other);
-    let kept = [reception(None, 260_000), reception(Some(SOURCE), 260_000)];
+    querier.hear(&source(), &other);
+    let kept = [reception(None, 260_000), reception(Some(source()), 260_000)];
     same(querier.receptions(), &kept);
 }
 
@@ -210,7 +212,7 @@ fn a_full_list_keeps_what_it_has() {
 fn query_of(sources: Sources<'_, Ipv4Address>, s_flag: bool) -> Membership<'_, Ipv4Address> {
     Message::Query(Query {
         max_resp_code: 10,
-        group: GROUP,
+        group: group(),
         s_flag,
         qrv: 2,
         qqic: 125,
@@ -224,7 +226,7 @@ fn query_of(sources: Sources<'_, Ipv4Address>, s_flag: bool) -> Membership<'_, I
 fn another_router_asks() {
     let lower = Ipv4Address::new(192, 0, 2, 8);
     let higher = Ipv4Address::new(192, 0, 2, 10);
-    let octets = SOURCE.octets();
+    let octets = source().octets();
     let of_source = query_of(Sources::new(&octets), false);
     let mut querier = querier();
     hear(&mut querier, ALLOWS);
@@ -232,15 +234,15 @@ fn another_router_asks() {
     same(querier.is_querier(), true);
     querier.hear(&lower, &query_of(Sources::new(&octets), true));
     same(querier.is_querier(), false);
-    same(querier.receptions(), &[reception(Some(SOURCE), 260_000)]);
+    same(querier.receptions(), &[reception(Some(source()), 260_000)]);
     querier.hear(&lower, &of_source);
-    same(querier.receptions(), &[reception(Some(SOURCE), 2_000)]);
+    same(querier.receptions(), &[reception(Some(source()), 2_000)]);
     hear(&mut querier, EXCLUDES);
     hear(&mut querier, LEAVE);
-    let wanted = [reception(Some(SOURCE), 2_000), reception(None, 260_000)];
+    let wanted = [reception(Some(source()), 2_000), reception(None, 260_000)];
     same(querier.receptions(), &wanted);
     querier.hear(&lower, &query_of(Sources::none(), false));
-    let wanted = [reception(Some(SOURCE), 2_000), reception(None, 2_000)];
+    let wanted = [reception(Some(source()), 2_000), reception(None, 2_000)];
     same(querier.receptions(), &wanted);
     querier.pass(254_999);
     same(querier.next_query(), None);
@@ -265,7 +267,7 @@ fn queries_state_the_variables() {
     let mut room = [0; 4];
     let all = Asked::All;
     let group = Asked::Reception(key(None));
-    let source = Asked::Reception(key(Some(SOURCE)));
+    let of_source = Asked::Reception(key(Some(source())));
     let wanted = [0x11, 100, 236, 30, 0, 0, 0, 0, 2, 125, 0, 0];
     states(&DEFAULTS.query(&all, &mut room), &wanted);
     let wanted = [0x11, 10, 2, 123, 233, 252, 0, 1, 2, 125, 0, 0];
@@ -273,11 +275,11 @@ fn queries_state_the_variables() {
     let wanted = [
         0x11, 10, 64, 44, 233, 252, 0, 1, 2, 125, 0, 1, 192, 0, 2, 77,
     ];
-    states(&DEFAULTS.query(&source, &mut room), &wanted);
+    states(&DEFAULTS.query(&of_source, &mut room), &wanted);
     let wanted = [0x11, 100, 238, 155, 0, 0, 0, 0];
     states(&DEFAULTS.older_query(&all), &wanted);
     let wanted = [0x11, 10, 4, 248, 233, 252, 0, 1];
-    states(&DEFAULTS.older_query(&source), &wanted);
+    states(&DEFAULTS.older_query(&of_source), &wanted);
 }
 
 #[test]
