@@ -2,14 +2,15 @@
 //! 2 and 3 (RFC 2236 section 7, RFC 3376 section 6), over IPv4, and MLD, versions 1 and 2 (RFC 2710 section 5, RFC 3810
 //! section 7), over IPv6.
 //!
-//! It keeps which groups some host wants, from all sources or from single ones; where a host excludes sources, the group
-//! counts as wanted from all (RFC 5790 section 5). The caller brings the messages that came from the link, and the time,
-//! and sends the queries, to all hosts (224.0.0.1, `ff02::1`) or to the group, with hop limit 1 and a router alert.
+//! It keeps which groups some host wants, from all sources or from single ones; where a host excludes sources, the
+//! group counts as wanted from all (RFC 5790 section 5). The caller brings the messages that came from the link, and
+//! the time, and sends the queries, to all hosts (224.0.0.1, `ff02::1`) or to the group, with hop limit 1 and a router
+//! alert.
 
 ghost use Rattle.std.specs.Prelude.{◌≡◌, ◌↔◌, IsTrue, option_map};
 ghost use Rattle.std.specs.List.{find};
-ghost use Rattle.examples.specs.Querier.{asked_in, asks_in, initial, later, state_of, with_asked, with_group, with_query};
-ghost use Rattle.examples.specs.Querier.{Hears, HearsAsked, HearsQuery};
+ghost use Rattle.examples.specs.Querier.{asked_in, asks_in, initial, later, state_of, with_asked, with_group};
+ghost use Rattle.examples.specs.Querier.{with_query, Hears, HearsAsked, HearsQuery};
 ghost use Rattle.examples.specs.Reception.{is_due, key_of};
 ghost use Rattle.group_wire.specs.Sources.{octets_in};
 
@@ -88,8 +89,8 @@ impl<A: RouterAddress, const N: usize> Querier<A, N> {
     /// Takes a message that came from this address. A report says what a host wants, which counts for the group
     /// membership interval. Where one leaves, the querier asks whether others are left, and waits no longer for them
     /// than the last member query time (RFC 3376 section 6.4). A query from a lower address says that its sender is the
-    /// querier, and the time in which a group or source that it asks about is to be answered (RFC 3376 section 6.6). The
-    /// caller checks that a query did not come from the unspecified address, which is no router's.
+    /// querier, and what it asks about counts for no longer than that time (RFC 3376 section 6.6). The caller checks
+    /// that a query did not come from the unspecified address, which is no router's.
     pub fn hear(&mut self, source: &A, message: &Membership<'_, A>)
         ensures { Hears A.eq A.bytes A.is_below A.family N source.now message.now
             (state_of self.old) (state_of self.new) }

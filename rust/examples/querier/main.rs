@@ -35,7 +35,7 @@ fn words<A: Protocol>(key: &ReceptionKey<A>) -> String {
 
 struct Router<A> {
     device: File,
-    hardware: Vec<u8>,
+    hardware: [u8; 6],
     own: A,
     version: u8,
     variables: Variables,
@@ -53,7 +53,7 @@ impl<A: Protocol> Router<A> {
             Asked::Reception(key) => (Some(key.group), format!(" {}", words(key))),
         };
         let [to, kind, packet] = A::frame(self.own, group, &query);
-        let frame = [to, self.hardware.clone(), kind, packet].concat();
+        let frame = [&to[..], &self.hardware, &kind, &packet].concat();
         self.device.write_all(&frame)?;
         println!("query {} version {}{about}", A::NAME, query.version());
         Ok(())
@@ -108,10 +108,8 @@ fn tell<A: Protocol>(
 fn start<A: Protocol>(own: A, words: &[String; 5]) -> Result<(), Box<dyn Error>> {
     let [name, hardware, _, version, seconds] = words;
     let octets = hardware.split(':').map(|it| u8::from_str_radix(it, 16));
-    let hardware = octets.collect::<Result<Vec<u8>, _>>()?;
-    if hardware.len() != 6 {
-        return Err("six octets, please".into());
-    }
+    let octets = octets.collect::<Result<Vec<u8>, _>>()?;
+    let hardware: [u8; 6] = octets.try_into().map_err(|_| "six octets, please")?;
     let seconds: u8 = seconds.parse()?;
     let variables = Variables {
         robustness: 2,

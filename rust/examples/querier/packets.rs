@@ -19,8 +19,8 @@ pub trait Protocol: RouterAddress + Display {
     /// The message of a frame, and who sent it.
     fn heard(frame: &[u8]) -> Option<(Self, Membership<'_, Self>)>;
 
-    /// The frame without its source, in three parts: where it goes, its type, and the packet with a query of a group, or
-    /// of all.
+    /// The frame without its source, in three parts: where it goes, its type, and the packet with a query of a group,
+    /// or of all.
     fn frame(own: Self, group: Option<Self>, query: &Membership<'_, Self>) -> [Vec<u8>; 3];
 }
 

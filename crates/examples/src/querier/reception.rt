@@ -10,8 +10,8 @@ use crate::timed_list::Entry;
 use control_wire::{Ipv4Address, Ipv6Address};
 use group_wire::{Address, Sources};
 
-/// An address of a group, of a source, or of a router. Of routers on a link, that with the lowest address asks (RFC 3376
-/// section 6.6.2, RFC 3810 section 7.6.2).
+/// An address of a group, of a source, or of a router. Of routers on a link, that with the lowest address asks (RFC
+/// 3376 section 6.6.2, RFC 3810 section 7.6.2).
 pub trait RouterAddress: Address + PartialEq {
     /// Whether an address, as a number, is below another.
     ghost is_below: { Self → Self → Bool };

@@ -1,5 +1,5 @@
-//! The variables of a querier (RFC 3376 section 8, RFC 3810 section 9), the times that follow from them, and the queries
-//! that state them.
+//! The variables of a querier (RFC 3376 section 8, RFC 3810 section 9), the times that follow from them, and the
+//! queries that state them.
 
 ghost use Rattle.std.specs.Prelude.{◌≡◌, ◌≤◌, ◌*◌, length};
 ghost use Rattle.group_wire.specs.Family.{width};
@@ -101,8 +101,8 @@ impl Variables {
         })
     }
 
-    /// The query of version 2 of IGMP or of version 1 of MLD, which asks about the group also where it is to ask about a
-    /// source.
+    /// The query of version 2 of IGMP or of version 1 of MLD, which asks about the group also where it is to ask about
+    /// a source.
     pub fn older_query<A: RouterAddress>(&self, asked: &Asked<A>) -> Membership<'static, A>
         ensures { value_of A.bytes result ≡ older_query_of A.bytes A.family self.now asked.now }
     {

@@ -29,8 +29,8 @@ const OLDER_REPORT: &[u8] = &[0x16, 0, 0, 2, 233, 252, 0, 1];
 
 const LEAVE: &[u8] = &[0x17, 0, 255, 1, 233, 252, 0, 1];
 
-// Reports of the group by version 3 (RFC 3376 section 4.2.12), one of whose source is 192.0.2.77: CHANGE_TO_EXCLUDE_MODE
-// and CHANGE_TO_INCLUDE_MODE of nothing, ALLOW_NEW_SOURCES, BLOCK_OLD_SOURCES and CHANGE_TO_INCLUDE_MODE.
+// Reports of the group by version 3 (RFC 3376 section 4.2.12): CHANGE_TO_EXCLUDE_MODE and CHANGE_TO_INCLUDE_MODE of
+// nothing, and ALLOW_NEW_SOURCES, BLOCK_OLD_SOURCES and CHANGE_TO_INCLUDE_MODE of 192.0.2.77.
 const EXCLUDES: &[u8] = &[0x22, 0, 240, 0, 0, 0, 0, 1, 4, 0, 0, 0, 233, 252, 0, 1];
 
 const INCLUDES: &[u8] = &[0x22, 0, 241, 0, 0, 0, 0, 1, 3, 0, 0, 0, 233, 252, 0, 1];

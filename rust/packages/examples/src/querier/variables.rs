@@ -1,6 +1,6 @@
 // Made from crates/examples/src/querier/variables.rt by rust/erase.
-//! The variables of a querier (RFC 3376 section 8, RFC 3810 section 9), the times that follow from them, and the queries
-//! that state them.
+//! The variables of a querier (RFC 3376 section 8, RFC 3810 section 9), the times that follow from them, and the
+//! queries that state them.
 
 use super::Asked;
 use super::reception::RouterAddress;
@@ -87,8 +87,8 @@ impl Variables {
         })
     }
 
-    /// The query of version 2 of IGMP or of version 1 of MLD, which asks about the group also where it is to ask about a
-    /// source.
+    /// The query of version 2 of IGMP or of version 1 of MLD, which asks about the group also where it is to ask about
+    /// a source.
     pub fn older_query<A: RouterAddress>(&self, asked: &Asked<A>) -> Membership<'static, A> {
         Message::OlderQuery {
             max_resp_code: self.code(asked),
