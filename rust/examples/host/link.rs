@@ -87,7 +87,10 @@ impl Host {
         let is_igmp = protocol == IpProtocol::Igmp;
         let options = if is_igmp { &ROUTER_ALERT[..] } else { &[] };
         self.ident = self.ident.wrapping_add(1);
-        for fragment in Fragments::new(message, ROOM_V4 - options.len()) {
+        for fragment in Fragments::new(message, ROOM_V4 - options.len())
+            .into_iter()
+            .flatten()
+        {
             let header = Header {
                 service: 0,
                 ident: self.ident as u16,
@@ -118,7 +121,10 @@ impl Host {
             payloads.push((IpProtocol::Icmpv6, message.to_vec()));
         } else {
             self.ident = self.ident.wrapping_add(1);
-            for fragment in Fragments::new(message, room - ipv6_fragment::LEN) {
+            for fragment in Fragments::new(message, room - ipv6_fragment::LEN)
+                .into_iter()
+                .flatten()
+            {
                 let header = ipv6_fragment::Header {
                     next_header: IpProtocol::Icmpv6,
                     frag_offset: fragment.frag_offset,
