@@ -9,7 +9,8 @@ use Rattle.extension_wire.specs.declared.refusal.SplitRefusal.{SplitRefusal}
 use Rattle.extension_wire.specs.declared.split.Parts.{Parts}
 use Rattle.quote_wire.specs.Icmpv4Error.{IsDatagram}
 use Rattle.quote_wire.specs.Icmpv6Error.{IsPacketFront}
-use Rattle.icmp_fields.specs.Extensions.{Division, IsDivision, division_of, quoted_in}
+use Rattle.icmp_fields.specs.Extensions.{Division, IsDivision, quoted_in}
+use Rattle.icmp_fields.specs.private.Reasons.{division_of}
 
 pub is_division : (f : Family) (n : ℕ) (bytes : List ℕ) (r : Result Parts SplitRefusal)
     → IfOk r (λ parts. IsSplit f n bytes (split.value_of parts)) → IfErr r (split.Refuses f n bytes)

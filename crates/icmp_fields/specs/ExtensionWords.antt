@@ -1,19 +1,7 @@
 -- Words about extensions.
 use Rattle.std.specs.Prelude.{◌==◌, ◌&&◌, ◌||◌, [], ◌∷◌, ◌++◌, List, ℕ, codes, flat_map, if◌then◌else◌, nat_le}
 use Rattle.wirebase.specs.Hexadecimal.{encode_lower}
-use Rattle.extension_wire.specs.ExtensionDisplay.{interface_refusal_display, label_refusal_display}
-use Rattle.extension_wire.specs.ExtensionDisplay.{object_refusal_display, split_refusal_display}
-use Rattle.extension_wire.specs.ExtensionDisplay.{structure_refusal_display}
 use Rattle.extension_wire.specs.declared.interface.Role.{Role}
-use Rattle.icmp_fields.specs.declared.extensions.words.Why.{Why}
-
--- why extensions are refused, or one of them, in the words of the library
-abbrev pub why_text : Why → List ℕ
-why_text (Why.Split why) = split_refusal_display why
-why_text (Why.Structure why) = structure_refusal_display why
-why_text (Why.Object why) = object_refusal_display why
-why_text (Why.Labels why) = label_refusal_display why
-why_text (Why.Interface why) = interface_refusal_display why
 
 -- the roles of interfaces (RFC 5837 section 4.1)
 abbrev pub role_name : Role → List ℕ

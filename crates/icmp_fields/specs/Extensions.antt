@@ -22,7 +22,6 @@ use Rattle.extension_wire.specs.declared.refusal.LabelRefusal.{LabelRefusal}
 use Rattle.extension_wire.specs.declared.refusal.ObjectRefusal.{ObjectRefusal}
 use Rattle.extension_wire.specs.declared.refusal.SplitRefusal.{SplitRefusal}
 use Rattle.extension_wire.specs.declared.refusal.StructureRefusal.{StructureRefusal}
-use Rattle.extension_wire.specs.declared.split.Parts.{Parts}
 use Rattle.packet_fields.specs.Entries.{hidden_value, keyed_value, refused_cells}
 use Rattle.packet_fields.specs.Fields.{Cell, Entry, Item, entries, field, leaf_or_missing, number, octets, text, truth}
 use Rattle.packet_fields.specs.Labels.{label_text}
@@ -157,10 +156,6 @@ AreExtensions (Some bytes) items = AreStructureItems bytes items
 -- what an error has behind its header: what is quoted and extensions, or why these are not told apart
 abbrev pub Division : Type 0
 Division = Result PartsValue SplitRefusal
-
-abbrev pub division_of : Result Parts SplitRefusal → Division
-division_of (Ok parts) = Ok (split.value_of parts)
-division_of (Err why) = Err why
 
 abbrev pub IsDivision : Family → ℕ → List ℕ → Division → Type 0
 IsDivision f n bytes (Ok parts) = IsSplit f n bytes parts

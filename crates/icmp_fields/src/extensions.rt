@@ -5,9 +5,9 @@
 ghost use Rattle.std.specs.Prelude.{◌≡◌, OnOk};
 ghost use Rattle.std.specs.Option.{option_map};
 ghost use Rattle.packet_fields.specs.Prints.{Prints, PrintsSome};
-ghost use Rattle.icmp_fields.specs.Extensions.{division_of, quoted_in, AreBehind, AreExtensions, AreStructureItems};
+ghost use Rattle.icmp_fields.specs.Extensions.{quoted_in, AreBehind, AreExtensions, AreStructureItems};
 ghost use Rattle.icmp_fields.specs.Extensions.{refused_items, refused_structure_items, AreObjectsItems};
-ghost use Rattle.icmp_fields.specs.ExtensionWords.{why_text};
+ghost use Rattle.icmp_fields.specs.private.Reasons.{division_of, why_text};
 
 mod objects;
 mod words;

@@ -8,7 +8,8 @@ ghost use Rattle.wirebase.specs.Display.{pieces};
 ghost use Rattle.wirebase.specs.Sink.{PutsText};
 ghost use Rattle.extension_wire.specs.ExtensionDisplay.{interface_refusal_display};
 ghost use Rattle.packet_fields.specs.Fields.{text};
-ghost use Rattle.icmp_fields.specs.ExtensionWords.{character, escaped, role_name, why_text};
+ghost use Rattle.icmp_fields.specs.ExtensionWords.{character, escaped, role_name};
+ghost use Rattle.icmp_fields.specs.private.Reasons.{why_text};
 
 use extension_wire::{
     InterfaceRefusal, LabelRefusal, ObjectRefusal, Role, SplitRefusal, StructureRefusal,

@@ -2,7 +2,8 @@
 use Rattle.std.proofs.Common.{◌≡◌, false, refl, subst, sym, true}
 use Rattle.extension_wire.specs.declared.family.Family.{Family}
 use Rattle.quote_wire.specs.Icmpv4Error.{IsDatagram, length_in, value_of}
-use Rattle.icmp_fields.specs.Extensions.{AreBehind, IsDivision, division_of}
+use Rattle.icmp_fields.specs.Extensions.{AreBehind, IsDivision}
+use Rattle.icmp_fields.specs.private.Reasons.{division_of}
 use Rattle.icmp_fields.specs.Icmp4.{AreErrorItems, error_items}
 use Rattle.icmp_fields.proofs.ExtensionEntries.{some_behind}
 use Rattle.icmp_fields.proofs.Quotes.{is_division, quoted_datagram}

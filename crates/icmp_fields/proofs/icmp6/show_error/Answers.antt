@@ -4,7 +4,8 @@ use Rattle.std.specs.Option.{option_map}
 use Rattle.quote_wire.specs.Upper.{value_of as upper_of}
 use Rattle.extension_wire.specs.declared.family.Family.{Family}
 use Rattle.quote_wire.specs.Icmpv6Error.{IsPacketFront, length_in, value_of}
-use Rattle.icmp_fields.specs.Extensions.{AreBehind, IsDivision, division_of}
+use Rattle.icmp_fields.specs.Extensions.{AreBehind, IsDivision}
+use Rattle.icmp_fields.specs.private.Reasons.{division_of}
 use Rattle.icmp_fields.specs.Icmp6.{AreErrorItems, error_items}
 use Rattle.icmp_fields.proofs.ExtensionEntries.{some_behind}
 use Rattle.icmp_fields.proofs.Quotes.{is_division, quoted_packet}
