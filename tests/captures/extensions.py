@@ -74,7 +74,7 @@ def plain(number, kind, data, *why):
 
 
 def labels(data):
-    """Entries of 4 octets (RFC 3032 section 2.1): a label of 20 bits, a class of 3, the bottom, and the time to live."""
+    """Entries of 4 octets (RFC 3032 section 2.1): a label of 20 bits, a class of 3, the bottom, and a time to live."""
     if len(data) % 4:
         raise Broken("the stack of labels ends within an entry")
     return [Entry(("object", "mpls_label"), ("label", be(data[at:at + 3]) >> 4),

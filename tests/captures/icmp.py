@@ -134,8 +134,8 @@ def quote6(quote):
 
 
 def upper(protocol, octets):
-    """The protocol that headers lead to, and the octets from there on (RFC 8200 section 4); none behind a header that is
-    cut, and in a later fragment."""
+    """The protocol that headers lead to, and the octets from there on (RFC 8200 section 4); none behind a header that
+    is cut, and in a later fragment."""
     while protocol in EXTENSIONS or protocol == FRAGMENT:
         length = 8 if protocol == FRAGMENT else extension_len(octets)
         if len(octets) < length or protocol == FRAGMENT and be(octets[2:4]) >> 3:

@@ -1,6 +1,6 @@
-"""Messages of ICMP that are neither errors nor echoes, as items behind their type and code: timestamps (RFC 792), address
-masks (RFC 950), solicitations and advertisements of routers (RFC 1256), extended echoes (RFC 8335), and node information
-(RFC 4620)."""
+"""Messages of ICMP that are neither errors nor echoes, as items behind their type and code: timestamps (RFC 792),
+address masks (RFC 950), solicitations and advertisements of routers (RFC 1256), extended echoes (RFC 8335), and node
+information (RFC 4620)."""
 import struct
 
 from frames import Refused

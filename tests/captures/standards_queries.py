@@ -30,7 +30,8 @@ def node(kind, code, qtype, flags, data=b""):
 
 QUERIES = {
     "icmp4_timestamps": raw(
-        icmp4(13, 0, NUMBERS, TIMES[:4] + b"\0" * 8), icmp4(14, 0, NUMBERS, TIMES), icmp4(14, 0, NUMBERS, TIMES + b"\7")),
+        icmp4(13, 0, NUMBERS, TIMES[:4] + b"\0" * 8), icmp4(14, 0, NUMBERS, TIMES),
+        icmp4(14, 0, NUMBERS, TIMES + b"\7")),
     "icmp4_timestamps_that_are_refused": raw(
         icmp4(13, 1, NUMBERS, TIMES), icmp4(14, 0, NUMBERS, TIMES[:11]), icmp4(13, 0, NUMBERS)),
     "icmp4_address_masks": raw(

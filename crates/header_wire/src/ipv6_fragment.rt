@@ -1,6 +1,6 @@
 //! The fragment header of IPv6 (RFC 8200 section 4.5).
 
-ghost use Rattle.std.specs.Prelude.{◌≡◌, ◌≤◌, ◌<◌, ◌^◌, length, IfOk, IfErr, IsOkAnd};
+ghost use Rattle.std.specs.Prelude.{◌≡◌, ◌<◌, IfOk, IfErr, IsOkAnd};
 ghost use Rattle.wirebase.specs.Bytes.{over};
 ghost use Rattle.wirebase.specs.Format.{Rewrites};
 ghost use Rattle.header_wire.specs.Ipv6Fragment.{Packet, packet_of, text_len, text, IsPacket, Refuses, CanEmit};

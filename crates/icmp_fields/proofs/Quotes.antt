@@ -1,5 +1,6 @@
 -- What an error quotes without its extensions begins with the quoted header too.
-use Rattle.std.proofs.Common.{◌≡◌, ◌∙◌, ◌*◌, ◌≤◌, [], ◌∷◌, Err, IfErr, IfOk, List, Ok, Result, arith, length, suc, sym, subst}
+use Rattle.std.proofs.Common.{◌∙◌, ◌*◌, ◌≤◌, [], ◌∷◌, Err, IfErr, IfOk, List, Ok, Result, arith, length}
+use Rattle.std.proofs.Common.{suc, sym, subst}
 use Rattle.std.proofs.Common.{take, zero, ℕ}
 use Rattle.std.proofs.lemmas.List.{length-take, take_all}
 use Rattle.extension_wire.specs.Split as split

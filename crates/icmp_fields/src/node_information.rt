@@ -9,7 +9,7 @@ ghost use Rattle.packet_fields.specs.Prints.{Prints};
 ghost use Rattle.icmp_fields.specs.Names.{name_in};
 ghost use Rattle.icmp_fields.specs.NodeInformation.{wrong_node, qtype_names, flags_items, fields_items, subject_items};
 ghost use Rattle.icmp_fields.specs.NodeInformation.{whole_entry, cut_entry, address_entry, entry_len};
-ghost use Rattle.icmp_fields.specs.NodeInformation.{addresses_items, answer_items, query_items, reply_items};
+ghost use Rattle.icmp_fields.specs.NodeInformation.{answer_items, query_items, reply_items};
 ghost use Rattle.icmp_fields.specs.NodeInformation.{named_flags, address_or_data, subject_addr_items, data_items};
 ghost use Rattle.icmp_fields.specs.NodeInformation.{address_flags, other_flags};
 

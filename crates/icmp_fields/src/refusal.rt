@@ -2,7 +2,7 @@
 
 #![tactic(auto, using(wirebase::proofs::Sinks::puts))]
 
-ghost use Rattle.std.specs.Prelude.{◌++◌, Some, codes, decimal};
+ghost use Rattle.std.specs.Prelude.{Some};
 ghost use Rattle.wirebase.specs.Sink.{PutsText};
 ghost use Rattle.packet_fields.specs.Fields.{text};
 ghost use Rattle.icmp_fields.specs.Refusal.{refusal_text, code_text, size_text};

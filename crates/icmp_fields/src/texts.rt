@@ -2,7 +2,7 @@
 
 #![tactic(auto, using(wirebase::proofs::Sinks::puts, wirebase::proofs::Sinks::put_none))]
 
-ghost use Rattle.std.specs.Prelude.{◌++◌, ◌≡◌, ◌-◌, ◌<◌, ◌≤◌, ◌^◌, [], ◌∷◌, codes, decimal, flat_map};
+ghost use Rattle.std.specs.Prelude.{◌++◌, ◌-◌, ◌<◌, [], ◌∷◌, codes, decimal, flat_map};
 ghost use Rattle.wirebase.specs.Hexadecimal.{encode_lower};
 ghost use Rattle.wirebase.specs.Sink.{PutsText};
 ghost use Rattle.packet_fields.specs.Fields.{text};

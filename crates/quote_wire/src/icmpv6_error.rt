@@ -247,9 +247,9 @@ impl<'a> Repr<'a> {
     }
 
     /// The quoted packet and the extensions behind it (RFC 4884 section 4), told apart by the error's length: the first
-    /// byte of `rest`, in words of 8 bytes, of destination unreachable and time exceeded. The other types have none, and
-    /// where it is 0, all is quoted. Refused where the packet has fewer than 128 bytes by its length, or more than there
-    /// are.
+    /// byte of `rest`, in words of 8 bytes, of destination unreachable and time exceeded. The other types have none,
+    /// and where it is 0, all is quoted. Refused where the packet has fewer than 128 bytes by its length, or more than
+    /// there are.
     ///
     /// ```
     /// use quote_wire::icmpv6_error::{Kind, Repr};

@@ -1,7 +1,7 @@
 //! Fragment headers of IPv6 as tcpdump shows them, and the parts of payloads: those of RFC 791 appendix A, and those
 //! that Linux sends.
 
-ghost use Rattle.std.specs.Prelude.{◌≡◌, ◌≤◌, ◌<◌, ◌^◌, length};
+ghost use Rattle.std.specs.Prelude.{◌≡◌, ◌<◌, ◌^◌};
 
 use crate::testing::{prints, same, same_of, takes_writes};
 use header_wire::fragments::MAX_PAYLOAD_LEN;

@@ -43,8 +43,8 @@ fn captured_queries_and_responses(rt: HostRuntime) {
         ",\"questions\":[{\"kind\":\"question\",\"name\":\"a.example.test.\",\"type\":\"A\",\"count\":2}],\
         \"rcodes\":[{\"kind\":\"rcode\",\"rcode\":\"NOERROR\",\"count\":3}],\
         \"servers\":[{\"kind\":\"server\",\"addr\":\"192.0.2.1\",\"count\":3,\"times\":3,\
-        \"median_ns\":100000,\"percentile_99_ns\":46200999}],\"clients\":[],\"leases\":[],\"members\":[],\"sources\":[],\
-        \"neighbors\":[],\"routers\":[],\"prefixes\":[]",
+        \"median_ns\":100000,\"percentile_99_ns\":46200999}],\"clients\":[],\"leases\":[],\"members\":[],\
+        \"sources\":[],\"neighbors\":[],\"routers\":[],\"prefixes\":[]",
     );
 }
 

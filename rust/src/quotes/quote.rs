@@ -58,8 +58,8 @@ pub struct Ipv4Quote<'a> {
 
 impl<'a> Ipv4Quote<'a> {
     /// The quote in these octets, which are `icmpv4_error::Repr::quoted`, or what its `parts` has of it. Refused where
-    /// they are not the start of a datagram of version 4: a header of 20 bytes or more by its own length, and 8 bytes or
-    /// more after it.
+    /// they are not the start of a datagram of version 4: a header of 20 bytes or more by its own length, and 8 bytes
+    /// or more after it.
     pub fn parse(octets: &'a [u8]) -> Result<Ipv4Quote<'a>> {
         if !is_datagram(octets) {
             return Err(Error);

@@ -7,7 +7,7 @@ ghost use Rattle.wirebase.specs.Bytes.{over};
 ghost use Rattle.packet_fields.specs.Entries.{PrintsEntry};
 ghost use Rattle.packet_fields.specs.Fields.{Fits};
 ghost use Rattle.packet_fields.specs.Prints.{PrintsCells};
-ghost use Rattle.neighbor_fields.specs.NdiscOptions.{entry_with, filled, length_bits, length_code, lifetime_cells};
+ghost use Rattle.neighbor_fields.specs.NdiscOptions.{entry_with, filled, length_bits, lifetime_cells};
 ghost use Rattle.neighbor_fields.specs.NdiscOptions.{nat64_entry, nonce_entry, other_entry, portal_entry};
 ghost use Rattle.neighbor_fields.specs.NdiscOptions.{preference_cells, route_entry, search_list_entry};
 ghost use Rattle.neighbor_fields.specs.NdiscOptions.{servers_entry, wrong_other};
