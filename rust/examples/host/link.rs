@@ -4,7 +4,6 @@
 use super::*;
 use control_wire::headers::{Fragments, Header, ROUTER_ALERT, ethernet, ipv6_fragment};
 use control_wire::{IPV6_HEADER_LEN, Ipv6Repr, RawHardwareAddress};
-use examples::listener;
 use std::io::Write;
 use std::mem::take;
 use std::net::{Ipv4Addr, Ipv6Addr};
@@ -54,99 +53,89 @@ impl Host {
         sent.is_ok()
     }
 
-    /// Has a packet wait for its neighbor, which is looked for where it is not known.
-    fn deliver(&mut self, next: Ipv6Address, ether_type: u16, packet: Vec<u8>) {
-        let is_known = unmapped(next).is_multicast() || self.neighbors.begin(&next);
-        if is_known && self.waiting.len() < MOST_WAITING {
-            self.waiting.push((next, ether_type, packet));
-        }
-    }
-
     /// Sends the packets whose neighbors are known, and drops those whose neighbors do not answer.
     pub fn send_waiting(&mut self) {
-        for (next, ether_type, packet) in take(&mut self.waiting) {
-            let to = match (unmapped(next), self.neighbors.use_entry(&next)) {
-                (_, Some(entry)) => entry.lladdr.map(on_ethernet),
-                (IpAddr::V4(group), None) if group.is_multicast() => {
-                    Some(ethernet::multicast_v4(group.into()))
-                }
-                (IpAddr::V6(group), None) if group.is_multicast() => {
-                    Some(ethernet::multicast_v6(group.into()))
-                }
-                _ => continue,
+        for (next, packet) in take(&mut self.waiting) {
+            let (ether_type, group) = match unmapped(next) {
+                IpAddr::V4(next) => (ethernet::IPV4, ethernet::multicast_v4(next.into())),
+                IpAddr::V6(next) => (ethernet::IPV6, ethernet::multicast_v6(next.into())),
+            };
+            let to = match self.neighbors.use_entry(&next) {
+                Some(entry) => entry.lladdr.map(on_ethernet),
+                None if unmapped(next).is_multicast() => Some(group),
+                None => continue,
             };
             match to {
                 Some(to) => drop(self.transmit(to, ether_type, &packet)),
-                None => self.waiting.push((next, ether_type, packet)),
+                None => self.waiting.push((next, packet)),
             }
         }
     }
 
-    /// Sends a message over IPv4, that of IGMP with a router alert (RFC 3376 section 4).
-    pub fn send_v4(&mut self, to: Ipv4Address, protocol: IpProtocol, message: &[u8]) {
+    /// Has a packet wait for its neighbor, which is looked for where it is not known.
+    fn deliver(&mut self, next: Ipv6Address, packet: Vec<u8>) {
+        let is_known = unmapped(next).is_multicast() || self.neighbors.begin(&next);
+        if is_known && self.waiting.len() < MOST_WAITING {
+            self.waiting.push((next, packet));
+        }
+    }
+
+    /// Sends a message, in fragments where a frame has no room for it.
+    pub fn send(&mut self, ends: Addresses, protocol: IpProtocol, hop_limit: u8, message: &[u8]) {
+        let Addresses::V4(src_addr, dst_addr) = ends else {
+            return self.send_v6(ends, protocol, hop_limit, message);
+        };
+        // One of IGMP has a router alert (RFC 3376 section 4).
         let is_igmp = protocol == IpProtocol::Igmp;
         let options = if is_igmp { &ROUTER_ALERT[..] } else { &[] };
         self.ident = self.ident.wrapping_add(1);
-        for fragment in Fragments::new(message, ROOM_V4 - options.len())
-            .into_iter()
-            .flatten()
-        {
+        let fragments = Fragments::new(message, ROOM_V4 - options.len());
+        for it in fragments.into_iter().flatten() {
             let header = Header {
                 service: 0,
                 ident: self.ident as u16,
                 dont_frag: false,
-                more_frags: fragment.more_frags,
-                frag_offset: fragment.frag_offset,
-                hop_limit: if is_igmp { 1 } else { 64 },
+                more_frags: it.more_frags,
+                frag_offset: it.frag_offset,
+                hop_limit,
                 protocol,
-                src_addr: self.v4,
-                dst_addr: to,
+                src_addr,
+                dst_addr,
                 options,
-                payload_len: fragment.part.len(),
+                payload_len: it.part.len(),
             };
-            let (len, part) = (header.buffer_len(), fragment.part);
-            let packet = written(len, |octets| header.emit_into(octets), part);
-            self.deliver(mapped(to), ethernet::IPV4, packet);
+            let packet = written(header.buffer_len(), |to| header.emit_into(to), it.part);
+            self.deliver(mapped(dst_addr), packet);
         }
     }
 
-    /// Sends a message of ICMPv6, that of MLD with a router alert (RFC 3810 section 5).
-    pub fn send_v6(&mut self, own: Ipv6Address, to: Ipv6Address, hops: u8, message: &[u8]) {
+    fn send_v6(&mut self, ends: Addresses, protocol: IpProtocol, hop_limit: u8, message: &[u8]) {
         let room = self.link.mtu as usize - IPV6_HEADER_LEN;
-        let mut payloads = Vec::new();
-        if let [130..=132 | 143, ..] = message {
-            let payload = written(8, listener::router_alert, message);
-            payloads.push((IpProtocol::HopByHop, payload));
-        } else if message.len() <= room {
-            payloads.push((IpProtocol::Icmpv6, message.to_vec()));
-        } else {
+        // The options before a message of MLD, and fragments, are not divided.
+        if protocol == IpProtocol::Icmpv6 && message.len() > room {
             self.ident = self.ident.wrapping_add(1);
-            for fragment in Fragments::new(message, room - ipv6_fragment::LEN)
-                .into_iter()
-                .flatten()
-            {
+            let fragments = Fragments::new(message, room - ipv6_fragment::LEN);
+            for it in fragments.into_iter().flatten() {
                 let header = ipv6_fragment::Header {
-                    next_header: IpProtocol::Icmpv6,
-                    frag_offset: fragment.frag_offset,
-                    more_frags: fragment.more_frags,
+                    next_header: protocol,
+                    frag_offset: it.frag_offset,
+                    more_frags: it.more_frags,
                     ident: self.ident,
                 };
-                let write = |octets: &mut [u8]| header.emit_into(octets);
-                let payload = written(ipv6_fragment::LEN, write, fragment.part);
-                payloads.push((IpProtocol::Ipv6Frag, payload));
+                let payload = written(ipv6_fragment::LEN, |to| header.emit_into(to), it.part);
+                self.send_v6(ends, IpProtocol::Ipv6Frag, hop_limit, &payload);
             }
-        }
-        for (next_header, payload) in payloads {
+        } else if let Addresses::V6(src_addr, dst_addr) = ends {
             let header = Ipv6Repr {
-                src_addr: own,
-                dst_addr: to,
-                next_header,
-                payload_len: payload.len(),
-                hop_limit: hops,
+                src_addr,
+                dst_addr,
+                next_header: protocol,
+                payload_len: message.len(),
+                hop_limit,
             };
-            let packet = written(IPV6_HEADER_LEN, |octets| header.emit_into(octets), &payload);
-            if let Some(next) = self.routers.next_hop(&to) {
-                self.deliver(next, ethernet::IPV6, packet);
+            let packet = written(IPV6_HEADER_LEN, |to| header.emit_into(to), message);
+            if let Some(next) = self.routers.next_hop(&dst_addr) {
+                self.deliver(next, packet);
             }
         }
     }

@@ -14,9 +14,10 @@ mod link;
 mod neighbors;
 mod packets;
 
+use control_wire::frames::Addresses;
 use control_wire::{EthernetAddress, IpProtocol, Ipv4Address, Ipv6Address};
 use device::Event;
-use examples::addresses::{Addresses, State};
+use examples::addresses::{self, State};
 use examples::link_parameters::LinkParameters;
 use examples::neighbor;
 use examples::neighbor_cache::NeighborCache;
@@ -26,6 +27,7 @@ use link::{mapped, unmapped, written};
 use reassembly::Reassembly;
 use std::error::Error;
 use std::fs::File;
+use std::mem::take;
 use std::net::IpAddr;
 use std::sync::mpsc::{Receiver, RecvTimeoutError};
 use std::time::{Duration, Instant};
@@ -35,81 +37,90 @@ const DEFAULTS: &str = "tap0 02:00:00:00:00:02 192.0.2.2 fe80::ff:fe00:2 233.252
 /// How many milliseconds pass until the host looks again what is to be done.
 const TICK: u32 = 10;
 
+/// How many tasks wait at most for queries to be answered: a flood takes no more memory.
+const MOST_TASKS: usize = 256;
+
 struct Host {
     device: File,
     hardware: EthernetAddress,
     v4: Ipv4Address,
     link_local: Ipv6Address,
-    addresses: Addresses,
+    addresses: addresses::Addresses,
     /// Those of IPv4 are kept by the addresses of IPv6 to which theirs are mapped (RFC 4291 section
     /// 2.5.5.2).
     neighbors: NeighborCache,
-    /// Packets, each with the neighbor that it goes to and its EtherType.
-    waiting: Vec<(Ipv6Address, u16, Vec<u8>)>,
+    /// Packets, each with the neighbor that it goes to.
+    waiting: Vec<(Ipv6Address, Vec<u8>)>,
     routers: RouterList,
     link: LinkParameters,
-    /// For how many seconds routers are solicited; None until the device is up.
-    soliciting: Option<u32>,
-    wanted_v4: Option<Ipv4Address>,
-    wanted_v6: Option<Ipv6Address>,
     igmp: Groups<Ipv4Address>,
     mld: Groups<Ipv6Address>,
     reassembly: Reassembly,
     ident: u32,
-    /// How many ticks are over in this second, and how many errors were sent.
-    ticks: u32,
+    /// How many errors were sent in this second.
     errors: u32,
+    /// Whether the device takes frames.
+    is_up: bool,
+    /// What is to be done later, and when.
+    tasks: Vec<(Instant, Task)>,
 }
+
+type Task = Box<dyn FnOnce(&mut Host)>;
 
 impl Host {
     /// Takes what comes, and does what is to be done at its time.
     fn run(&mut self, events: &Receiver<Event>) -> Result<(), Box<dyn Error>> {
-        let (tick, mut last) = (Duration::from_millis(TICK.into()), Instant::now());
+        let (tick, start, mut ticks) = (Duration::from_millis(TICK.into()), Instant::now(), 0);
         loop {
             match events.recv_timeout(tick) {
                 Ok(Event::Frame(frame)) => drop(self.receive(&frame)),
                 Ok(Event::Line(line)) if line == "leave" => {
-                    (self.wanted_v4, self.wanted_v6) = (None, None);
+                    (self.igmp.wanted, self.mld.wanted) = (None, None);
                     println!("left");
                 }
                 Ok(Event::Line(_)) | Err(RecvTimeoutError::Timeout) => {}
                 _ => return Err("the device is gone".into()),
             }
-            while last.elapsed() >= tick {
-                last += tick;
-                self.pass();
+            while start.elapsed() >= tick * (ticks + 1) {
+                ticks += 1;
+                self.pass(ticks % (1_000 / TICK) == 0);
             }
             self.send_waiting();
         }
     }
 
-    fn pass(&mut self) {
-        self.addresses.wait(TICK);
-        self.neighbors.pass(TICK);
-        self.igmp.pass(TICK);
-        self.mld.pass(TICK);
-        self.ticks = (self.ticks + 1) % (1_000 / TICK);
-        if self.ticks == 0 {
-            self.pass_second();
-        }
-        if self.soliciting.is_some() {
-            self.report();
-            self.detect();
-        }
-        self.ask();
+    /// Has a task wait for so many milliseconds.
+    fn later(&mut self, milliseconds: u32, task: impl FnOnce(&mut Host) + 'static) {
+        let time = Instant::now() + Duration::from_millis(milliseconds.into());
+        self.tasks.push((time, Box::new(task)));
     }
 
-    fn pass_second(&mut self) {
-        self.addresses.pass(1);
-        self.routers.pass(1);
-        self.errors = 0;
-        if self.soliciting.is_some() {
-            self.solicit_routers();
-        } else if self.announce() {
+    /// Lets a tick pass, and perhaps a second with it.
+    fn pass(&mut self, is_second: bool) {
+        self.addresses.wait(TICK);
+        self.neighbors.pass(TICK);
+        if is_second {
+            self.addresses.pass(1);
+            self.routers.pass(1);
+            self.errors = 0;
+        }
+        if is_second && !self.is_up && self.announce() {
+            self.is_up = true;
             let (own, forever) = (self.link_local, Lifetime::Forever);
             self.addresses.add(&own, forever, forever);
-            self.soliciting = Some(0);
         }
+        if self.is_up {
+            self.join_all();
+            self.detect();
+        }
+        let now = Instant::now();
+        let tasks = take(&mut self.tasks).into_iter();
+        let (due, later): (Vec<_>, _) = tasks.partition(|(time, _)| *time <= now);
+        self.tasks = later;
+        for (_, task) in due {
+            task(self);
+        }
+        self.ask();
     }
 }
 
@@ -128,20 +139,18 @@ fn main() -> Result<(), Box<dyn Error>> {
         hardware: EthernetAddress(octets),
         v4: words[2].parse()?,
         link_local: words[3].parse()?,
-        addresses: Addresses::new(),
+        addresses: addresses::Addresses::new(),
         neighbors: NeighborCache::new(),
         waiting: Vec::new(),
         routers: RouterList::new(),
         link: LinkParameters::new(),
-        soliciting: None,
-        wanted_v4: Some(words[4].parse()?),
-        wanted_v6: Some(words[5].parse()?),
-        igmp: Groups::new(),
-        mld: Groups::new(),
+        igmp: Groups::new(words[4].parse()?),
+        mld: Groups::new(words[5].parse()?),
         reassembly: Reassembly::new(),
         ident: by_chance(u32::MAX),
-        ticks: 0,
         errors: 0,
+        is_up: false,
+        tasks: Vec::new(),
     };
     println!("host {}", words[..3].join(" "));
     host.run(&events)

@@ -15,13 +15,12 @@ use examples::router::{self, RouterInformation};
 impl Host {
     /// Learns of a neighbor, and prints its hardware address where it is new.
     fn learn<T>(&mut self, of: Ipv6Address, learn: impl FnOnce(&mut NeighborCache) -> T) -> T {
-        let before = self.neighbors.look_up(&of).and_then(|it| it.lladdr);
+        let hardware = |cache: &NeighborCache| cache.look_up(&of)?.lladdr;
+        let before = hardware(&self.neighbors);
         let learned = learn(&mut self.neighbors);
-        match self.neighbors.look_up(&of).and_then(|it| it.lladdr) {
-            Some(hardware) if before != Some(hardware) => {
-                println!("neighbor {} {hardware}", unmapped(of))
-            }
-            _ => {}
+        let now = hardware(&self.neighbors);
+        if let Some(hardware) = now.filter(|_| now != before) {
+            println!("neighbor {} {hardware}", unmapped(of));
         }
         learned
     }
@@ -34,9 +33,8 @@ impl Host {
     /// Learns what a neighbor says of itself.
     fn learn_told(&mut self, told: &NeighborInformation) {
         let time = self.link.reachable_time.total_millis() as u32;
-        if self.learn(told.addr, |cache| {
-            cache.learn_from_advertisement(told, time)
-        }) {
+        let learn = |cache: &mut NeighborCache| cache.learn_from_advertisement(told, time);
+        if self.learn(told.addr, learn) {
             self.routers.remove_router(&told.addr);
         }
     }
@@ -59,7 +57,7 @@ impl Host {
     fn solicit(&mut self, own: Ipv6Address, to: Ipv6Address, target: Ipv6Address) {
         let mut out = [0; 32];
         let len = neighbor::solicit(&own, &to, &target, self.hardware, &mut out);
-        self.send_v6(own, to, 255, &out[..len.unwrap_or(0)]);
+        self.send_ndisc(own, to, &out[..len.unwrap_or(0)]);
     }
 
     /// Sees whether its addresses are free (RFC 4862 section 5.4).
@@ -73,9 +71,10 @@ impl Host {
             }
             println!("address {}", own.address);
             if own.address == self.link_local {
-                self.mld.repeat();
-                self.soliciting = Some(9);
-                self.solicit_routers();
+                // It reports its groups again, from this address.
+                self.mld.joined.clear();
+                self.join_all();
+                self.solicit_routers(3);
             }
         }
     }
@@ -87,16 +86,20 @@ impl Host {
         }
     }
 
-    /// Solicits routers each four seconds, until one answers (RFC 4861 section 6.3.7).
-    pub fn solicit_routers(&mut self) {
-        let left = self.soliciting.unwrap_or(0);
-        self.soliciting = Some(left.saturating_sub(1));
-        let (own, mut out) = (self.link_local, [0; 16]);
-        if left % 4 == 1 && self.routers.routers.is_empty() {
+    /// Solicits routers each four seconds, so many times, until one answers (RFC 4861 section
+    /// 6.3.7).
+    fn solicit_routers(&mut self, times: u32) {
+        if times > 0 && self.routers.routers.is_empty() {
             println!("solicits routers");
+            let (own, mut out) = (self.link_local, [0; 16]);
             let len = router::solicit(&own, self.hardware, &mut out).unwrap_or(0);
-            self.send_v6(own, IPV6_LINK_LOCAL_ALL_ROUTERS, 255, &out[..len]);
+            self.send_ndisc(own, IPV6_LINK_LOCAL_ALL_ROUTERS, &out[..len]);
+            self.later(4_000, move |host| host.solicit_routers(times - 1));
         }
+    }
+
+    fn send_ndisc(&mut self, own: Ipv6Address, to: Ipv6Address, message: &[u8]) {
+        self.send(Addresses::V6(own, to), IpProtocol::Icmpv6, 255, message);
     }
 
     fn send_arp(&mut self, kind: arp::Operation, to: EthernetAddress, target: Ipv4Address) -> bool {
@@ -160,7 +163,7 @@ impl Host {
                 let (own, mut out) = (own.address, [0; 32]);
                 let answer =
                     neighbor::answer(&from, &to, hops, &own, self.hardware, octets, &mut out)?;
-                self.send_v6(own, answer.destination, 255, &out[..answer.len]);
+                self.send_ndisc(own, answer.destination, &out[..answer.len]);
             } else if from.is_unspecified() {
                 self.give_up(own.address);
             }

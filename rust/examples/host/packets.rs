@@ -2,17 +2,17 @@
 //! and messages of other modules.
 
 use super::*;
-use control_wire::frames::{Addresses, Datagram, UdpPacket, UdpRepr};
+use control_wire::frames::{Datagram, UdpPacket, UdpRepr};
+use control_wire::groups::Membership;
 use control_wire::headers::{Header, ethernet};
-use control_wire::{ChecksumCapabilities, IPV6_LINK_LOCAL_ALL_NODES};
-use control_wire::{IPV6_HEADER_LEN, Ipv6Packet, Ipv6Repr};
+use control_wire::{ChecksumCapabilities, IPV6_HEADER_LEN, Ipv6Packet, Ipv6Repr};
 use examples::{ping, unreachable};
+use groups::Group;
 use reassembly::{Answer, Fragment, Whole};
+use std::fmt::Display;
 
 /// The errors that are sent in a second at most (RFC 4443 section 2.4(f)).
 const MOST_ERRORS: u32 = 100;
-
-const ALL_HOSTS: Ipv4Address = Ipv4Address::new(224, 0, 0, 1);
 
 impl Host {
     /// Takes a frame; None where it is not for this host or not good.
@@ -29,12 +29,9 @@ impl Host {
     }
 
     fn receive_v4(&mut self, packet: &[u8], to_many: bool) -> Option<()> {
-        let (header, payload) = Header::parse(packet).ok()?;
+        let (header, _) = Header::parse(packet).ok()?;
         let (from, to) = (header.src_addr, header.dst_addr);
-        let is_ours = match to_many {
-            true => to == ALL_HOSTS || self.igmp.has(&to),
-            false => to == self.v4,
-        };
+        let is_ours = (to_many && self.igmp.has(&to)) || (!to_many && to == self.v4);
         if !is_ours || from.is_multicast() || from.is_broadcast() {
             return None;
         }
@@ -52,35 +49,32 @@ impl Host {
             let packet = written(len, |octets| header.emit_into(octets), &whole.payload);
             return self.receive_v4(&packet, to_many);
         }
-        let mut out = vec![0; payload.len().max(600)];
-        let len = match header.protocol {
-            IpProtocol::Igmp => return self.receive_igmp(payload),
-            IpProtocol::Icmp if to != ALL_HOSTS && !from.is_unspecified() => {
-                let len = ping::answer(payload, &mut out)?;
-                println!("echo {from} {len}");
-                len
-            }
-            IpProtocol::Udp if to == self.v4 && self.may_tell() => {
-                let port = port_of(payload, &Addresses::V4(from, to))?;
-                let len = unreachable::port_unreachable(packet, &mut out)?;
-                println!("unreachable {from} {port}");
-                len
-            }
+        let datagram = Datagram::parse_v4(packet).ok()?;
+        let (payload, mut out) = (datagram.payload, vec![0; packet.len().max(600)]);
+        let len = match datagram.protocol {
+            IpProtocol::Igmp => return self.hear(&Membership::parse_igmp(payload).ok()?),
+            // Nobody is there to be answered, or all hosts would answer (RFC 1122 section 3.2.2).
+            _ if from.is_unspecified() || to == Group::HOSTS => return None,
+            IpProtocol::Icmp => ping::answer(payload, &mut out)?,
+            IpProtocol::Udp => unreachable::port_unreachable(packet, &mut out)?,
             _ => return None,
         };
-        self.send_v4(from, IpProtocol::Icmp, &out[..len]);
+        self.tell(&datagram, from, len)?;
+        self.send(
+            Addresses::V4(self.v4, from),
+            IpProtocol::Icmp,
+            64,
+            &out[..len],
+        );
         Some(())
     }
 
     fn receive_v6(&mut self, packet: &[u8], to_many: bool) -> Option<()> {
         let header = Ipv6Repr::parse(&Ipv6Packet::new_checked(packet).ok()?).ok()?;
         let (from, to) = (header.src_addr, header.dst_addr);
-        let state = self.addresses.look_up(&to).map(|own| own.state);
-        let is_own = state == Some(State::Assigned);
-        let is_ours = match to_many {
-            true => to == IPV6_LINK_LOCAL_ALL_NODES || self.mld.has(&to),
-            false => is_own,
-        };
+        let own = self.addresses.look_up(&to);
+        let is_own = own.is_some_and(|own| own.state == State::Assigned);
+        let is_ours = (to_many && self.mld.has(&to)) || (!to_many && is_own);
         if !is_ours || from.is_multicast() {
             return None;
         }
@@ -96,37 +90,25 @@ impl Host {
         }
         let datagram = Datagram::parse_v6(packet).ok()?;
         // One that is to be passed on is not for a host (RFC 8200 section 4.4).
-        if datagram.addresses != Addresses::V6(from, to) {
-            return None;
-        }
-        let (payload, hop_limit) = (datagram.payload, datagram.hop_limit);
-        let own = if is_own {
-            Some(to)
-        } else {
-            self.addresses.source(&from)
-        };
-        let mut out = vec![0; payload.len().max(1_240)];
+        let is_last = datagram.addresses == Addresses::V6(from, to);
+        let own = Some(to).filter(|_| is_own);
+        let own = own.or_else(|| self.addresses.source(&from));
+        let (payload, mut out) = (datagram.payload, vec![0; packet.len().max(1_240)]);
         let len = match (datagram.protocol, payload.first()?) {
-            (IpProtocol::Icmpv6, 130) => return self.receive_mld(&datagram, from, to),
+            _ if !is_last => return None,
+            (IpProtocol::Icmpv6, 130) => return self.receive_mld(&datagram),
             (IpProtocol::Icmpv6, 134..=136) => {
-                return self.receive_ndisc(from, to, hop_limit, payload);
+                return self.receive_ndisc(from, to, datagram.hop_limit, payload);
             }
             // Nobody is there to be answered (RFC 4443 section 2.4).
             _ if from.is_unspecified() => return None,
-            (IpProtocol::Icmpv6, _) => {
-                let len = ping::answer_v6(&from, &to, &own?, payload, &mut out)?;
-                println!("echo {from} {len}");
-                len
-            }
-            (IpProtocol::Udp, _) if self.may_tell() => {
-                let port = port_of(payload, &datagram.addresses)?;
-                let len = unreachable::port_unreachable_v6(&own?, packet, &mut out)?;
-                println!("unreachable {from} {port}");
-                len
-            }
+            (IpProtocol::Icmpv6, _) => ping::answer_v6(&from, &to, &own?, payload, &mut out)?,
+            (IpProtocol::Udp, _) => unreachable::port_unreachable_v6(&own?, packet, &mut out)?,
             _ => return None,
         };
-        self.send_v6(own?, from, self.link.hop_limit, &out[..len]);
+        self.tell(&datagram, from, len)?;
+        let ends = Addresses::V6(own?, from);
+        self.send(ends, IpProtocol::Icmpv6, self.link.hop_limit, &out[..len]);
         Some(())
     }
 
@@ -138,16 +120,21 @@ impl Host {
         }
     }
 
-    /// Whether an error may be sent yet.
-    fn may_tell(&mut self) -> bool {
+    /// Prints what is answered: an echo, or that a port has no listener, where such an error may be
+    /// sent yet.
+    fn tell(&mut self, datagram: &Datagram<'_>, from: impl Display, len: usize) -> Option<()> {
+        if datagram.protocol != IpProtocol::Udp {
+            println!("echo {from} {len}");
+            return Some(());
+        }
+        let packet = UdpPacket::new_unchecked(datagram.payload);
+        let ports = UdpRepr::parse(
+            &packet,
+            &datagram.addresses,
+            &ChecksumCapabilities::default(),
+        );
+        let port = ports.ok()?.dst_port;
         self.errors += 1;
-        self.errors <= MOST_ERRORS
+        (self.errors <= MOST_ERRORS).then(|| println!("unreachable {from} {port}"))
     }
-}
-
-/// The port that a good datagram of UDP goes to.
-fn port_of(payload: &[u8], addresses: &Addresses) -> Option<u16> {
-    let packet = UdpPacket::new_unchecked(payload);
-    let ports = UdpRepr::parse(&packet, addresses, &ChecksumCapabilities::default());
-    ports.ok().map(|ports| ports.dst_port)
 }
