@@ -27,7 +27,6 @@ pub fn by_chance(most: u32) -> u32 {
 /// whom reports go to, and leaves of older versions (RFC 3376 section 4.2.14, RFC 2236 section 3,
 /// RFC 3810 section 5.2.14, RFC 2710 section 4).
 pub trait Group: Address + Display + PartialEq + 'static {
-    const NAME: &str;
     const ALL: Self;
     const HOSTS: Self;
     const REPORTS: Self;
@@ -38,7 +37,6 @@ pub trait Group: Address + Display + PartialEq + 'static {
 }
 
 impl Group for Ipv4Address {
-    const NAME: &str = "IGMP";
     const ALL: Ipv4Address = Ipv4Address::UNSPECIFIED;
     const HOSTS: Ipv4Address = Ipv4Address::new(224, 0, 0, 1);
     const REPORTS: Ipv4Address = Ipv4Address::new(224, 0, 0, 22);
@@ -55,7 +53,6 @@ impl Group for Ipv4Address {
 }
 
 impl Group for Ipv6Address {
-    const NAME: &str = "MLD";
     const ALL: Ipv6Address = Ipv6Address::UNSPECIFIED;
     const HOSTS: Ipv6Address = IPV6_LINK_LOCAL_ALL_NODES;
     const REPORTS: Ipv6Address = Ipv6Address::new(0xff02, 0, 0, 0, 0, 0, 0, 0x16);
@@ -156,7 +153,7 @@ impl Host {
             _ => return None,
         };
         let (version, groups) = (query.version(), A::groups(self));
-        println!("query {} version {version}", A::NAME);
+        println!("query {} version {version}", A::family());
         groups.older_time = older_querier_time(query).map_or(groups.older_time, Duration::from);
         // Version 2 of MLD may be among them: it is spoken anyway.
         if let Some(until) = groups.older.get_mut(usize::from(version) - 1) {
@@ -191,7 +188,7 @@ impl Host {
             (_, 1) => (group, Message::OldestReport { group }),
             _ => (group, Message::OlderReport { group }),
         };
-        println!("report {} version {version} {group}", A::NAME);
+        println!("report {} version {version} {group}", A::family());
         A::send(self, to, &message);
     }
 

@@ -47,9 +47,7 @@ impl Host {
         };
         let frame = written(ethernet::LEN, |octets| header.emit_into(octets), payload);
         let sent = self.device.write_all(&frame);
-        if let Err(error) = &sent {
-            println!("not sent: {error}");
-        }
+        let sent = sent.inspect_err(|error| println!("not sent: {error}"));
         sent.is_ok()
     }
 

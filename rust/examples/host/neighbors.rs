@@ -2,6 +2,7 @@
 //! forms itself (RFC 4862).
 
 use super::{link::on_ethernet, *};
+use control_wire::frames::Datagram;
 use control_wire::headers::{arp, ethernet};
 use control_wire::ndisc::NeighborFlags;
 use control_wire::neighbors::preference::router_preference;
@@ -125,29 +126,25 @@ impl Host {
             return None;
         }
         let (hardware, sender) = (told.source_hardware_addr, told.source_protocol_addr);
-        let (addr, lladdr) = (mapped(sender), Some(hardware.into()));
         if told.operation == arp::Operation::Request {
             self.send_arp(arp::Operation::Reply, hardware, sender);
-            self.learn_sender(addr, lladdr);
+            self.learn_sender(mapped(sender), Some(hardware.into()));
         } else {
-            let flags = NeighborFlags::SOLICITED | NeighborFlags::OVERRIDE;
             self.learn_told(&NeighborInformation {
-                addr,
-                flags,
-                lladdr,
+                addr: mapped(sender),
+                flags: NeighborFlags::SOLICITED | NeighborFlags::OVERRIDE,
+                lladdr: Some(hardware.into()),
             });
         }
         Some(())
     }
 
     /// Takes a message of neighbor discovery.
-    pub fn receive_ndisc(
-        &mut self,
-        from: Ipv6Address,
-        to: Ipv6Address,
-        hops: u8,
-        octets: &[u8],
-    ) -> Option<()> {
+    pub fn receive_ndisc(&mut self, datagram: &Datagram<'_>) -> Option<()> {
+        let Addresses::V6(from, to) = datagram.addresses else {
+            return None;
+        };
+        let (hops, octets) = (datagram.hop_limit, datagram.payload);
         if let Some(told) = neighbor::neighbor(&from, &to, hops, octets) {
             self.give_up(told.addr);
             self.learn_told(&told);
@@ -161,8 +158,8 @@ impl Host {
                 println!("solicited {} by {from}", own.address);
                 self.learn_sender(from, asked.lladdr);
                 let (own, mut out) = (own.address, [0; 32]);
-                let answer =
-                    neighbor::answer(&from, &to, hops, &own, self.hardware, octets, &mut out)?;
+                let hardware = self.hardware;
+                let answer = neighbor::answer(&from, &to, hops, &own, hardware, octets, &mut out)?;
                 self.send_ndisc(own, answer.destination, &out[..answer.len]);
             } else if from.is_unspecified() {
                 self.give_up(own.address);
@@ -186,10 +183,8 @@ impl Host {
             match option {
                 NeighborOption::SearchList { lifetime, names } => {
                     let packet = dns::Packet::new_unchecked(&[0; 12]); // no name points to it
-                    let names = names
-                        .iter()
-                        .flatten()
-                        .flat_map(|it| Name::read(&packet, it));
+                    let names = names.iter().flatten();
+                    let names = names.flat_map(|it| Name::read(&packet, it));
                     let names: String = names.map(|name| format!(" {name}")).collect();
                     println!("search list lifetime={lifetime}{names}");
                 }

@@ -97,9 +97,7 @@ impl Host {
         let len = match (datagram.protocol, payload.first()?) {
             _ if !is_last => return None,
             (IpProtocol::Icmpv6, 130) => return self.receive_mld(&datagram),
-            (IpProtocol::Icmpv6, 134..=136) => {
-                return self.receive_ndisc(from, to, datagram.hop_limit, payload);
-            }
+            (IpProtocol::Icmpv6, 134..=136) => return self.receive_ndisc(&datagram),
             // Nobody is there to be answered (RFC 4443 section 2.4).
             _ if from.is_unspecified() => return None,
             (IpProtocol::Icmpv6, _) => ping::answer_v6(&from, &to, &own?, payload, &mut out)?,
