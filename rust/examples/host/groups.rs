@@ -136,10 +136,9 @@ impl Host {
         for &group in before.iter().chain(&joined) {
             let was_member = before.contains(&group);
             if was_member != joined.contains(&group) {
-                self.report(group, Some(was_member), &[]);
-                self.later(by_chance(STEP), move |host| {
-                    host.report(group, Some(was_member), &[]);
-                });
+                let report = move |host: &mut Host| host.report(group, Some(was_member), &[]);
+                report(self);
+                self.later(by_chance(STEP), report);
             }
         }
     }

@@ -27,7 +27,6 @@ use link::{mapped, unmapped, written};
 use reassembly::Reassembly;
 use std::error::Error;
 use std::fs::File;
-use std::mem::take;
 use std::net::IpAddr;
 use std::sync::mpsc::{Receiver, RecvTimeoutError};
 use std::time::{Duration, Instant};
@@ -70,7 +69,8 @@ type Task = Box<dyn FnOnce(&mut Host)>;
 impl Host {
     /// Takes what comes, and does what is to be done at its time.
     fn run(&mut self, events: &Receiver<Event>) -> Result<(), Box<dyn Error>> {
-        let (tick, start, mut ticks) = (Duration::from_millis(TICK.into()), Instant::now(), 0);
+        let tick = Duration::from_millis(TICK.into());
+        let (mut last, mut ticks) = (Instant::now(), 0);
         loop {
             match events.recv_timeout(tick) {
                 Ok(Event::Frame(frame)) => drop(self.receive(&frame)),
@@ -81,9 +81,10 @@ impl Host {
                 Ok(Event::Line(_)) | Err(RecvTimeoutError::Timeout) => {}
                 _ => return Err("the device is gone".into()),
             }
-            while start.elapsed() >= tick * (ticks + 1) {
-                ticks += 1;
-                self.pass(ticks % (1_000 / TICK) == 0);
+            while last.elapsed() >= tick {
+                last += tick;
+                ticks = (ticks + 1) % (1_000 / TICK);
+                self.pass(ticks == 0);
             }
             self.send_waiting();
         }
@@ -106,18 +107,16 @@ impl Host {
         }
         if is_second && !self.is_up && self.announce() {
             self.is_up = true;
-            let (own, forever) = (self.link_local, Lifetime::Forever);
-            self.addresses.add(&own, forever, forever);
+            let forever = Lifetime::Forever;
+            self.addresses.add(&self.link_local, forever, forever);
         }
         if self.is_up {
             self.join_all();
             self.detect();
         }
         let now = Instant::now();
-        let tasks = take(&mut self.tasks).into_iter();
-        let (due, later): (Vec<_>, _) = tasks.partition(|(time, _)| *time <= now);
-        self.tasks = later;
-        for (_, task) in due {
+        while let Some(due) = self.tasks.iter().position(|(time, _)| *time <= now) {
+            let (_, task) = self.tasks.remove(due);
             task(self);
         }
         self.ask();

@@ -5,10 +5,10 @@ use super::*;
 use control_wire::frames::{Datagram, UdpPacket, UdpRepr};
 use control_wire::groups::Membership;
 use control_wire::headers::{Header, ethernet};
-use control_wire::{ChecksumCapabilities, IPV6_HEADER_LEN, Ipv6Packet, Ipv6Repr};
+use control_wire::{IPV6_HEADER_LEN, Ipv6Packet, Ipv6Repr};
 use examples::{ping, unreachable};
 use groups::Group;
-use reassembly::{Answer, Fragment, Whole};
+use reassembly::{Answer, Fragment};
 use std::fmt::Display;
 
 /// The errors that are sent in a second at most (RFC 4443 section 2.4(f)).
@@ -36,7 +36,9 @@ impl Host {
             return None;
         }
         if let Some(fragment) = Fragment::parse_v4(packet) {
-            let whole = self.reassemble(&fragment)?;
+            let Ok(Answer::Whole(whole)) = self.reassembly.add(0, &fragment) else {
+                return None;
+            };
             let header = Header {
                 more_frags: false,
                 frag_offset: 0,
@@ -54,18 +56,14 @@ impl Host {
         let len = match datagram.protocol {
             IpProtocol::Igmp => return self.hear(&Membership::parse_igmp(payload).ok()?),
             // Nobody is there to be answered, or all hosts would answer (RFC 1122 section 3.2.2).
-            _ if from.is_unspecified() || to == Group::HOSTS => return None,
+            _ if from.is_unspecified() || to == Ipv4Address::HOSTS => return None,
             IpProtocol::Icmp => ping::answer(payload, &mut out)?,
             IpProtocol::Udp => unreachable::port_unreachable(packet, &mut out)?,
             _ => return None,
         };
         self.tell(&datagram, from, len)?;
-        self.send(
-            Addresses::V4(self.v4, from),
-            IpProtocol::Icmp,
-            64,
-            &out[..len],
-        );
+        let ends = Addresses::V4(self.v4, from);
+        self.send(ends, IpProtocol::Icmp, 64, &out[..len]);
         Some(())
     }
 
@@ -79,7 +77,9 @@ impl Host {
             return None;
         }
         if let Some(fragment) = Fragment::parse_v6(packet) {
-            let whole = self.reassemble(&fragment)?;
+            let Ok(Answer::Whole(whole)) = self.reassembly.add(0, &fragment) else {
+                return None;
+            };
             let header = Ipv6Repr {
                 next_header: whole.protocol,
                 payload_len: whole.payload.len(),
@@ -89,13 +89,12 @@ impl Host {
             return self.receive_v6(&written(IPV6_HEADER_LEN, write, &whole.payload), to_many);
         }
         let datagram = Datagram::parse_v6(packet).ok()?;
-        // One that is to be passed on is not for a host (RFC 8200 section 4.4).
-        let is_last = datagram.addresses == Addresses::V6(from, to);
-        let own = Some(to).filter(|_| is_own);
+        let own = is_own.then_some(to);
         let own = own.or_else(|| self.addresses.source(&from));
         let (payload, mut out) = (datagram.payload, vec![0; packet.len().max(1_240)]);
         let len = match (datagram.protocol, payload.first()?) {
-            _ if !is_last => return None,
+            // One that is to be passed on is not for a host (RFC 8200 section 4.4).
+            _ if datagram.addresses != Addresses::V6(from, to) => return None,
             (IpProtocol::Icmpv6, 130) => return self.receive_mld(&datagram),
             (IpProtocol::Icmpv6, 134..=136) => return self.receive_ndisc(&datagram),
             // Nobody is there to be answered (RFC 4443 section 2.4).
@@ -110,14 +109,6 @@ impl Host {
         Some(())
     }
 
-    /// What is whole with a fragment.
-    fn reassemble(&mut self, fragment: &Fragment<'_>) -> Option<Whole> {
-        match self.reassembly.add(0, fragment) {
-            Ok(Answer::Whole(whole)) => Some(whole),
-            _ => None,
-        }
-    }
-
     /// Prints what is answered: an echo, or that a port has no listener, where such an error may be
     /// sent yet.
     fn tell(&mut self, datagram: &Datagram<'_>, from: impl Display, len: usize) -> Option<()> {
@@ -125,13 +116,13 @@ impl Host {
             println!("echo {from} {len}");
             return Some(());
         }
-        let packet = UdpPacket::new_unchecked(datagram.payload);
-        let ports = UdpRepr::parse(
-            &packet,
-            &datagram.addresses,
-            &ChecksumCapabilities::default(),
+        let (packet, caps) = (
+            UdpPacket::new_unchecked(datagram.payload),
+            Default::default(),
         );
-        let port = ports.ok()?.dst_port;
+        let port = UdpRepr::parse(&packet, &datagram.addresses, &caps)
+            .ok()?
+            .dst_port;
         self.errors += 1;
         (self.errors <= MOST_ERRORS).then(|| println!("unreachable {from} {port}"))
     }
