@@ -200,9 +200,9 @@ fn behind_quote(length: u8, behind: &[u8], want: &str) {
     octets[..36].copy_from_slice(TOO_LONG);
     octets[0] = 11;
     octets[5] = length;
-    let end = 136 + behind.len();
-    octets[136..end].copy_from_slice(behind);
-    let fields = listing(Form::Lines, &octets[..end]);
+    let len = behind.len().min(64);
+    octets[136..136 + len].copy_from_slice(&behind[..len]);
+    let fields = listing(Form::Lines, &octets[..136 + len]);
     holds_of(want, fields.as_slice().ends_with(want.as_bytes()));
 }
 
