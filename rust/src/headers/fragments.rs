@@ -23,8 +23,8 @@ pub struct Fragment<'a> {
 /// The payload of IPv6 is here what is fragmented: what follows the extension headers that each fragment repeats, which
 /// stand before its fragment header (RFC 8200 section 4.5). A packet that fits without a fragment header is sent
 /// without one (RFC 8021), so ask that first. The first part has to have room for the headers above IP. In IPv4, the
-/// room is that behind the longest header: options of a kind below 128 stand in the first fragment only (RFC 791
-/// section 3.1).
+/// room is that behind the longest header: options of a kind below 128 stand in the first fragment only
+/// (RFC 791 section 3.1).
 ///
 /// ```
 /// use control_wire::headers::{Fragment, Fragments};
