@@ -239,15 +239,24 @@ def search_list(octets):
     return names if isinstance(names, str) else (("names", names), lifetime(octets))
 
 
+# The most octets of a name (RFC 1035 section 2.3.4).
+MOST_NAME = 255
+
+
 def names_in(octets):
-    """Names up to the end, or to a zero in the place of a name (RFC 1035 section 3.1); or why they are none."""
+    """Names up to the end, or to a zero in the place of a name (RFC 1035 section 3.1); or why they are none. A comma of
+    a label is told by its number, since commas stand between names."""
     names = []
     while octets and octets[0]:
-        text = ""
+        text, room = "", MOST_NAME
         while octets and octets[0]:
             if octets[0] > 63:
                 return "a label of more than 63 bytes"
-            text += label(octets[1:1 + octets[0]]) + "."
+            room -= 1 + octets[0]
+            # The zero at its end counts too.
+            if room < 1:
+                return "a name of more than 255 bytes"
+            text += label(octets[1:1 + octets[0]]).replace(",", "\\044") + "."
             octets = octets[1 + octets[0]:]
         if not octets:
             return "the octets end before the name does"

@@ -273,11 +273,14 @@ NONCE = option(14, hexed("a1b2c3d4e5f6"))
 ROUTES = (option(24, hexed("3008 00000e10 20010db8000100000000000000000000")),
           option(24, hexed("2118 ffffffff 20010db880000000")), option(24, hexed("0010 00000000")))
 SERVERS = option(25, hexed("0000 00000708") + SERVER6 + HOST6)
-SEARCHED = b"\7example\3org\0" + b"\3a.b\4\x80\\$ \0"
+SEARCHED = b"\7example\3org\0" + b"\3a.,\4\x80\\$ \0"
 SEARCH_LIST = option(31, hexed("0000 00000708") + SEARCHED)
 PORTAL = option(37, b"https://example.org/?a=\"\\ \xe9")
 NAT64 = option(38, hexed("0708 0064ff9b0000000000000000"))
 OTHERS = (NONCE, *ROUTES, SERVERS, SEARCH_LIST, PORTAL, NAT64)
+
+# Three labels of a name, as long as they may be (RFC 1035 section 2.3.4).
+THREE_LABELS = (b"\x3f" + b"x" * 63) * 3
 
 NEIGHBORS = {
     "router_solicitation": raw(ip6_icmp6(133, 0, ZERO, SOURCE_LINK, LINK_A, v6("ff02::2"))),
@@ -321,8 +324,12 @@ NEIGHBORS = {
         *(option(24, bytes([8 * size, 0]) + b"\0" * 4 + HOST6[:size]) for size in (0, 8, 16)))),
     "router_advertisement_of_texts": raw(advertises(
         *(option(31, hexed("0000 00000708") + names) for names in (
-            b"\5local\0", b"\1a\0\1b\0\0c", b"\0" * 8, b"\x3f" + b"x" * 63 + b"\0", b"\2\"\x1f\0", b"\1a\1")),
+            b"\5local\0", b"\1a\0\1b\0\0c", b"\0" * 8, b"\x3f" + b"x" * 63 + b"\0", b"\2\"\x1f\0", b"\1a\1",
+            b"\5a,b,,\1,\0\1c\0")),
         *(option(37, uri) for uri in (b"", b"\0a\0", b"urn:ietf:params:capport:unrestricted")))),
+    "router_advertisement_of_long_names": raw(advertises(*(
+        option(31, hexed("0000 00000708") + THREE_LABELS + last) for last in (
+            b"\x3d" + b"x" * 61 + b"\0", b"\x3e" + b"x" * 62 + b"\0", b"\x3f", b"\x40")))),
 }
 
 # ---- DHCP

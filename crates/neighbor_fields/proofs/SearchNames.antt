@@ -1,6 +1,6 @@
 -- The names of a search list in turn, and the octets of a name.
-use Rattle.std.proofs.Common.{◌≡◌, ◌∙◌, ◌-◌, ◌==◌, ◌≤◌, ◌<◌, [], ◌∷◌, ◌++◌, Bool, List, ℕ, ap, arith, codes, drop}
-use Rattle.std.proofs.Common.{false, length, refl, suc, sym, take, true, zero}
+use Rattle.std.proofs.Common.{◌≡◌, ◌∙◌, ◌+◌, ◌-◌, ◌==◌, ◌≤◌, ◌<◌, [], ◌∷◌, ◌++◌, List, ℕ, ap, arith, codes, drop}
+use Rattle.std.proofs.Common.{length, refl, suc, sym, take, zero}
 use Rattle.std.proofs.lemmas.Bool.{lt-ltb, le-ltb, ne_eqb}
 use Rattle.std.proofs.lemmas.List.{length-drop}
 use Rattle.std.specs.Prelude.{if◌then◌else◌, map, slice_index}
@@ -9,20 +9,20 @@ use Rattle.neighbor_fields.specs.NdiscTexts.{text_within, wrong_within}
 
 -- ---- an octet of a label, the length of a label, and the empty label
 
-pub wrong_octet : (begun : Bool) (left b : ℕ) (rest : List ℕ) → 0 < left
-    → wrong_within begun left (b ∷ rest) ≡ wrong_within begun (left - 1) rest
-wrong_octet begun left b rest some = rw (lt-ltb 0 left some) refl
+pub wrong_octet : (taken left b : ℕ) (rest : List ℕ) → 0 < left
+    → wrong_within taken left (b ∷ rest) ≡ wrong_within taken (left - 1) rest
+wrong_octet taken left b rest some = rw (lt-ltb 0 left some) refl
 
-pub wrong_label : (begun : Bool) (left b : ℕ) (rest : List ℕ) → left ≤ 0 → 0 < b → b ≤ 63
-    → wrong_within begun left (b ∷ rest) ≡ wrong_within true b rest
-wrong_label begun left b rest none some short =
-    rw (le-ltb 0 left none, ne_eqb b 0 (λ e. omega (arith, e, some)), le-ltb 63 b short) refl
+pub wrong_label : (taken left b : ℕ) (rest : List ℕ) → left ≤ 0 → (b ≡ 0 → ⊥) → b ≤ 63 → taken + 1 + b + 1 ≤ 255
+    → wrong_within taken left (b ∷ rest) ≡ wrong_within (taken + 1 + b) b rest
+wrong_label taken left b rest none some short fits =
+    rw (le-ltb 0 left none, ne_eqb b 0 some, le-ltb 63 b short, le-ltb 255 (taken + 1 + b + 1) fits) refl
 
-pub wrong_empty : (left b : ℕ) (rest : List ℕ) → left ≤ 0 → b ≤ 0
-    → wrong_within true left (b ∷ rest) ≡ wrong_within false left rest
-wrong_empty zero zero rest none also = refl
-wrong_empty (suc left) b rest none also = absurd (omega (arith, none))
-wrong_empty zero (suc b) rest none also = absurd (omega (arith, also))
+pub wrong_empty : (taken left b : ℕ) (rest : List ℕ) → left ≤ 0 → b ≡ 0 → (taken ≡ 0 → ⊥)
+    → wrong_within taken left (b ∷ rest) ≡ wrong_within 0 left rest
+wrong_empty taken zero zero rest none also begun = rw (ne_eqb taken 0 begun) refl
+wrong_empty taken (suc left) b rest none also begun = absurd (omega (arith, none))
+wrong_empty taken zero (suc b) rest none also begun = absurd (omega (arith, also))
 
 pub len_octet : (left b : ℕ) (rest : List ℕ) → 0 < left
     → len_within left (b ∷ rest) ≡ suc (len_within (left - 1) rest)

@@ -1,10 +1,13 @@
 //! Options of neighbor discovery of other standards than RFC 4861.
 
 use crate::printed::{Kind, ends_with_line, members_are};
+use crate::testing::same_of;
+use neighbor_fields::ndisc::options::refusal;
 
 // Router solicitations with an option: RFC 3971 section 5.3.2, RFC 4191 section 2.3, RFC 8106 sections 5.1 and 5.2,
 // RFC 8910 sections 2.3 and 2, RFC 8781 section 4 with the prefix of RFC 6052 section 2.1. The routes are of 3, 2 and 1
-// units and of each preference but the high one; the lifetime of the second is infinite.
+// units and of each preference but the high one; the lifetime of the second is infinite. A comma in a label is told by
+// its number (RFC 1035 section 5.1).
 const OPTIONS: &[(&[u8], &str)] = &[
     (
         &[
@@ -43,6 +46,13 @@ const OPTIONS: &[(&[u8], &str)] = &[
             b'p', b'l', b'e', 3, b'o', b'r', b'g', 0, 1, b'a', 2, b'b', b'.', 0, 0, 0, 0, 0, 0,
         ],
         "  dns_search_list=example.org.,a.b\\.. lifetime=1800s\n",
+    ),
+    (
+        &[
+            133, 0, 0, 0, 0, 0, 0, 0, 31, 2, 0, 0, 0, 0, 0x07, 0x08, 3, b'a', b',', b'b', 0, 1,
+            b'c', 0,
+        ],
+        "  dns_search_list=a\\044b.,c. lifetime=1800s\n",
     ),
     (
         &[
@@ -155,6 +165,27 @@ fn lengths_of_nat64_prefixes(rt: HostRuntime) {
     for &(low, line) in rows {
         octets[11] = low;
         ends_with_line(&rt, rt.alloc(), Kind::Ndisc, &octets, line);
+    }
+}
+
+// A name has at most 255 octets, with the lengths of its labels and the zero at its end (RFC 1035 section 2.3.4): here
+// three labels of 63 bytes, and another whose length is told to be 61, 62 or 64.
+#[test]
+fn longest_name_of_a_search_list(rt: HostRuntime) {
+    let rows: &[(u8, Option<&str>)] = &[
+        (61, None),
+        (62, Some("a name of more than 255 bytes")),
+        (64, Some("a label of more than 63 bytes")),
+    ];
+    let mut octets = [0; 272];
+    octets[0] = 31;
+    octets[1] = 34;
+    for place in [8, 72, 136] {
+        octets[place] = 63;
+    }
+    for &(len, why) in rows {
+        octets[200] = len;
+        same_of(&rt, len, refusal(&octets), why);
     }
 }
 

@@ -7,31 +7,37 @@ use packet_fields::value::{Text, Value, put_text};
 use rattle_std::io;
 use rattle_std::io::Write;
 
-// The most octets of a label (RFC 1035 section 2.3.4).
+// The most octets of a label, and of a name with its empty label (RFC 1035 section 2.3.4).
 const MOST_LABEL: u8 = 63;
+
+const MOST_NAME: u16 = 255;
 
 // Why octets are no domain names, one after another up to the end or to padding, where they are none.
 pub(super) fn wrong_names(octets: &[u8]) -> Option<&'static str> {
-    let mut begun = false;
+    let mut taken = 0;
     let mut left = 0;
     for octet in octets {
+        let end = taken + 1 + *octet as u16;
         if left > 0 {
             left -= 1;
+        } else if *octet == 0 {
+            if taken == 0 {
+                return None;
+            }
+            taken = 0;
         } else if *octet > MOST_LABEL {
             return Some("a label of more than 63 bytes");
-        } else if *octet > 0 {
-            begun = true;
-            left = *octet;
-        } else if begun {
-            begun = false;
+        } else if end + 1 > MOST_NAME {
+            return Some("a name of more than 255 bytes");
         } else {
-            return None;
+            taken = end;
+            left = *octet;
         }
     }
-    if begun {
-        return Some("the octets end before the name does");
+    if taken == 0 {
+        return None;
     }
-    None
+    Some("the octets end before the name does")
 }
 
 // The octets up to the end of the first name.
@@ -77,11 +83,12 @@ fn put_labels<O, S: Sink<O>>(output: &mut O, first_len: u8, octets: &[u8]) -> Re
     Ok(())
 }
 
-// Puts an octet of a label as a zone file has it (RFC 1035 section 5.1).
+// Puts an octet of a label as a zone file has it (RFC 1035 section 5.1), but for a comma, which is put by its number:
+// commas stand between names.
 fn put_label_character<O, S: Sink<O>>(output: &mut O, octet: u8) -> Result<(), S::Error> {
     match octet {
         b'"' | b'$' | b'(' | b')' | b'.' | b';' | b'@' | b'\\' => S::put(output, &[b'\\', octet]),
-        b'!'..=b'~' => S::put(output, &[octet]),
+        b'!'..=b'+' | b'-'..=b'~' => S::put(output, &[octet]),
         _ => put_numbered::<O, S>(output, octet),
     }
 }

@@ -1,7 +1,8 @@
--- The octets that are left tell the same as all.
-use Rattle.std.proofs.Common.{◌≡◌, drop}
+-- The octets that are left tell the same as all, and what is there of a name leaves room for its empty label.
+use Rattle.std.proofs.Common.{◌≡◌, ◌≤◌, drop}
 use Rattle.neighbor_fields.specs.NdiscTexts.{wrong_names, wrong_within}
 use Rattle.neighbor_fields.proofs.ndisc.texts.wrong_names.Given as goal
 
 abbrev pub invariant-loop-octet : goal.invariant-loop-octet
-invariant-loop-octet l = wrong_within l.begun l.left (drop l.octet-index l.octets) ≡ wrong_names l.octets
+invariant-loop-octet l =
+    (l.taken ≤ 254) × (wrong_within l.taken l.left (drop l.octet-index l.octets) ≡ wrong_names l.octets)
