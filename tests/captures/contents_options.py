@@ -2,6 +2,7 @@
 see contents.py."""
 
 import re
+import socket
 
 from contents_errors import quoted_octets
 from names import name
@@ -64,9 +65,18 @@ def route(values, length):
     if length > 3 or bits > 64 * (length - 1):
         return None
     address = "::" if length == 1 else values.text("icmpv6.opt.prefix")
-    return {"prefix": f"{address}/{bits}",
+    return {"prefix": prefix_of(address, bits),
             "preference": PREFERENCES[values.number("icmpv6.opt.route_info.flag") >> 3 & 3],
             "lifetime": 1000 * values.number("icmpv6.opt.route_lifetime")}
+
+
+def prefix_of(address, length):
+    """A prefix of so many bits; bits behind them are no part of it, and tshark shows them."""
+    told = int.from_bytes(socket.inet_pton(socket.AF_INET6, address), "big")
+    bits = told >> 128 - length << 128 - length
+    if bits != told:
+        address = socket.inet_ntop(socket.AF_INET6, bits.to_bytes(16, "big"))
+    return f"{address}/{length}"
 
 
 def servers(values, length):
@@ -107,7 +117,7 @@ def nat64(values, length):
     code = values.number("icmpv6.opt.pref64.plc")
     if length != 2 or code >= len(NAT64_LENGTHS):
         return None
-    return {"prefix": f'{values.text("icmpv6.opt.pref64.prefix")}/{NAT64_LENGTHS[code]}',
+    return {"prefix": prefix_of(values.text("icmpv6.opt.pref64.prefix"), NAT64_LENGTHS[code]),
             "lifetime": 8000 * values.number("icmpv6.opt.pref64.scaled_lifetime")}
 
 

@@ -210,12 +210,13 @@ def route(octets):
         return "more than 24 bytes"
     if length > 8 * len(there):
         return "too many bits for the prefix"
-    return (("prefix", filled(there, length)), Cell("preference", PREFERENCES[octets[3] >> 3 & 3]), lifetime(octets))
+    return (("prefix", prefix_of(there, length)), Cell("preference", PREFERENCES[octets[3] >> 3 & 3]), lifetime(octets))
 
 
-def filled(front, length):
-    """A prefix of so many bits, of which the octets behind these are zero."""
-    return "%s/%d" % (colons(front.ljust(16, b"\0")), length)
+def prefix_of(front, length):
+    """A prefix of so many bits: those behind them are zero."""
+    bits = be(front.ljust(16, b"\0")) >> 128 - length << 128 - length
+    return "%s/%d" % (colons(bits.to_bytes(16, "big")), length)
 
 
 def lifetime(octets):
@@ -281,7 +282,7 @@ def nat64(octets):
     scaled, code = divmod(be(octets[2:4]), 8)
     if code >= len(NAT64_LENGTHS):
         return "no prefix length has the code %d" % code
-    return (("prefix", filled(octets[4:], NAT64_LENGTHS[code])), Cell("lifetime", seconds(8 * scaled)))
+    return (("prefix", prefix_of(octets[4:], NAT64_LENGTHS[code])), Cell("lifetime", seconds(8 * scaled)))
 
 
 OTHERS = {14: nonce, 24: route, 25: servers, 31: search_list, 37: portal, 38: nat64}

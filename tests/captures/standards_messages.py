@@ -271,7 +271,7 @@ def advertises(*options):
 # captive portal (RFC 8910) and the prefix of a NAT64 (RFC 8781).
 NONCE = option(14, hexed("a1b2c3d4e5f6"))
 ROUTES = (option(24, hexed("3008 00000e10 20010db8000100000000000000000000")),
-          option(24, hexed("2118 ffffffff 20010db880000000")), option(24, hexed("0010 00000000")))
+          option(24, hexed("2118 ffffffff 20010db8ffffffff")), option(24, hexed("0010 00000000")))
 SERVERS = option(25, hexed("0000 00000708") + SERVER6 + HOST6)
 SEARCHED = b"\7example\3org\0" + b"\3a.,\4\x80\\$ \0"
 SEARCH_LIST = option(31, hexed("0000 00000708") + SEARCHED)
@@ -320,8 +320,9 @@ NEIGHBORS = {
         option(38, hexed("0708 0064ff9b")), option(38, hexed("0706 0064ff9b") + b"\0" * 8),
         option(38, hexed("0707 0064ff9b") + b"\0" * 8), option(38, hexed("0708 0064ff9b") + b"\0" * 16), b"\x0e\0")),
     "router_advertisement_of_prefix_lengths": raw(advertises(
-        *(option(38, (0xfff8 + code).to_bytes(2, "big") + HOST6[:12]) for code in range(6)),
-        *(option(24, bytes([8 * size, 0]) + b"\0" * 4 + HOST6[:size]) for size in (0, 8, 16)))),
+        *(option(38, (0xfff8 + code).to_bytes(2, "big") + HOST6[:4] + b"\xff" * 8) for code in range(6)),
+        *(option(24, bytes([8 * size, 0]) + b"\0" * 4 + HOST6[:size]) for size in (0, 8, 16)),
+        *(option(24, bytes([length, 0]) + b"\0" * 4 + b"\xff" * 16) for length in (*range(9), 63, 64, 65, 127)))),
     "router_advertisement_of_texts": raw(advertises(
         *(option(31, hexed("0000 00000708") + names) for names in (
             b"\5local\0", b"\1a\0\1b\0\0c", b"\0" * 8, b"\x3f" + b"x" * 63 + b"\0", b"\2\"\x1f\0", b"\1a\1",

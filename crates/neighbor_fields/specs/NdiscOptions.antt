@@ -1,6 +1,6 @@
 -- Options of messages of neighbor discovery (RFC 4861 section 4.6), as entries.
-use Rattle.std.specs.Prelude.{◌==◌, ◌*◌, ◌-◌, ◌/◌, ◌%◌, [], ◌∷◌, ◌++◌, List, None, Option, Some, ℕ, codes, decimal}
-use Rattle.std.specs.Prelude.{drop, if◌then◌else◌, length, map, nat_lt, replicate}
+use Rattle.std.specs.Prelude.{◌==◌, ◌*◌, ◌-◌, ◌/◌, ◌%◌, ◌^◌, [], ◌∷◌, ◌++◌, List, None, Option, Some, ℕ, codes}
+use Rattle.std.specs.Prelude.{decimal, drop, if◌then◌else◌, length, map, nat_le, nat_lt, replicate}
 use Rattle.wirebase.specs.Bytes.{byte_of, bytes_of, field as at, number_of, over}
 use Rattle.wirebase.specs.Hexadecimal.{hex_colons}
 use Rattle.packet_fields.specs.Entries.{hidden_value, keyed_value, octets_entry}
@@ -194,12 +194,24 @@ nonce_entry bytes = entry_with 14 (codes "nonce") (octets (drop 2 bytes)) []
 abbrev pub filled : List ℕ → List ℕ
 filled front = over (replicate 16 0) front
 
+-- so many first bits of an octet, and of octets, with zeros in the place of the others
+abbrev pub kept_bits : ℕ → ℕ → ℕ
+kept_bits len b = if nat_le 8 len then b else b / 2 ^ (8 - len) * 2 ^ (8 - len)
+
+abbrev pub masked : ℕ → List ℕ → List ℕ
+masked len [] = []
+masked len (b ∷ bs) = kept_bits len b ∷ masked (len - 8) bs
+
+-- a prefix that some octets begin: bits beyond its length are no part of it
+abbrev pub begun_prefix : List ℕ → ℕ → Leaf
+begun_prefix front len = text (prefix_text (masked len (filled front)) len)
+
 abbrev pub preference_cells : ℕ → List Cell
 preference_cells n = keyed_value (codes "preference") (leaf_or_missing text (name_in preference_names n))
 
 abbrev pub route_entry : List ℕ → Entry
 route_entry bytes =
-    entry_with 24 (codes "prefix") (text (prefix_text (filled (drop 8 bytes)) (byte_of (at 2 3) bytes)))
+    entry_with 24 (codes "prefix") (begun_prefix (drop 8 bytes) (byte_of (at 2 3) bytes))
     (preference_cells (byte_of (at 3 4) bytes / 8 % 4) ++ lifetime_cells (number_of (at 4 8) bytes))
 
 abbrev pub servers_entry : List ℕ → Entry
@@ -216,7 +228,7 @@ portal_entry bytes = entry_with 37 (codes "uri") (text (uri_text (drop 2 bytes))
 -- the lifetime of a NAT64 prefix is in units of 8 seconds
 abbrev pub nat64_entry : List ℕ → Entry
 nat64_entry bytes =
-    entry_with 38 (codes "prefix") (text (prefix_text (filled (drop 4 bytes)) (length_bits (length_code bytes))))
+    entry_with 38 (codes "prefix") (begun_prefix (drop 4 bytes) (length_bits (length_code bytes)))
     (lifetime_cells (8 * (number_of (at 2 4) bytes / 8)))
 
 -- an option that is not refused

@@ -5,9 +5,9 @@ use crate::testing::same_of;
 use neighbor_fields::ndisc::options::refusal;
 
 // Router solicitations with an option: RFC 3971 section 5.3.2, RFC 4191 section 2.3, RFC 8106 sections 5.1 and 5.2,
-// RFC 8910 sections 2.3 and 2, RFC 8781 section 4 with the prefix of RFC 6052 section 2.1. The routes are of 3, 2 and 1
-// units and of each preference but the high one; the lifetime of the second is infinite. A comma in a label is told by
-// its number (RFC 1035 section 5.1).
+// RFC 8910 sections 2.3 and 2, RFC 8781 section 4 with the prefix of RFC 6052 section 2.1. The routes are of 3, 2, 1 and
+// 2 units and of each preference; the lifetime of the second is infinite, and the last has bits beyond its length, which
+// are no part of its prefix. A comma in a label is told by its number (RFC 1035 section 5.1).
 const OPTIONS: &[(&[u8], &str)] = &[
     (
         &[
@@ -32,6 +32,13 @@ const OPTIONS: &[(&[u8], &str)] = &[
     (
         &[133, 0, 0, 0, 0, 0, 0, 0, 24, 1, 0, 0x10, 0, 0, 0, 0],
         "  route_information=::/0 preference=reserved lifetime=0s\n",
+    ),
+    (
+        &[
+            133, 0, 0, 0, 0, 0, 0, 0, 24, 2, 33, 0x08, 0, 0, 0x0e, 0x10, 0x20, 0x01, 0x0d, 0xb8,
+            255, 255, 255, 255,
+        ],
+        "  route_information=2001:db8:8000::/33 preference=high lifetime=3600s\n",
     ),
     (
         &[
@@ -144,23 +151,28 @@ fn options_of_another_form(rt: HostRuntime) {
     }
 }
 
-// The codes of the lengths of prefixes (RFC 8781 section 4), each with a lifetime of 65528 seconds.
+// The codes of the lengths of prefixes (RFC 8781 section 4), each with a lifetime of 65528 seconds; bits beyond a length
+// are no part of its prefix.
 #[test]
 fn lengths_of_nat64_prefixes(rt: HostRuntime) {
     let rows: &[(u8, &str)] = &[
-        (0xf8, "  pref64=2001:db8::/96 lifetime=65528s\n"),
-        (0xf9, "  pref64=2001:db8::/64 lifetime=65528s\n"),
-        (0xfa, "  pref64=2001:db8::/56 lifetime=65528s\n"),
-        (0xfb, "  pref64=2001:db8::/48 lifetime=65528s\n"),
-        (0xfc, "  pref64=2001:db8::/40 lifetime=65528s\n"),
+        (
+            0xf8,
+            "  pref64=2001:db8:ffff:ffff:ffff:ffff::/96 lifetime=65528s\n",
+        ),
+        (0xf9, "  pref64=2001:db8:ffff:ffff::/64 lifetime=65528s\n"),
+        (0xfa, "  pref64=2001:db8:ffff:ff00::/56 lifetime=65528s\n"),
+        (0xfb, "  pref64=2001:db8:ffff::/48 lifetime=65528s\n"),
+        (0xfc, "  pref64=2001:db8:ff00::/40 lifetime=65528s\n"),
         (0xfd, "  pref64=2001:db8::/32 lifetime=65528s\n"),
         (
             0xff,
-            "  pref64=ffff20010db80000000000000000 refused=no prefix length has the code 7\n",
+            "  pref64=ffff20010db8ffffffffffffffff refused=no prefix length has the code 7\n",
         ),
     ];
     let mut octets = [
-        133, 0, 0, 0, 0, 0, 0, 0, 38, 2, 0xff, 0, 0x20, 0x01, 0x0d, 0xb8, 0, 0, 0, 0, 0, 0, 0, 0,
+        133, 0, 0, 0, 0, 0, 0, 0, 38, 2, 0xff, 0, 0x20, 0x01, 0x0d, 0xb8, 255, 255, 255, 255, 255,
+        255, 255, 255,
     ];
     for &(low, line) in rows {
         octets[11] = low;

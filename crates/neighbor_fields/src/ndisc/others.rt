@@ -7,8 +7,8 @@ ghost use Rattle.wirebase.specs.Bytes.{over};
 ghost use Rattle.packet_fields.specs.Entries.{PrintsEntry};
 ghost use Rattle.packet_fields.specs.Fields.{Fits};
 ghost use Rattle.packet_fields.specs.Prints.{PrintsCells};
-ghost use Rattle.neighbor_fields.specs.NdiscOptions.{entry_with, filled, length_bits, lifetime_cells};
-ghost use Rattle.neighbor_fields.specs.NdiscOptions.{nat64_entry, nonce_entry, other_entry, portal_entry};
+ghost use Rattle.neighbor_fields.specs.NdiscOptions.{entry_with, filled, kept_bits, length_bits, lifetime_cells};
+ghost use Rattle.neighbor_fields.specs.NdiscOptions.{masked, nat64_entry, nonce_entry, other_entry, portal_entry};
 ghost use Rattle.neighbor_fields.specs.NdiscOptions.{preference_cells, route_entry, search_list_entry};
 ghost use Rattle.neighbor_fields.specs.NdiscOptions.{servers_entry, wrong_other};
 
@@ -165,10 +165,11 @@ fn show_nat64<W: Write>(output: &mut W, form: Form, is_first: bool, option: &[u8
 {
     let scaled = option.u16_at(field::SCALED_LIFETIME);
     let (_, front) = option.split_at(field::NAT64_PREFIX);
-    let address = filled(front);
+    let len = length_bits(scaled % 8);
+    let address = prefix_address(len, front);
     let prefix = Prefix {
         address: Address(&address),
-        len: length_bits(scaled % 8),
+        len,
     };
     let lifetime = 8 * (scaled / 8) as u32;
     show_for_a_time(output, form, is_first, PREF64, "prefix", prefix, lifetime)
@@ -195,10 +196,11 @@ fn show_route<W: Write>(output: &mut W, form: Form, is_first: bool, option: &[u8
         (route_entry option.now)) }
 {
     let (_, front) = option.split_at(field::BEHIND_LIFETIME);
-    let address = filled(front);
+    let len = option.u8_at(field::ROUTE_LEN);
+    let address = prefix_address(len, front);
     let prefix = Prefix {
         address: Address(&address),
-        len: option.u8_at(field::ROUTE_LEN),
+        len,
     };
     open_entry(
         output,
@@ -230,13 +232,42 @@ fn show_lifetime<W: Write>(output: &mut W, form: Form, seconds: u32) -> io::Resu
     keyed_cell(output, form, "lifetime", Seconds(seconds))
 }
 
-// The octets of the address that some octets begin, with zeros behind them.
-fn filled(front: &[u8]) -> [u8; ADDRESS_LEN]
-    ensures { result ≡ filled front.now }
+// The address of a prefix that some octets begin, with zeros for what they leave out and for bits beyond its length.
+fn prefix_address(len: u8, front: &[u8]) -> [u8; ADDRESS_LEN]
+    ensures { result ≡ masked len (filled front.now) }
 {
     let mut octets = [0; ADDRESS_LEN];
     write_front(&mut octets, front);
+    mask(len, &mut octets);
     octets
+}
+
+// Writes zeros in the place of all bits but the first, so many.
+fn mask(len: u8, octets: &mut [u8])
+    ensures { octets.new ≡ masked len octets.old }
+{
+    let mut left = len;
+    for octet in octets.iter_mut() {
+        *octet = kept_bits(left, *octet);
+        left = left.saturating_sub(8);
+    }
+}
+
+// The first bits of an octet, so many, with zeros in the place of the others.
+fn kept_bits(len: u8, octet: u8) -> u8
+    ensures { result ≡ kept_bits len octet }
+{
+    match len {
+        0 => 0,
+        1 => octet / 128 * 128,
+        2 => octet / 64 * 64,
+        3 => octet / 32 * 32,
+        4 => octet / 16 * 16,
+        5 => octet / 8 * 8,
+        6 => octet / 4 * 4,
+        7 => octet / 2 * 2,
+        _ => octet,
+    }
 }
 
 // Writes the first of the octets, as many as there is room for.

@@ -7,8 +7,8 @@ pub returns : goal.returns
 returns g c =
     let label = rw c.label_of.ensures.value at c.in_ok-open_entry.ensures in
     let prefix =
-    rw (c.filled-address.ensures, c.split_at.ensures.back, c.u8_at.ensures) at c.in_ok-first_cell.ensures in
-    let preference = rw c.u8_at-2.ensures at c.in_ok-show_preference.ensures in
+    rw (c.prefix_address-address.ensures, c.split_at.ensures.back, c.u8_at-len.ensures) at c.in_ok-first_cell.ensures in
+    let preference = rw c.u8_at.ensures at c.in_ok-show_preference.ensures in
     let lifetime = rw c.u32_at.ensures at c.in_ok-show_lifetime.ensures in
     let others = cells_both _ _ _ _ _ _ (cells_both _ _ _ _ _ _ preference lifetime) c.in_ok-hidden_number.ensures in
     entry_printed _ _ _ _ _ _ _ _ _ tt label prefix others c.close_entry.ensures
