@@ -23,7 +23,7 @@ def neighbor_options(packet):
 def option(packet, values, number, length):
     """An option of so many units of eight octets."""
     if number in (1, 2):
-        return entry("option", number, address=values.text("icmpv6.opt.linkaddr"))
+        return entry("option", number, addr=values.text("icmpv6.opt.linkaddr"))
     if number == 4:
         return redirected(packet)
     if number == 5:

@@ -166,7 +166,7 @@ def neighbor_option(octets, is_whole):
     if not is_whole:
         return plain(CUT_OPTION)
     if kind in (1, 2):
-        return told(("address", mac(octets[2:])))
+        return told(("addr", mac(octets[2:])))
     if kind == 3:
         return told(*prefix(octets)) if len(octets) == 32 else plain("not 32 bytes")
     if kind == 4:

@@ -145,7 +145,7 @@ entry_with t key first cells = record {
 
 -- a link-layer address, with what the option has behind it
 abbrev pub address_entry : ℕ → List ℕ → Entry
-address_entry t address = entry_with t (codes "address") (text (hex_colons address)) []
+address_entry t address = entry_with t (codes "addr") (text (hex_colons address)) []
 
 -- a prefix (RFC 4861 section 4.6.2): an address, a slash, and a number of bits; lifetimes are in seconds
 abbrev pub prefix_text : List ℕ → ℕ → List ℕ

@@ -33,7 +33,7 @@ const ADVERTISEMENT_JSON: &str =
     \"retrans_time\":0,\"options\":[{\"option\":\"prefix_information\",\"prefix\":\"2001:db8:1::/64\",\
     \"flags\":[\"on_link\",\"autonomous\"],\"valid_lifetime\":3600000,\"preferred_lifetime\":3600000,\
     \"type\":3},{\"option\":\"mtu\",\"mtu\":1500,\"type\":5},\
-    {\"option\":\"source_link_layer_address\",\"address\":\"02:00:00:00:00:01\",\"type\":1},\
+    {\"option\":\"source_link_layer_address\",\"addr\":\"02:00:00:00:00:01\",\"type\":1},\
     {\"option\":\"recursive_dns_server\",\"servers\":[\"fe80::ff:fe00:1\"],\"lifetime\":3600000,\
     \"type\":25}]";
 
@@ -98,7 +98,7 @@ const REDIRECT_LINES: &str = "  type=137 (redirect)
 const REDIRECT_JSON: &str =
     ",\"type\":137,\"type_name\":\"redirect\",\"code\":0,\"target_addr\":\"fe80::ff:fe00:1\",\
     \"dest_addr\":\"2001:db8:1::5\",\"options\":[\
-    {\"option\":\"target_link_layer_address\",\"address\":\"02:00:00:00:00:01\",\"type\":2},\
+    {\"option\":\"target_link_layer_address\",\"addr\":\"02:00:00:00:00:01\",\"type\":2},\
     {\"option\":\"redirected_header\",\"quoted_src_addr\":\"2001:db8::7\",\
     \"quoted_dst_addr\":\"2001:db8:1::5\",\"quoted_next_header\":58,\"quoted_hop_limit\":64,\
     \"quoted_payload_len\":8,\"quoted_payload\":\"8000abcd12340001\",\"type\":4}]";

@@ -153,7 +153,7 @@ fn show_address<W: Write>(
     address: &[u8],
 ) -> io::Result<()> {
     open_entry(output, form, is_first, "option", label_of(type_))?;
-    first_cell(output, form, "address", Colons(address))?;
+    first_cell(output, form, "addr", Colons(address))?;
     hidden_number(output, form, "type", type_ as u64)?;
     close_entry(output, form)
 }
