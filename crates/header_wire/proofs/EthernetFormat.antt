@@ -29,8 +29,8 @@ unfolding fields be16 part
 frame_read f c = record {
   passes = (omega arith, tt);
   says = record {
-    destination = refl;
-    source = refl;
+    src_addr = refl;
+    dst_addr = refl;
     ether_type = sym (big_number-reads_back 2 f.header.ether_type [] c);
   };
   payload = refl;
@@ -39,15 +39,15 @@ frame_read f c = record {
 -- ---- what was read
 
 abbrev value : Ethernet → Ethernet → ℕ → Value
-value destination source ether_type = record { destination = destination; source = source; ether_type = ether_type }
+value src_addr dst_addr ether_type = record { src_addr = src_addr; dst_addr = dst_addr; ether_type = ether_type }
 
 says-one : (bytes : List ℕ) (v w : Value) → Says bytes v → Says bytes w → v ≡ w
 says-one bytes v w a b =
-    let destination = same_hardware v.destination w.destination (a.destination ∙ sym b.destination) in
-    let source = same_hardware v.source w.source (a.source ∙ sym b.source) in
+    let src_addr = same_hardware v.src_addr w.src_addr (a.src_addr ∙ sym b.src_addr) in
+    let dst_addr = same_hardware v.dst_addr w.dst_addr (a.dst_addr ∙ sym b.dst_addr) in
     let ether_type = a.ether_type ∙ sym b.ether_type in
-    let same : value v.destination v.source v.ether_type ≡ value w.destination w.source w.ether_type =
-    rw (destination, source, ether_type) refl in
+    let same : value v.src_addr v.dst_addr v.ether_type ≡ value w.src_addr w.dst_addr w.ether_type =
+    rw (src_addr, dst_addr, ether_type) refl in
     same
 
 frame-one : (bytes : List ℕ) (f g : Frame) → IsFrame bytes f → IsFrame bytes g → f ≡ g

@@ -30,14 +30,14 @@ use Rattle.header_wire.specs.declared.ethernet.Refusal.{Refusal}
 
 -- a header by its content
 pub record Value : Type 0 where
-  pub destination : Ethernet
-  pub source : Ethernet
+  pub src_addr : Ethernet
+  pub dst_addr : Ethernet
   pub ether_type : ℕ
 
 abbrev pub value_of : Header → Value
 value_of h = record {
-  destination = ethernet_of h.destination;
-  source = ethernet_of h.source;
+  src_addr = ethernet_of h.src_addr;
+  dst_addr = ethernet_of h.dst_addr;
   ether_type = h.ether_type;
 }
 
@@ -58,18 +58,18 @@ abbrev pub text_len : ℕ
 text_len = 14
 
 abbrev pub header_fields : Value → List (List ℕ)
-header_fields v = octets_of v.destination ∷ octets_of v.source ∷ be16 v.ether_type ∷ []
+header_fields v = octets_of v.dst_addr ∷ octets_of v.src_addr ∷ be16 v.ether_type ∷ []
 
 abbrev pub text : Value → List ℕ
 text v = fields (header_fields v)
 
 -- ---- the grammar
 
-abbrev pub destination_field : Field
-destination_field = field 0 6
+abbrev pub dst_addr_field : Field
+dst_addr_field = field 0 6
 
-abbrev pub source_field : Field
-source_field = field 6 12
+abbrev pub src_addr_field : Field
+src_addr_field = field 6 12
 
 abbrev pub ether_type_field : Field
 ether_type_field = field 12 14
@@ -80,8 +80,8 @@ checks bytes = check (14 ≤ length bytes) Refusal.Short ∷ []
 
 -- what the fields say
 pub record Says (bytes : List ℕ) (v : Value) : Type 0 where
-  pub destination : octets_of v.destination ≡ bytes_of destination_field bytes
-  pub source : octets_of v.source ≡ bytes_of source_field bytes
+  pub src_addr : octets_of v.src_addr ≡ bytes_of src_addr_field bytes
+  pub dst_addr : octets_of v.dst_addr ≡ bytes_of dst_addr_field bytes
   pub ether_type : v.ether_type ≡ number_of ether_type_field bytes
 
 -- The grammar: the bytes pass the check, and are this frame.

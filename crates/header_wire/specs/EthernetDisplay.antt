@@ -9,7 +9,7 @@ use Rattle.header_wire.specs.declared.ethernet.Refusal.{Refusal}
 
 abbrev pub header_display : Value → List ℕ
 header_display v =
-    pieces (hex_colons (octets_of v.source) ∷ codes " > " ∷ hex_colons (octets_of v.destination)
+    pieces (hex_colons (octets_of v.src_addr) ∷ codes " > " ∷ hex_colons (octets_of v.dst_addr)
     ∷ codes " ether_type=0x" ∷ encode_lower (big_bytes 2 v.ether_type) ∷ [])
 
 abbrev pub refusal_display : Refusal → List ℕ

@@ -15,9 +15,9 @@ use wirebase::{ByteWriter, EthernetAddress, Ipv4Address, Ipv6Address, Octets, ar
 mod field {
     use wirebase::Field;
 
-    pub const DESTINATION: Field = 0..6;
+    pub const DST_ADDR: Field = 0..6;
 
-    pub const SOURCE: Field = 6..12;
+    pub const SRC_ADDR: Field = 6..12;
 
     pub const ETHER_TYPE: Field = 12..14;
 }
@@ -48,8 +48,8 @@ pub enum Refusal {
 /// use header_wire::ethernet::{self, Header, multicast_v4};
 ///
 /// let header = Header {
-///     destination: multicast_v4(Ipv4Address::new(224, 0, 0, 251)),
-///     source: EthernetAddress([2, 0, 0, 0, 0, 1]),
+///     src_addr: EthernetAddress([2, 0, 0, 0, 0, 1]),
+///     dst_addr: multicast_v4(Ipv4Address::new(224, 0, 0, 251)),
 ///     ether_type: ethernet::IPV4,
 /// };
 /// let mut octets = [0; 60];
@@ -59,10 +59,10 @@ pub enum Refusal {
 /// ```
 #[derive(Debug, PartialEq, Eq, Clone, Copy)]
 pub struct Header {
-    /// The address that the frame goes to.
-    pub destination: EthernetAddress,
     /// The address that the frame comes from.
-    pub source: EthernetAddress,
+    pub src_addr: EthernetAddress,
+    /// The address that the frame goes to.
+    pub dst_addr: EthernetAddress,
     /// The EtherType, which says what the payload is: 0x0600 or more. A number of at most 1,500 is the length of the
     /// payload (IEEE 802.3), and those between are neither; any is read and written as it is.
     pub ether_type: u16,
@@ -104,8 +104,8 @@ impl Header {
         ensures { octets.new ≡ over octets.old (text (value_of self.now)) }
     {
         let mut w = ByteWriter::new(octets);
-        w.put_bytes(self.destination.as_bytes());
-        w.put_bytes(self.source.as_bytes());
+        w.put_bytes(self.dst_addr.as_bytes());
+        w.put_bytes(self.src_addr.as_bytes());
         w.put_u16(self.ether_type);
     }
 }
@@ -121,8 +121,8 @@ fn read(octets: &[u8]) -> Result<(Header, &[u8]), Refusal>
         return Err(Refusal::Short);
     }
     let header = Header {
-        destination: EthernetAddress::from_bytes(octets.field(field::DESTINATION)),
-        source: EthernetAddress::from_bytes(octets.field(field::SOURCE)),
+        src_addr: EthernetAddress::from_bytes(octets.field(field::SRC_ADDR)),
+        dst_addr: EthernetAddress::from_bytes(octets.field(field::DST_ADDR)),
         ether_type: octets.u16_at(field::ETHER_TYPE),
     };
     Ok((header, &octets[LEN..]))

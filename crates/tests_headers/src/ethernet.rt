@@ -35,8 +35,8 @@ fn headers_of_frames(rt: HostRuntime) {
                 0xff, 0xff, 0xff, 0xff, 0xff, 0xff, 0x02, 0x00, 0x00, 0x00, 0x00, 0x07, 0x08, 0x06,
             ],
             Header {
-                destination: EthernetAddress([0xff; 6]),
-                source: EthernetAddress([2, 0, 0, 0, 0, 7]),
+                src_addr: EthernetAddress([2, 0, 0, 0, 0, 7]),
+                dst_addr: EthernetAddress([0xff; 6]),
                 ether_type: ethernet::ARP,
             },
             "02:00:00:00:00:07 > ff:ff:ff:ff:ff:ff ether_type=0x0806",
@@ -46,8 +46,8 @@ fn headers_of_frames(rt: HostRuntime) {
                 0x33, 0x33, 0x00, 0x00, 0x00, 0x16, 0x1e, 0x6a, 0x26, 0xb6, 0x59, 0xa4, 0x86, 0xdd,
             ],
             Header {
-                destination: EthernetAddress([0x33, 0x33, 0, 0, 0, 0x16]),
-                source: EthernetAddress([0x1e, 0x6a, 0x26, 0xb6, 0x59, 0xa4]),
+                src_addr: EthernetAddress([0x1e, 0x6a, 0x26, 0xb6, 0x59, 0xa4]),
+                dst_addr: EthernetAddress([0x33, 0x33, 0, 0, 0, 0x16]),
                 ether_type: ethernet::IPV6,
             },
             "1e:6a:26:b6:59:a4 > 33:33:00:00:00:16 ether_type=0x86dd",
@@ -57,8 +57,8 @@ fn headers_of_frames(rt: HostRuntime) {
                 0x01, 0x00, 0x5e, 0x01, 0x02, 0x03, 0x02, 0x00, 0x00, 0x00, 0x00, 0x07, 0x08, 0x00,
             ],
             Header {
-                destination: EthernetAddress([1, 0, 0x5e, 1, 2, 3]),
-                source: EthernetAddress([2, 0, 0, 0, 0, 7]),
+                src_addr: EthernetAddress([2, 0, 0, 0, 0, 7]),
+                dst_addr: EthernetAddress([1, 0, 0x5e, 1, 2, 3]),
                 ether_type: ethernet::IPV4,
             },
             "02:00:00:00:00:07 > 01:00:5e:01:02:03 ether_type=0x0800",
@@ -69,8 +69,8 @@ fn headers_of_frames(rt: HostRuntime) {
                 0x01, 0x80, 0xc2, 0x00, 0x00, 0x00, 0x02, 0x00, 0x00, 0x00, 0x00, 0x01, 0x00, 0x26,
             ],
             Header {
-                destination: EthernetAddress([1, 0x80, 0xc2, 0, 0, 0]),
-                source: EthernetAddress([2, 0, 0, 0, 0, 1]),
+                src_addr: EthernetAddress([2, 0, 0, 0, 0, 1]),
+                dst_addr: EthernetAddress([1, 0x80, 0xc2, 0, 0, 0]),
                 ether_type: 38,
             },
             "02:00:00:00:00:01 > 01:80:c2:00:00:00 ether_type=0x0026",

@@ -41,8 +41,8 @@ impl Host {
     /// Sends a frame, and says whether the device took it: one that is down does not.
     pub fn transmit(&mut self, to: EthernetAddress, ether_type: u16, payload: &[u8]) -> bool {
         let header = ethernet::Header {
-            destination: to,
-            source: self.hardware,
+            src_addr: self.hardware,
+            dst_addr: to,
             ether_type,
         };
         let frame = written(ethernet::LEN, |octets| header.emit_into(octets), payload);

@@ -18,9 +18,9 @@ impl Host {
     /// Takes a frame; None where it is not for this host or not good.
     pub fn receive(&mut self, frame: &[u8]) -> Option<()> {
         let (header, payload) = ethernet::Header::parse(frame).ok()?;
-        let to_many = header.destination.is_multicast();
+        let to_many = header.dst_addr.is_multicast();
         match header.ether_type {
-            _ if header.destination != self.hardware && !to_many => None,
+            _ if header.dst_addr != self.hardware && !to_many => None,
             ethernet::IPV4 => self.receive_v4(payload, to_many),
             ethernet::IPV6 => self.receive_v6(payload, to_many),
             ethernet::ARP => self.receive_arp(payload),

@@ -124,8 +124,8 @@ fn arp_cases() {
 /// The cases of headers of Ethernet, and of hardware addresses of groups.
 fn ethernet_cases() {
     let headers = many(65, |random, _| ethernet::Header {
-        destination: random.ethernet(),
-        source: random.ethernet(),
+        src_addr: random.ethernet(),
+        dst_addr: random.ethernet(),
         ether_type: random.u16(),
     });
     writes(

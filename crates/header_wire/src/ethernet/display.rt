@@ -13,8 +13,8 @@ impl fmt::Display for Header {
     ghost output = { λ header. Some (header_display (value_of header)) };
 
     fn fmt<W: fmt::Write>(&self, f: &mut fmt::Formatter<W>) -> fmt::Result {
-        let from = self.source;
-        let to = self.destination;
+        let from = self.src_addr;
+        let to = self.dst_addr;
         write!(
             f,
             "{from} > {to} ether_type=0x{}",

@@ -8,8 +8,8 @@ use core::fmt;
 /// The addresses, and the EtherType in hexadecimal.
 impl fmt::Display for Header {
     fn fmt(&self, f: &mut fmt::Formatter<'_>) -> fmt::Result {
-        let from = self.source;
-        let to = self.destination;
+        let from = self.src_addr;
+        let to = self.dst_addr;
         write!(
             f,
             "{from} > {to} ether_type=0x{}",
