@@ -9,6 +9,7 @@ use header_wire::ipv6_fragment::{Header, LEN, Refusal};
 use header_wire::{Fragment, Fragments};
 use std::alloc::Global;
 use std::process::Abort;
+use std::test::Fail;
 use wirebase::IpProtocol;
 
 // The octets of a buffer before it is written into.
@@ -116,7 +117,8 @@ fn check_parts(rt: &impl Abort, payload: &[u8], room: usize, wanted: &[(u16, boo
     };
     let mut rest = payload;
     for &(frag_offset, more_frags, len) in wanted {
-        let (part, behind) = rest.split_at(len.min(rest.len()));
+        same_of(rt, room, len <= rest.len(), true);
+        let (part, behind) = rest.split_at(len);
         rest = behind;
         let wanted = Fragment {
             frag_offset,
@@ -182,6 +184,49 @@ fn the_greatest_payload_in_the_smallest_parts(rt: HostRuntime) {
         same_of(&rt, frag_offset, parts.next(), Some(wanted));
     }
     same(&rt, parts.next(), None);
+}
+
+// Ends the test unless exactly these are left.
+fn are_left(rt: &impl Abort, mut parts: Fragments<'_>, wanted: &[Fragment<'_>]) {
+    for &part in wanted {
+        same(rt, parts.next(), Some(part));
+    }
+    same(rt, parts.next(), None);
+}
+
+#[test]
+fn a_copy_of_fragments_gives_the_same_rest(rt: HostRuntime) -> Result<(), Fail> {
+    let payload = b"the 1st,the 2nd,the end";
+    let wanted = &[
+        Fragment {
+            frag_offset: 0,
+            more_frags: true,
+            part: b"the 1st,",
+        },
+        Fragment {
+            frag_offset: 1,
+            more_frags: true,
+            part: b"the 2nd,",
+        },
+        Fragment {
+            frag_offset: 2,
+            more_frags: false,
+            part: b"the end",
+        },
+    ];
+    let Some(mut parts) = Fragments::new(payload, 8) else {
+        same(&rt, false, true);
+        return Ok(());
+    };
+    are_left(&rt, parts.clone()?, wanted);
+    same(&rt, parts.next(), Some(wanted[0]));
+    are_left(&rt, parts.clone()?, &wanted[1..]);
+    same(&rt, parts.next(), Some(wanted[1]));
+    are_left(&rt, parts.clone()?, &wanted[2..]);
+    same(&rt, parts.next(), Some(wanted[2]));
+    are_left(&rt, parts.clone()?, &[]);
+    are_left(&rt, parts, &[]);
+    Ok(())
 }
 
 #[test]

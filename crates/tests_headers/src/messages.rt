@@ -19,12 +19,11 @@ fn check(rt: &impl Abort, alloc: Global, octets: &[u8], text: &str) {
     prints(rt, alloc, &message, text);
     let len = message.buffer_len();
     same_of(rt, octets, len, octets.len());
+    same_of(rt, octets, len <= 64, true);
     for &fill in FILLS {
         let mut buffer = [fill; 64];
-        if len <= 64 {
-            message.emit_into(&mut buffer[..len]);
-        }
-        same_of(rt, fill, &buffer[..len.min(64)], octets);
+        message.emit_into(&mut buffer[..len]);
+        same_of(rt, fill, &buffer[..len], octets);
     }
 }
 

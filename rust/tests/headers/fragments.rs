@@ -2,6 +2,9 @@
 //! Fragment headers of IPv6 as tcpdump shows them, and the parts of payloads: those of RFC 791 appendix A, and those
 //! that Linux sends.
 
+#[allow(unused_imports)]
+use crate::rattle_std::prelude::*;
+use crate::rattle_std::test::Fail;
 use crate::testing::{prints, same, same_of, takes_writes};
 use control_wire::IpProtocol;
 use control_wire::headers::fragments::MAX_PAYLOAD_LEN;
@@ -99,7 +102,8 @@ fn check_parts(payload: &[u8], room: usize, wanted: &[(u16, bool, usize)]) {
     };
     let mut rest = payload;
     for &(frag_offset, more_frags, len) in wanted {
-        let (part, behind) = rest.split_at(len.min(rest.len()));
+        same_of(room, len <= rest.len(), true);
+        let (part, behind) = rest.split_at(len);
         rest = behind;
         let wanted = Fragment {
             frag_offset,
@@ -165,6 +169,49 @@ fn the_greatest_payload_in_the_smallest_parts() {
         same_of(frag_offset, parts.next(), Some(wanted));
     }
     same(parts.next(), None);
+}
+
+// Ends the test unless exactly these are left.
+fn are_left(mut parts: Fragments<'_>, wanted: &[Fragment<'_>]) {
+    for &part in wanted {
+        same(parts.next(), Some(part));
+    }
+    same(parts.next(), None);
+}
+
+#[test]
+fn a_copy_of_fragments_gives_the_same_rest() -> Result<(), Fail> {
+    let payload = b"the 1st,the 2nd,the end";
+    let wanted = &[
+        Fragment {
+            frag_offset: 0,
+            more_frags: true,
+            part: b"the 1st,",
+        },
+        Fragment {
+            frag_offset: 1,
+            more_frags: true,
+            part: b"the 2nd,",
+        },
+        Fragment {
+            frag_offset: 2,
+            more_frags: false,
+            part: b"the end",
+        },
+    ];
+    let Some(mut parts) = Fragments::new(payload, 8) else {
+        same(false, true);
+        return Ok(());
+    };
+    are_left(parts.try_clone()?, wanted);
+    same(parts.next(), Some(wanted[0]));
+    are_left(parts.try_clone()?, &wanted[1..]);
+    same(parts.next(), Some(wanted[1]));
+    are_left(parts.try_clone()?, &wanted[2..]);
+    same(parts.next(), Some(wanted[2]));
+    are_left(parts.try_clone()?, &[]);
+    are_left(parts, &[]);
+    Ok(())
 }
 
 #[test]

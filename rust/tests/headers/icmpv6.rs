@@ -34,12 +34,11 @@ fn check(octets: &[u8], text: &str) {
     prints(&message, text);
     let len = message.buffer_len();
     same_of(octets, len, octets.len());
+    same_of(octets, len <= 64, true);
     for &fill in FILLS {
         let mut buffer = [fill; 64];
-        if len <= 64 {
-            message.emit_into(&mut buffer[..len], &source(), &destination());
-        }
-        same_of(fill, &buffer[..len.min(64)], octets);
+        message.emit_into(&mut buffer[..len], &source(), &destination());
+        same_of(fill, &buffer[..len], octets);
     }
 }
 
