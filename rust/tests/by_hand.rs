@@ -8,7 +8,7 @@ use control_wire::record::{
 };
 use control_wire::{
     ChecksumCapabilities, Duration, Error, EthernetAddress, Ipv4Address, Ipv6Address, Ipv6Packet,
-    RawHardwareAddress, dns, icmpv6, igmp, ipv6option, mld, ndisc, ndiscoption,
+    RawHardwareAddress, dns, headers, icmpv6, igmp, ipv6option, mld, ndisc, ndiscoption,
 };
 use std::collections::HashSet;
 use std::hash::{BuildHasher, RandomState};
@@ -215,6 +215,26 @@ fn an_error_is_an_error() -> Result<(), Box<dyn std::error::Error>> {
     assert_eq!(boxed.to_string(), "wire::Error");
     Packet::new_checked(&ECHO)?;
     Ok(())
+}
+
+// Each reason of `headers`, as an error of `core` that prints it.
+#[test]
+fn reasons_of_headers_are_errors() {
+    use headers::{OptionRefusal, arp, ethernet, icmpv4, icmpv6, ipv4, ipv6_fragment};
+
+    let errors: [(Box<dyn std::error::Error>, &str); 7] = [
+        (arp::Refusal::Short.into(), "fewer than 28 bytes"),
+        (ethernet::Refusal::Short.into(), "fewer than 14 bytes"),
+        (icmpv4::Refusal::Code(1).into(), "code 1 is not 0"),
+        (icmpv6::Refusal::UnknownType(8).into(), "type 8 is not read"),
+        (ipv4::Refusal::Version(6).into(), "version 6 is not read"),
+        (ipv6_fragment::Refusal::Short.into(), "fewer than 8 bytes"),
+        (OptionRefusal::Length(1).into(), "a length of 1 is below 2"),
+    ];
+    for (error, text) in errors {
+        assert_eq!(error.to_string(), text);
+        assert!(error.source().is_none());
+    }
 }
 
 // One value, whatever lends its octets.
