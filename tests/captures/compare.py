@@ -206,6 +206,8 @@ def known_differences(packet, kind, reason):
         protocol = "icmp" if kind == "icmp4" else "icmpv6"
         if packet.number(protocol + ".type") not in contents_queries.READERS[kind]:
             yield from known_of_errors(packet, protocol + ".length")
+        elif "0" in packet.all("icmp.ext.checksum.status"):
+            yield f"{kind}: an extended echo whose structure has a wrong checksum: refused, and read by tshark"
         if kind == "icmp6":
             yield from known_of_options(packet)
     elif kind == "dhcp":

@@ -5,6 +5,7 @@ import re
 
 from datagrams import EXTENSIONS, headers, payload_length
 from patterns import MORE, Values, data, octets
+from text import name_text
 
 ROLES = ("incoming", "sub_ip", "outgoing", "next_hop")
 
@@ -172,7 +173,7 @@ def interface_information(values, c_type):
         return values.text("icmp.int_info.ipv4" if afi == 1 else "icmp.int_info.ipv6")
 
     def name(key):
-        return values.text(key) if values.count(key) else re.compile(".{0,3}")
+        return name_text(values.text(key).encode()) if values.count(key) else re.compile(".{0,3}")
 
     return {"object": "interface_information", "role": ROLES[values.number("icmp.int_info.role")],
             "index": told("ifindex", "icmp.int_info.index", values.number), "address": told("ipaddr", "", address),

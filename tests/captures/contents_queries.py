@@ -5,6 +5,7 @@ import re
 
 from datagrams import payload_length
 from patterns import additional, octets
+from text import name_text
 
 
 def refusal(packet, kind, number):
@@ -83,10 +84,11 @@ def extended_request(packet, protocol, ident):
 
 
 def interface(packet, room):
-    """What an object says of the interface by its C-Type."""
-    c_type = packet.number("icmp.ext.ctype") if packet.has("icmp.ext.ctype") else 0
+    """What an object says of the interface by its C-Type, in a structure whose checksum is not wrong."""
+    is_read = packet.has("icmp.ext.ctype") and "0" not in packet.all("icmp.ext.checksum.status")
+    c_type = packet.number("icmp.ext.ctype") if is_read else 0
     if c_type == 1:
-        return {"interface_name": packet.text("icmp.int_ident.name")}
+        return {"interface_name": name_text(packet.text("icmp.int_ident.name").encode())}
     if c_type == 2:
         return {"interface_index": packet.number("icmp.int_ident.index")}
     if c_type == 3:

@@ -1,7 +1,7 @@
 """Extensions behind what ICMP errors quote (RFC 4884), as items: labels of MPLS (RFC 4950), interfaces (RFC 5837), and
 the octets of others."""
 from items import HIDDEN, Cell, Entries, Entry, Field, labelled
-from text import be, colons, dotted, is_good
+from text import be, colons, dotted, is_good, name_text
 
 # IANA's registry of the classes of objects.
 CLASSES = {1: "mpls_label_stack", 2: "interface_information", 3: "interface_identification", 4: "extended_information"}
@@ -117,12 +117,4 @@ def name(data):
     if length % 4 or not 4 <= length <= 64:
         raise Broken("the name of the interface has a length of %d" % length)
     octets, rest = cut(data, length)
-    return "".join(map(character, octets[1:].rstrip(b"\0"))), rest
-
-
-def character(octet):
-    """A visible character of ASCII or a space, with a backslash before a quotation mark and a backslash; and any other
-    octet by its digits."""
-    if chr(octet) in '"\\':
-        return "\\" + chr(octet)
-    return chr(octet) if 32 <= octet < 127 else "\\x%02x" % octet
+    return name_text(octets[1:]), rest

@@ -6,7 +6,7 @@ import struct
 from frames import Refused
 from items import Cell, Entries, Entry, Field, named, seconds
 from registries import ADDRESS_FAMILIES, NEIGHBOR_STATES, NODE_FLAGS, NODE_QTYPES
-from text import address, be, dotted
+from text import address, be, colons, dotted, is_good, mac, name_text
 
 SHORT = "fewer bytes than a message of this type has"
 
@@ -90,43 +90,58 @@ def structure(octets):
 
 def interface(octets):
     """Why a structure names no interface, or None, and the items of the one that it names."""
-    if len(octets) < 8:
-        return "fewer than 8 bytes", []
-    if octets[0] >> 4 != 2:
-        return "not of version 2", []
+    why = unread(octets)
+    if why:
+        return why, []
     length, kind, form = be(octets[4:6]), octets[6], octets[7]
-    if length < 4:
-        return "an object of fewer than 4 bytes", []
-    if len(octets) < 4 + length:
-        return "fewer bytes than the object counts", []
     if kind != 3:
         return "an object of another class than 3", []
-    why, items = identified(form, octets[8:4 + length])
-    return why, items + additional(octets[4 + length:])
+    why, items, told = identified(form, octets[8:4 + length])
+    return why, items + additional(octets[8 + told:])
+
+
+def unread(octets):
+    """Why a structure is not read, or its object (RFC 4884 sections 7 and 8), or None."""
+    if len(octets) < 4:
+        return "the header of the extensions is cut"
+    if octets[0] >> 4 != 2:
+        return "the extensions are of version %d" % (octets[0] >> 4)
+    if octets[2:4] != b"\0\0" and not is_good(octets):
+        return "the checksum of the extensions is wrong"
+    if len(octets) < 8:
+        return "the header of the object is cut"
+    length = be(octets[4:6])
+    if length < 4:
+        return "the object has fewer than 4 bytes by its length"
+    return "the object is cut" if length > len(octets) - 4 else None
 
 
 def identified(form, payload):
-    """The interface by its name, its index or its address."""
+    """The interface by its name, its index or its address: why there is none, or None; its items; and how many octets
+    they tell."""
     if form == 1:
-        return None, [Field("interface_name", shown(payload))]
+        return None, [Field("interface_name", name_text(payload))], len(payload)
     if form == 2:
         wrong = None if len(payload) == 4 else "an index of other than 4 bytes"
-        return wrong, [Field("interface_index", be(payload))]
-    if form != 3:
-        return "a C-Type that is not known", []
+        return wrong, [Field("interface_index", be(payload))], len(payload)
+    return located(payload) if form == 3 else ("a C-Type that is not known", [], 0)
+
+
+# How addresses are written, by their family and their length.
+WRITTEN = {(1, 4): dotted, (2, 16): colons, (6, 6): mac, (16389, 6): mac}
+
+
+def located(payload):
+    """The interface by its address, which zeros pad to a multiple of 4 octets."""
     if len(payload) < 4:
-        return "fewer than 4 bytes before an address", []
-    if len(payload) < 4 + payload[2]:
-        return "fewer bytes than the address counts", []
-    return None, [named("interface_addr_family", be(payload[:2]), ADDRESS_FAMILIES),
-                  Field("interface_addr", address(payload[4:4 + payload[2]]))]
-
-
-def shown(octets):
-    """A name without the zeros that pad it; what is not visible in hexadecimal digits."""
-    characters = {0: "", 0x22: '\\"', 0x5C: "\\\\"}
-    return "".join(characters.get(octet, chr(octet) if 0x20 <= octet < 0x7F else "\\x%02x" % octet)
-                   for octet in octets)
+        return "fewer than 4 bytes before an address", [], 0
+    end = 4 + payload[2]
+    if len(payload) < end:
+        return "fewer bytes than the address counts", [], 0
+    family, octets, padding = be(payload[:2]), payload[4:end], payload[end:end + -end % 4]
+    value = WRITTEN.get((family, len(octets)), bytes)(octets)
+    return None, [named("interface_addr_family", family, ADDRESS_FAMILIES), Field("interface_addr", value)], (
+        end if padding.strip(b"\0") else end + len(padding))
 
 
 # ---- node information

@@ -92,7 +92,7 @@ EXTENDED_REPLIES = {0: "no_error", 1: "malformed_query", 2: "no_such_interface",
                     4: "multiple_interfaces_satisfy_query"}
 NEIGHBOR_STATES = {0: "reserved", 1: "incomplete", 2: "reachable", 3: "stale", 4: "delay", 5: "probe", 6: "failed"}
 # Some of IANA's address family numbers.
-ADDRESS_FAMILIES = {1: "ipv4", 2: "ipv6", 6: "802"}
+ADDRESS_FAMILIES = {1: "ipv4", 2: "ipv6", 6: "802", 16389: "mac48"}
 # Of each type the codes (RFC 792, RFC 1122 section 3.2.2, RFC 1812 section 5.2.7, RFC 8335 section 3).
 ICMP4_CODES = {
     3: {0: "net_unreachable", 1: "host_unreachable", 2: "protocol_unreachable", 3: "port_unreachable",

@@ -1,5 +1,6 @@
 """Captures of messages of ICMP that are neither errors nor echoes, of raw IP: each good, cut short, and refused."""
 from building import HOST4, HOST6, SERVER4, SERVER6, hexed, icmp4, ip6_icmp6, pcap, pcap_header, pcap_record, v4
+from text import word_sum
 
 NUMBERS = hexed("1234 0001")
 # 43,200,000 milliseconds behind midnight, and later ones; the last is no time of day (RFC 792).
@@ -17,6 +18,11 @@ def asked(form, payload, kind=3, version=0x20):
     """The extension structure of a request about an interface, whose checksum is none (RFC 8335 section 2.1)."""
     length = 4 + len(payload)
     return bytes([version, 0, 0, 0]) + length.to_bytes(2, "big") + bytes([kind, form]) + payload
+
+
+def summed(structure):
+    """The structure with its checksum (RFC 4884 section 7)."""
+    return structure[:2] + (65535 - word_sum(structure) % 65535).to_bytes(2, "big") + structure[4:]
 
 
 def about(payload):
@@ -48,12 +54,23 @@ QUERIES = {
         icmp4(9, 0, hexed("01 01 0708"), ENTRIES[0]), icmp4(9, 0, hexed("02 02 0708"), ENTRIES[0] + ENTRIES[1][:7])),
     "extended_echo_by_name": about(asked(1, b"eth0")),
     "extended_echo_by_a_padded_name": about(asked(1, b'a"b\\c\xc3\n\0')),
+    "extended_echo_by_a_name_with_zeros_and_a_space": about(asked(1, b"\0eth0\0 \0")),
     "extended_echo_by_index": about(asked(2, hexed("00000007"))),
     "extended_echo_by_address": about(asked(3, hexed("0001 04 00") + SERVER4)),
     "extended_echo_by_address_of_ipv6": about(asked(3, hexed("0002 10 00") + SERVER6) + b"\1\2\3\4"),
     "extended_echo_by_link_layer_address": about(asked(3, hexed("0006 06 00 020000000001 0000"))),
+    "extended_echo_by_mac48_address": about(asked(3, hexed("4005 06 00 020000000001"))),
+    "extended_echoes_by_addresses_of_other_lengths": raw(*(icmp4(42, 0, NUMBERS, asked(3, hexed(its))) for its in (
+        "0002 04 00 c0000201", "0001 06 00 020000000001 0000", "0006 04 00 c0000201", "4005 00 00", "0003 02 00 1234",
+        "0001 10 00 20010db8000000000000000000000001"))),
+    "extended_echoes_with_octets_behind_addresses": raw(*(icmp4(42, 0, NUMBERS, octets) for octets in (
+        asked(3, hexed("0006 06 00 020000000001 00")), asked(3, hexed("0006 06 00 020000000001 0007")),
+        asked(3, hexed("0006 06 00 020000000001 0000 00")) + b"\5",
+        asked(3, hexed("0001 04 00 c0000201 00")) + b"\6", asked(1, b"eth0") + b"\0\7"))),
+    "extended_echo_with_a_checksum": about(summed(asked(2, hexed("00000007")))),
     "extended_echoes_that_are_refused": raw(*(icmp4(42, 0, NUMBERS, octets) for octets in (
-        b"", asked(2, hexed("00000007"), version=0x10), hexed("20000000 0003 0301"), asked(1, b"eth0")[:11],
+        b"", hexed("200000"), hexed("20000000"), hexed("20000000 0008 03"), hexed("2000dbf6 0008 0302 00000100"),
+        asked(2, hexed("00000007"), version=0x10), hexed("20000000 0003 0301"), asked(1, b"eth0")[:11],
         asked(2, hexed("00000007"), kind=2), asked(2, b"\7"), asked(4, b"eth0"), asked(3, b"\0\1\4"),
         asked(3, hexed("0001 05 00") + HOST4)))),
     "extended_echo_replies": raw(

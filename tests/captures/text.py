@@ -51,6 +51,13 @@ def mac(octets):
     return ":".join("%02x" % octet for octet in octets)
 
 
+def name_text(octets):
+    """A name of any octets without the zeros that pad it: a quotation mark and a backslash behind a backslash, other
+    visible characters of ASCII as they are, and a space and every other octet by its digits."""
+    return "".join("\\" + chr(octet) if octet in b'"\\' else chr(octet) if 32 < octet < 127 else "\\x%02x" % octet
+                   for octet in octets.rstrip(b"\0"))
+
+
 def endpoint(octets, port):
     """An address with its port, or alone where there is none (RFC 5952 section 6)."""
     if port is None:

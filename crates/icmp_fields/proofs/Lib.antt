@@ -3,3 +3,4 @@ pub mod Gateways
 pub mod Items
 pub mod Quotes
 pub mod RouterEntries
+pub mod Structures

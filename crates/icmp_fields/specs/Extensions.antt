@@ -27,7 +27,8 @@ use Rattle.packet_fields.specs.Fields.{Cell, Entry, Item, entries, field, leaf_o
 use Rattle.packet_fields.specs.Labels.{label_text}
 use Rattle.packet_fields.specs.Names.{Rows, name_in}
 use Rattle.packet_fields.specs.Texts.{address_text}
-use Rattle.icmp_fields.specs.ExtensionWords.{escaped, role_name}
+use Rattle.icmp_fields.specs.ExtensionWords.{role_name}
+use Rattle.icmp_fields.specs.Texts.{name_text}
 
 -- ---- objects
 
@@ -89,7 +90,7 @@ abbrev pub interface_cells : InterfaceValue → List Cell
 interface_cells v =
     keyed_value (codes "index") (leaf_or_missing number v.index)
     ++ keyed_value (codes "address") (leaf_or_missing text (option_map address_leaf_text v.address))
-    ++ keyed_value (codes "name") (leaf_or_missing text (option_map escaped v.name))
+    ++ keyed_value (codes "name") (leaf_or_missing text (option_map name_text v.name))
     ++ keyed_value (codes "mtu") (leaf_or_missing number v.mtu)
 
 abbrev pub interface_entry : ℕ → InterfaceValue → Entry

@@ -10,7 +10,7 @@ ghost use Rattle.icmp_fields.specs.Extensions.{refused_items, refused_structure_
 ghost use Rattle.icmp_fields.specs.private.Reasons.{division_of, why_text};
 
 mod objects;
-mod words;
+pub(crate) mod words;
 
 use self::objects::show_objects;
 use self::words::{Why, Word};

@@ -2,9 +2,10 @@
 
 #![tactic(auto, using(wirebase::proofs::Sinks::puts, wirebase::proofs::Sinks::put_none))]
 
-ghost use Rattle.std.specs.Prelude.{◌++◌, ◌-◌, ◌<◌, [], ◌∷◌, codes, decimal, flat_map};
+ghost use Rattle.std.specs.Prelude.{◌≡◌, ◌++◌, ◌-◌, ◌<◌, [], ◌∷◌, codes, decimal, flat_map};
 ghost use Rattle.wirebase.specs.Hexadecimal.{encode_lower};
 ghost use Rattle.wirebase.specs.Sink.{PutsText};
+ghost use Rattle.extension_wire.specs.InterfaceParts.{trimmed};
 ghost use Rattle.packet_fields.specs.Fields.{text};
 ghost use Rattle.icmp_fields.specs.Texts.{character, name_text, signed_text};
 
@@ -14,8 +15,8 @@ use std::io;
 use std::io::Write;
 use wirebase::text::{Sink, put_hex, put_number};
 
-// A name of whatever octets: visible characters of ASCII and spaces as they are, a quotation mark and a backslash
-// behind a backslash, zeros, which pad it, not at all, and every other octet as `\x` and two digits.
+// A name of whatever octets, without the zeros at its end, which pad it: visible characters of ASCII as they are, a
+// quotation mark and a backslash behind a backslash, and a space and every other octet as `\x` and two digits.
 #[derive(Clone, Copy)]
 pub(crate) struct Name<'a>(pub(crate) &'a [u8]);
 
@@ -32,7 +33,7 @@ impl Text for Name<'_> {
 
     #[tactic(auto, unfolding(crate::specs::Texts::name_text))]
     fn put_into<O, S: Sink<O>>(self, output: &mut O) -> Result<(), S::Error> {
-        put_characters::<O, S>(output, self.0)
+        put_characters::<O, S>(output, trimmed(self.0))
     }
 }
 
@@ -49,9 +50,8 @@ fn put_character<O, S: Sink<O>>(output: &mut O, octet: u8) -> Result<(), S::Erro
     ensures { PutsText S.took output.old (character octet) result output.new }
 {
     match octet {
-        0 => Ok(()),
         b'"' | b'\\' => S::put(output, &[b'\\', octet]),
-        b' '..=b'~' => S::put(output, &[octet]),
+        b'!'..=b'~' => S::put(output, &[octet]),
         _ => put_hidden::<O, S>(output, octet),
     }
 }
@@ -61,6 +61,17 @@ fn put_hidden<O, S: Sink<O>>(output: &mut O, octet: u8) -> Result<(), S::Error>
 {
     S::put_str(output, "\\x")?;
     put_hex::<O, S>(output, &[octet])
+}
+
+// The octets without the zeros at their end.
+pub(crate) fn trimmed(octets: &[u8]) -> &[u8]
+    ensures { result.now ≡ trimmed octets.now }
+{
+    let mut len = octets.len();
+    while len > 0 && octets[len - 1] == 0 {
+        len -= 1;
+    }
+    &octets[..len]
 }
 
 // A number of 32 bits in two's complement.

@@ -194,7 +194,7 @@ fn gateway_and_pointer_of_errors(rt: HostRuntime) {
 }
 
 // What an error prints behind its quote, of 128 bytes, where this follows it.
-fn behind_quote(rt: &impl Abort, alloc: Global, length: u8, behind: &[u8], want: &str) {
+pub(crate) fn behind_quote(rt: &impl Abort, alloc: Global, length: u8, behind: &[u8], want: &str) {
     let mut octets = [0; 200];
     octets[..36].copy_from_slice(TOO_LONG);
     octets[0] = 11;

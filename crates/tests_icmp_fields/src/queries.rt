@@ -257,68 +257,6 @@ fn what_follows_the_code(rt: HostRuntime) {
     }
 }
 
-// The interface that the structure of a request names, in lines.
-#[test]
-fn interfaces_and_structures_that_are_refused(rt: HostRuntime) {
-    let rows: &[(&[u8], &str)] = &[
-        (
-            &[0x20, 0, 0, 0, 0, 8, 3, 2, 0, 0, 1, 0],
-            "  interface_index=256\n",
-        ),
-        (
-            &[
-                0x20, 0, 0, 0, 0, 16, 3, 3, 0, 6, 6, 0, 2, 0, 0, 0, 0, 1, 0, 0,
-            ],
-            "  interface_addr_family=6 (802)\n  interface_addr=020000000001\n",
-        ),
-        (
-            &[0x20, 0, 0, 0, 0, 8, 3, 1, 101, 116, 104, 48, 9],
-            "  interface_name=eth0\n  additional_data=09\n",
-        ),
-        (&[], "  data=-\n  data_refused=fewer than 8 bytes\n"),
-        (
-            &[0x30, 0, 0, 0, 0, 4, 3, 1],
-            "  data=3000000000040301\n  data_refused=not of version 2\n",
-        ),
-        (
-            &[0x20, 0, 0, 0, 0, 3, 3, 1],
-            "  data=2000000000030301\n  data_refused=an object of fewer than 4 bytes\n",
-        ),
-        (
-            &[0x20, 0, 0, 0, 0, 5, 3, 1],
-            "  data=2000000000050301\n  data_refused=fewer bytes than the object counts\n",
-        ),
-        (
-            &[0x20, 0, 0, 0, 0, 4, 2, 1],
-            "  data=2000000000040201\n  data_refused=an object of another class than 3\n",
-        ),
-        (
-            &[0x20, 0, 0, 0, 0, 5, 3, 2, 7],
-            "  data=200000000005030207\n  data_refused=an index of other than 4 bytes\n",
-        ),
-        (
-            &[0x20, 0, 0, 0, 0, 7, 3, 3, 0, 1, 4],
-            "  data=2000000000070303000104\n  data_refused=fewer than 4 bytes before an address\n",
-        ),
-        (
-            &[0x20, 0, 0, 0, 0, 9, 3, 3, 0, 1, 2, 0, 192],
-            "  data=200000000009030300010200c0\n  data_refused=fewer bytes than the address counts\n",
-        ),
-        (
-            &[0x20, 0, 0, 0, 0, 4, 3, 4],
-            "  data=2000000000040304\n  data_refused=a C-Type that is not known\n",
-        ),
-    ];
-    for &(structure, want) in rows {
-        let mut octets = [0; 28];
-        let end = 8 + structure.len();
-        octets[0] = 42;
-        octets[8..end].copy_from_slice(structure);
-        let fields = listing(&rt, rt.alloc(), Form::Lines, false, &octets[..end]);
-        holds_of(&rt, want, fields.as_slice().ends_with(want.as_bytes()));
-    }
-}
-
 #[test]
 fn why_messages_are_refused(rt: HostRuntime) {
     let rows: &[(&[u8], Option<Refusal>)] = &[

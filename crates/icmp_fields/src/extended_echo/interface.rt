@@ -2,39 +2,32 @@
 
 #![tactic(auto, using(packet_fields::proofs::Fields::prints_both))]
 
-ghost use Rattle.std.specs.Prelude.{◌≡◌, ◌≤◌, ◌<◌, ◌+◌, None, OnOk, length};
+ghost use Rattle.std.specs.Prelude.{◌≡◌, ◌≤◌, ◌+◌, [], ◌∷◌, None, OnOk, codes, drop, length};
 ghost use Rattle.std.specs.Option.{option_map};
+ghost use Rattle.extension_wire.specs.Object.{value_of};
+ghost use Rattle.packet_fields.specs.Fields.{field};
 ghost use Rattle.packet_fields.specs.Prints.{Prints};
-ghost use Rattle.icmp_fields.specs.ExtendedEcho.{object_len, payload_of, address_len, wrong_address, wrong_payload};
-ghost use Rattle.icmp_fields.specs.ExtendedEcho.{wrong_object, wrong_structure, address_items, payload_items};
-ghost use Rattle.icmp_fields.specs.ExtendedEcho.{object_items, unread_structure, structure_items, family_names};
+ghost use Rattle.icmp_fields.specs.ExtendedEcho.{address_items, address_leaf, address_len, family_names};
+ghost use Rattle.icmp_fields.specs.ExtendedEcho.{named_or_refused, object_items, object_or_refused, object_refusal};
+ghost use Rattle.icmp_fields.specs.ExtendedEcho.{padding_len, payload_items, structure_items, told_len};
+ghost use Rattle.icmp_fields.specs.ExtendedEcho.{unread_structure, wrong_address, wrong_object, wrong_payload};
 ghost use Rattle.icmp_fields.specs.Names.{name_in};
 
+use crate::extensions::words::{Why, Word};
 use crate::icmp::show_additional;
-use crate::texts::Name;
+use crate::texts::{Name, trimmed};
+use extension_wire::{Object, structure};
 use packet_fields::Form;
 use packet_fields::field::{field, named};
 use packet_fields::texts::Address;
+use packet_fields::value::{Colons, Value};
 use std::io;
 use std::io::Write;
 use wirebase::Octets;
 
-// The fields of a structure, and of the payload of its object before an address; their pictures are in
-// specs/ExtendedEcho.antt.
+// The fields of a payload before an address; their picture is in specs/ExtendedEcho.antt.
 mod place {
     use wirebase::Field;
-
-    pub const VERSION: Field = 0..1;
-
-    pub const HEADER_LEN: usize = 4;
-
-    pub const OBJECT_LEN: Field = 4..6;
-
-    pub const CLASS: Field = 6..7;
-
-    pub const C_TYPE: Field = 7..8;
-
-    pub const PAYLOAD: usize = 8;
 
     pub const INDEX: Field = 0..4;
 
@@ -47,10 +40,10 @@ mod place {
     pub const ADDRESS: usize = 4;
 }
 
-// The bytes of an object's header.
-const OBJECT_HEADER_LEN: usize = 4;
+// The bytes of a structure's header, and of these and an object's.
+const HEADER_LEN: usize = 4;
 
-const VERSION: u8 = 2;
+const PAYLOAD: usize = 8;
 
 // The class of an object that names an interface, and its forms.
 const CLASS: u8 = 3;
@@ -61,6 +54,15 @@ const BY_INDEX: u8 = 2;
 
 const BY_ADDRESS: u8 = 3;
 
+// The families whose addresses are not printed by their octets.
+const IPV4: u16 = 1;
+
+const IPV6: u16 = 2;
+
+const IEEE_802: u16 = 6;
+
+const MAC48: u16 = 16389;
+
 // Prints the interface that the structure of a request names; a structure that is refused by its octets, and why.
 pub(super) fn show_structure<W: Write>(
     output: &mut W,
@@ -70,68 +72,62 @@ pub(super) fn show_structure<W: Write>(
     ensures { OnOk result (Prints form (W.contents output.old) (W.contents output.new)
         (structure_items structure.now)) }
 {
-    match wrong_structure(structure) {
-        Some(why) => show_unread(output, form, structure, why),
-        None => show_object(output, form, structure),
+    match structure::parse(structure) {
+        Ok(_) => show_inside(output, form, structure),
+        Err(refusal) => show_unread(output, form, structure, Word(Why::Structure(refusal))),
     }
 }
 
-fn show_unread<W: Write>(output: &mut W, form: Form, structure: &[u8], why: &str) -> io::Result<()>
+fn show_unread<V: Value, W: Write>(
+    output: &mut W,
+    form: Form,
+    structure: &[u8],
+    why: V,
+) -> io::Result<()>
     ensures { OnOk result (Prints form (W.contents output.old) (W.contents output.new)
-        (unread_structure structure.now why.now)) }
+        (unread_structure structure.now (V.leaf why))) }
 {
     field(output, form, "data", structure)?;
     field(output, form, "data_refused", why)
 }
 
-// Why a structure is refused, where it is.
-fn wrong_structure(structure: &[u8]) -> Option<&'static str>
-    ensures { option_map (λ why. why.now) result ≡ wrong_structure structure.now }
+// Prints what the object behind a structure's header names.
+fn show_inside<W: Write>(output: &mut W, form: Form, structure: &[u8]) -> io::Result<()>
+    requires { 4 ≤ length structure.now }
+    ensures { OnOk result (Prints form (W.contents output.old) (W.contents output.new)
+        (object_or_refused (object_refusal (drop 4 structure.now)) structure.now)) }
 {
-    if structure.len() < place::PAYLOAD {
-        return Some("fewer than 8 bytes");
+    let (_, inside) = structure.split_at(HEADER_LEN);
+    match Object::parse(inside) {
+        Ok((object, _)) => show_named_or_refused(output, form, structure, &object),
+        Err(refusal) => show_unread(output, form, structure, Word(Why::Object(refusal))),
     }
-    if structure.u8_at(place::VERSION) / 16 != VERSION {
-        return Some("not of version 2");
-    }
-    wrong_object(structure)
 }
 
-fn wrong_object(structure: &[u8]) -> Option<&'static str>
-    requires { 8 ≤ length structure.now }
-    ensures { option_map (λ why. why.now) result ≡ wrong_object structure.now }
+fn show_named_or_refused<W: Write>(
+    output: &mut W,
+    form: Form,
+    structure: &[u8],
+    object: &Object<'_>,
+) -> io::Result<()>
+    requires { 8 + length object.now.payload.now ≤ length structure.now }
+    ensures { OnOk result (Prints form (W.contents output.old) (W.contents output.new)
+        (named_or_refused (wrong_object (value_of object.now)) structure.now (value_of object.now))) }
 {
-    let len = object_len(structure);
-    if len < OBJECT_HEADER_LEN {
-        return Some("an object of fewer than 4 bytes");
+    match wrong_object(object) {
+        Some(why) => show_unread(output, form, structure, why),
+        None => show_object(output, form, structure, object),
     }
-    if structure.len() < place::HEADER_LEN + len {
-        return Some("fewer bytes than the object counts");
-    }
-    if structure.u8_at(place::CLASS) != CLASS {
+}
+
+// Why an object names no interface, where it names none.
+fn wrong_object(object: &Object<'_>) -> Option<&'static str>
+    ensures { option_map (λ why. why.now) result ≡ wrong_object (value_of object.now) }
+{
+    if object.class != CLASS {
         return Some("an object of another class than 3");
     }
-    wrong_payload(structure.u8_at(place::C_TYPE), payload_of(structure))
-}
-
-// The bytes of the object, its header among them.
-fn object_len(structure: &[u8]) -> usize
-    requires { 8 ≤ length structure.now }
-    ensures value { result ≡ object_len structure.now }
-    ensures small { result < 65536 }
-{
-    structure.u16_at(place::OBJECT_LEN) as usize
-}
-
-// What stands behind the header of the object.
-#[tactic(auto, unfolding(wirebase::specs::Bytes::part))]
-fn payload_of(structure: &[u8]) -> &[u8]
-    requires long { 8 ≤ length structure.now }
-    requires some { 4 ≤ object_len structure.now }
-    requires whole { 4 + object_len structure.now ≤ length structure.now }
-    ensures { result.now ≡ payload_of structure.now }
-{
-    &structure[place::PAYLOAD..place::HEADER_LEN + object_len(structure)]
+    wrong_payload(object.c_type, object.payload)
 }
 
 fn wrong_payload(c_type: u8, payload: &[u8]) -> Option<&'static str>
@@ -166,21 +162,49 @@ fn address_end(payload: &[u8]) -> usize
     place::ADDRESS + payload.u8_at(place::ADDRESS_LEN) as usize
 }
 
-// Prints what an object that is not refused names, and the octets behind it.
-fn show_object<W: Write>(output: &mut W, form: Form, structure: &[u8]) -> io::Result<()>
-    requires { wrong_structure structure.now ≡ None }
+// Prints what an object that is not refused names, and the octets behind that.
+fn show_object<W: Write>(
+    output: &mut W,
+    form: Form,
+    structure: &[u8],
+    object: &Object<'_>,
+) -> io::Result<()>
+    requires right { wrong_object (value_of object.now) ≡ None }
+    requires whole { 8 + length object.now.payload.now ≤ length structure.now }
     ensures { OnOk result (Prints form (W.contents output.old) (W.contents output.new)
-        (object_items structure.now)) }
+        (object_items structure.now (value_of object.now))) }
 {
-    let end = place::HEADER_LEN + object_len(structure);
-    let (_, behind) = structure.split_at(end);
-    show_payload(
-        output,
-        form,
-        structure.u8_at(place::C_TYPE),
-        payload_of(structure),
-    )?;
+    let (_, behind) = structure.split_at(PAYLOAD + told_len(object.c_type, object.payload));
+    show_payload(output, form, object.c_type, object.payload)?;
     show_additional(output, form, behind)
+}
+
+// The bytes of a payload that are told, and the padding of an address.
+fn told_len(c_type: u8, payload: &[u8]) -> usize
+    requires { wrong_payload c_type payload.now ≡ None }
+    ensures value { result ≡ told_len c_type payload.now }
+    ensures within { result ≤ length payload.now }
+{
+    if c_type != BY_ADDRESS {
+        return payload.len();
+    }
+    let end = address_end(payload);
+    let (_, behind) = payload.split_at(end);
+    end + padding_len(end, behind)
+}
+
+// The bytes that pad to a multiple of 4 what ends here, where all of them are zeros.
+fn padding_len(end: usize, behind: &[u8]) -> usize
+    ensures value { result ≡ padding_len end behind.now }
+    ensures within { result ≤ length behind.now }
+{
+    let wanted = (4 - end % 4) % 4;
+    let (padding, _) = behind.split_at(wanted.min(behind.len()));
+    if trimmed(padding).is_empty() {
+        padding.len()
+    } else {
+        0
+    }
 }
 
 fn show_payload<W: Write>(output: &mut W, form: Form, c_type: u8, payload: &[u8]) -> io::Result<()>
@@ -214,7 +238,7 @@ fn show_address<W: Write>(output: &mut W, form: Form, payload: &[u8]) -> io::Res
         family as u64,
         family_name(family),
     )?;
-    field(output, form, "interface_addr", Address(address))
+    show_address_of(output, form, family, address)
 }
 
 // The name of a family of addresses.
@@ -222,9 +246,27 @@ fn family_name(family: u16) -> Option<&'static str>
     ensures { option_map (λ name. name.now) result ≡ name_in family_names family }
 {
     match family {
-        1 => Some("ipv4"),
-        2 => Some("ipv6"),
-        6 => Some("802"),
+        IPV4 => Some("ipv4"),
+        IPV6 => Some("ipv6"),
+        IEEE_802 => Some("802"),
+        MAC48 => Some("mac48"),
         _ => None,
+    }
+}
+
+// Prints an address as those of its family are written; one of another length, or of another family, by its octets.
+fn show_address_of<W: Write>(
+    output: &mut W,
+    form: Form,
+    family: u16,
+    address: &[u8],
+) -> io::Result<()>
+    ensures { OnOk result (Prints form (W.contents output.old) (W.contents output.new)
+        (field (codes "interface_addr") (address_leaf family address.now) ∷ [])) }
+{
+    match (family, address.len()) {
+        (IPV4, 4) | (IPV6, 16) => field(output, form, "interface_addr", Address(address)),
+        (IEEE_802 | MAC48, 6) => field(output, form, "interface_addr", Colons(address)),
+        _ => field(output, form, "interface_addr", address),
     }
 }

@@ -14,13 +14,14 @@ ghost use Rattle.icmp_fields.specs.Extensions.{AreObjects, HasLabels, IsInterfac
 ghost use Rattle.icmp_fields.specs.Extensions.{broken_entry};
 ghost use Rattle.icmp_fields.specs.Extensions.{interface_cells, interface_entry, label_entry, label_of};
 ghost use Rattle.icmp_fields.specs.Extensions.{plain_entry};
-ghost use Rattle.icmp_fields.specs.ExtensionWords.{escaped};
+ghost use Rattle.icmp_fields.specs.Texts.{name_text};
 ghost use Rattle.icmp_fields.specs.private.Reasons.{why_text};
 ghost use Rattle.extension_wire.specs.ExtensionDisplay.{object_refusal_display};
 ghost use Rattle.packet_fields.specs.Texts.{address_text};
 ghost use Rattle.icmp_fields.specs.private.Entries.{Continues, PrintsObject};
 
-use super::words::{Name, Why, Word, role_name};
+use super::words::{Why, Word, role_name};
+use crate::texts::Name;
 use extension_wire::{
     InterfaceInformation, LabelEntry, LabelStack, LabelStackIterator, Object, ObjectRefusal,
     interface, mpls,
@@ -232,8 +233,8 @@ fn address_of<'a>(read: &InterfaceInformation<'a>) -> Option<Address<'a>>
 
 // The name, where there is one.
 fn name_of<'a>(read: &InterfaceInformation<'a>) -> Option<Name<'a>>
-    ensures { option_map (λ name. escaped name.0.now) result
-        ≡ option_map escaped (interfaces.value_of read.now).name }
+    ensures { option_map (λ name. name_text name.0.now) result
+        ≡ option_map name_text (interfaces.value_of read.now).name }
 {
     match read.name {
         Some(name) => Some(Name(name)),

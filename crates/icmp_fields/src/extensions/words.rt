@@ -1,14 +1,13 @@
-//! Words about extensions: why they are refused, the roles and the names of interfaces.
+//! Words about extensions: why they are refused, and the roles of interfaces.
 
 #![tactic(auto, using(wirebase::proofs::Sinks::puts))]
 
-ghost use Rattle.std.specs.Prelude.{◌≡◌, ◌∷◌, [], ◌++◌, codes, decimal, flat_map};
-ghost use Rattle.wirebase.specs.Hexadecimal.{encode_lower};
+ghost use Rattle.std.specs.Prelude.{◌≡◌, ◌∷◌, [], decimal};
 ghost use Rattle.wirebase.specs.Display.{pieces};
 ghost use Rattle.wirebase.specs.Sink.{PutsText};
 ghost use Rattle.extension_wire.specs.ExtensionDisplay.{interface_refusal_display};
 ghost use Rattle.packet_fields.specs.Fields.{text};
-ghost use Rattle.icmp_fields.specs.ExtensionWords.{character, escaped, role_name};
+ghost use Rattle.icmp_fields.specs.ExtensionWords.{role_name};
 ghost use Rattle.icmp_fields.specs.private.Reasons.{why_text};
 
 use extension_wire::{
@@ -18,7 +17,7 @@ use packet_fields::Form;
 use packet_fields::value::{Text, Value, put_text};
 use std::io;
 use std::io::Write;
-use wirebase::text::{Sink, put_hex, put_number};
+use wirebase::text::{Sink, put_number};
 
 /// Why extensions are not read, or one of them.
 #[derive(Debug, PartialEq, Eq, Clone, Copy)]
@@ -119,52 +118,4 @@ pub(crate) fn role_name(role: Role) -> &'static str
         Role::Outgoing => "outgoing",
         Role::NextHop => "next_hop",
     }
-}
-
-// The name of an interface, whatever its bytes: a quotation mark and a backslash are put behind a backslash, and a byte
-// that is neither a visible character of ASCII nor a space as `\x` and two digits.
-#[derive(Clone, Copy)]
-pub(crate) struct Name<'a>(pub(crate) &'a [u8]);
-
-impl Value for Name<'_> {
-    ghost leaf = { λ name. text (escaped name.0.now) };
-
-    fn put<W: Write>(self, output: &mut W, form: Form) -> io::Result<()> {
-        put_text(output, form, self)
-    }
-}
-
-impl Text for Name<'_> {
-    ghost text_of = { λ name. escaped name.0.now };
-
-    #[tactic(auto, unfolding(crate::specs::ExtensionWords::escaped))]
-    fn put_into<O, S: Sink<O>>(self, output: &mut O) -> Result<(), S::Error> {
-        put_characters::<O, S>(output, self.0)
-    }
-}
-
-fn put_characters<O, S: Sink<O>>(output: &mut O, octets: &[u8]) -> Result<(), S::Error>
-    ensures { PutsText S.took output.old (flat_map character octets.now) result output.new }
-{
-    for octet in octets {
-        put_character::<O, S>(output, *octet)?;
-    }
-    Ok(())
-}
-
-fn put_character<O, S: Sink<O>>(output: &mut O, octet: u8) -> Result<(), S::Error>
-    ensures { PutsText S.took output.old (character octet) result output.new }
-{
-    match octet {
-        b'"' | b'\\' => S::put(output, &[b'\\', octet]),
-        b' '..=b'~' => S::put(output, &[octet]),
-        _ => put_hidden::<O, S>(output, octet),
-    }
-}
-
-fn put_hidden<O, S: Sink<O>>(output: &mut O, octet: u8) -> Result<(), S::Error>
-    ensures { PutsText S.took output.old (codes "\\x" ++ encode_lower (octet ∷ [])) result output.new }
-{
-    S::put_str(output, "\\x")?;
-    put_hex::<O, S>(output, &[octet])
 }

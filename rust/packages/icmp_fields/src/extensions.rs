@@ -2,7 +2,7 @@
 //! Extensions of ICMP errors (RFC 4884).
 
 mod objects;
-mod words;
+pub(crate) mod words;
 
 use self::objects::show_objects;
 use self::words::{Why, Word};

@@ -7,8 +7,8 @@ use packet_fields::value::{Text, Value, put_text};
 use rattle_std::io;
 use rattle_std::io::Write;
 
-// A name of whatever octets: visible characters of ASCII and spaces as they are, a quotation mark and a backslash
-// behind a backslash, zeros, which pad it, not at all, and every other octet as `\x` and two digits.
+// A name of whatever octets, without the zeros at its end, which pad it: visible characters of ASCII as they are, a
+// quotation mark and a backslash behind a backslash, and a space and every other octet as `\x` and two digits.
 #[derive(Clone, Copy)]
 pub(crate) struct Name<'a>(pub(crate) &'a [u8]);
 
@@ -20,7 +20,7 @@ impl Value for Name<'_> {
 
 impl Text for Name<'_> {
     fn put_into<O, S: Sink<O>>(self, output: &mut O) -> Result<(), S::Error> {
-        put_characters::<O, S>(output, self.0)
+        put_characters::<O, S>(output, trimmed(self.0))
     }
 }
 
@@ -33,9 +33,8 @@ fn put_characters<O, S: Sink<O>>(output: &mut O, octets: &[u8]) -> Result<(), S:
 
 fn put_character<O, S: Sink<O>>(output: &mut O, octet: u8) -> Result<(), S::Error> {
     match octet {
-        0 => Ok(()),
         b'"' | b'\\' => S::put(output, &[b'\\', octet]),
-        b' '..=b'~' => S::put(output, &[octet]),
+        b'!'..=b'~' => S::put(output, &[octet]),
         _ => put_hidden::<O, S>(output, octet),
     }
 }
@@ -43,6 +42,15 @@ fn put_character<O, S: Sink<O>>(output: &mut O, octet: u8) -> Result<(), S::Erro
 fn put_hidden<O, S: Sink<O>>(output: &mut O, octet: u8) -> Result<(), S::Error> {
     S::put_str(output, "\\x")?;
     put_hex::<O, S>(output, &[octet])
+}
+
+// The octets without the zeros at their end.
+pub(crate) fn trimmed(octets: &[u8]) -> &[u8] {
+    let mut len = octets.len();
+    while len > 0 && octets[len - 1] == 0 {
+        len -= 1;
+    }
+    &octets[..len]
 }
 
 // A number of 32 bits in two's complement.

@@ -1,31 +1,21 @@
 // Made from crates/icmp_fields/src/extended_echo/interface.rt by rust/erase.
 //! The interface that a request asks for: the object of its extension structure (RFC 8335 section 2.1).
 
+use crate::extensions::words::{Why, Word};
 use crate::icmp::show_additional;
-use crate::texts::Name;
+use crate::texts::{Name, trimmed};
 use control_wire::Octets;
+use control_wire::extensions::{Object, structure};
 use packet_fields::Form;
 use packet_fields::field::{field, named};
 use packet_fields::texts::Address;
+use packet_fields::value::{Colons, Value};
 use rattle_std::io;
 use rattle_std::io::Write;
 
-// The fields of a structure, and of the payload of its object before an address; their pictures are in
-// specs/ExtendedEcho.antt.
+// The fields of a payload before an address.
 mod place {
     use control_wire::Field;
-
-    pub const VERSION: Field = 0..1;
-
-    pub const HEADER_LEN: usize = 4;
-
-    pub const OBJECT_LEN: Field = 4..6;
-
-    pub const CLASS: Field = 6..7;
-
-    pub const C_TYPE: Field = 7..8;
-
-    pub const PAYLOAD: usize = 8;
 
     pub const INDEX: Field = 0..4;
 
@@ -38,10 +28,10 @@ mod place {
     pub const ADDRESS: usize = 4;
 }
 
-// The bytes of an object's header.
-const OBJECT_HEADER_LEN: usize = 4;
+// The bytes of a structure's header, and of these and an object's.
+const HEADER_LEN: usize = 4;
 
-const VERSION: u8 = 2;
+const PAYLOAD: usize = 8;
 
 // The class of an object that names an interface, and its forms.
 const CLASS: u8 = 3;
@@ -52,61 +42,64 @@ const BY_INDEX: u8 = 2;
 
 const BY_ADDRESS: u8 = 3;
 
+// The families whose addresses are not printed by their octets.
+const IPV4: u16 = 1;
+
+const IPV6: u16 = 2;
+
+const IEEE_802: u16 = 6;
+
+const MAC48: u16 = 16389;
+
 // Prints the interface that the structure of a request names; a structure that is refused by its octets, and why.
 pub(super) fn show_structure<W: Write>(
     output: &mut W,
     form: Form,
     structure: &[u8],
 ) -> io::Result<()> {
-    match wrong_structure(structure) {
-        Some(why) => show_unread(output, form, structure, why),
-        None => show_object(output, form, structure),
+    match structure::parse(structure) {
+        Ok(_) => show_inside(output, form, structure),
+        Err(refusal) => show_unread(output, form, structure, Word(Why::Structure(refusal))),
     }
 }
 
-fn show_unread<W: Write>(
+fn show_unread<V: Value, W: Write>(
     output: &mut W,
     form: Form,
     structure: &[u8],
-    why: &str,
+    why: V,
 ) -> io::Result<()> {
     field(output, form, "data", structure)?;
     field(output, form, "data_refused", why)
 }
 
-// Why a structure is refused, where it is.
-fn wrong_structure(structure: &[u8]) -> Option<&'static str> {
-    if structure.len() < place::PAYLOAD {
-        return Some("fewer than 8 bytes");
+// Prints what the object behind a structure's header names.
+fn show_inside<W: Write>(output: &mut W, form: Form, structure: &[u8]) -> io::Result<()> {
+    let (_, inside) = structure.split_at(HEADER_LEN);
+    match Object::parse(inside) {
+        Ok((object, _)) => show_named_or_refused(output, form, structure, &object),
+        Err(refusal) => show_unread(output, form, structure, Word(Why::Object(refusal))),
     }
-    if structure.u8_at(place::VERSION) / 16 != VERSION {
-        return Some("not of version 2");
-    }
-    wrong_object(structure)
 }
 
-fn wrong_object(structure: &[u8]) -> Option<&'static str> {
-    let len = object_len(structure);
-    if len < OBJECT_HEADER_LEN {
-        return Some("an object of fewer than 4 bytes");
+fn show_named_or_refused<W: Write>(
+    output: &mut W,
+    form: Form,
+    structure: &[u8],
+    object: &Object<'_>,
+) -> io::Result<()> {
+    match wrong_object(object) {
+        Some(why) => show_unread(output, form, structure, why),
+        None => show_object(output, form, structure, object),
     }
-    if structure.len() < place::HEADER_LEN + len {
-        return Some("fewer bytes than the object counts");
-    }
-    if structure.u8_at(place::CLASS) != CLASS {
+}
+
+// Why an object names no interface, where it names none.
+fn wrong_object(object: &Object<'_>) -> Option<&'static str> {
+    if object.class != CLASS {
         return Some("an object of another class than 3");
     }
-    wrong_payload(structure.u8_at(place::C_TYPE), payload_of(structure))
-}
-
-// The bytes of the object, its header among them.
-fn object_len(structure: &[u8]) -> usize {
-    structure.u16_at(place::OBJECT_LEN) as usize
-}
-
-// What stands behind the header of the object.
-fn payload_of(structure: &[u8]) -> &[u8] {
-    &structure[place::PAYLOAD..place::HEADER_LEN + object_len(structure)]
+    wrong_payload(object.c_type, object.payload)
 }
 
 fn wrong_payload(c_type: u8, payload: &[u8]) -> Option<&'static str> {
@@ -134,17 +127,37 @@ fn address_end(payload: &[u8]) -> usize {
     place::ADDRESS + payload.u8_at(place::ADDRESS_LEN) as usize
 }
 
-// Prints what an object that is not refused names, and the octets behind it.
-fn show_object<W: Write>(output: &mut W, form: Form, structure: &[u8]) -> io::Result<()> {
-    let end = place::HEADER_LEN + object_len(structure);
-    let (_, behind) = structure.split_at(end);
-    show_payload(
-        output,
-        form,
-        structure.u8_at(place::C_TYPE),
-        payload_of(structure),
-    )?;
+// Prints what an object that is not refused names, and the octets behind that.
+fn show_object<W: Write>(
+    output: &mut W,
+    form: Form,
+    structure: &[u8],
+    object: &Object<'_>,
+) -> io::Result<()> {
+    let (_, behind) = structure.split_at(PAYLOAD + told_len(object.c_type, object.payload));
+    show_payload(output, form, object.c_type, object.payload)?;
     show_additional(output, form, behind)
+}
+
+// The bytes of a payload that are told, and the padding of an address.
+fn told_len(c_type: u8, payload: &[u8]) -> usize {
+    if c_type != BY_ADDRESS {
+        return payload.len();
+    }
+    let end = address_end(payload);
+    let (_, behind) = payload.split_at(end);
+    end + padding_len(end, behind)
+}
+
+// The bytes that pad to a multiple of 4 what ends here, where all of them are zeros.
+fn padding_len(end: usize, behind: &[u8]) -> usize {
+    let wanted = (4 - end % 4) % 4;
+    let (padding, _) = behind.split_at(wanted.min(behind.len()));
+    if trimmed(padding).is_empty() {
+        padding.len()
+    } else {
+        0
+    }
 }
 
 fn show_payload<W: Write>(
@@ -175,15 +188,30 @@ fn show_address<W: Write>(output: &mut W, form: Form, payload: &[u8]) -> io::Res
         family as u64,
         family_name(family),
     )?;
-    field(output, form, "interface_addr", Address(address))
+    show_address_of(output, form, family, address)
 }
 
 // The name of a family of addresses.
 fn family_name(family: u16) -> Option<&'static str> {
     match family {
-        1 => Some("ipv4"),
-        2 => Some("ipv6"),
-        6 => Some("802"),
+        IPV4 => Some("ipv4"),
+        IPV6 => Some("ipv6"),
+        IEEE_802 => Some("802"),
+        MAC48 => Some("mac48"),
         _ => None,
+    }
+}
+
+// Prints an address as those of its family are written; one of another length, or of another family, by its octets.
+fn show_address_of<W: Write>(
+    output: &mut W,
+    form: Form,
+    family: u16,
+    address: &[u8],
+) -> io::Result<()> {
+    match (family, address.len()) {
+        (IPV4, 4) | (IPV6, 16) => field(output, form, "interface_addr", Address(address)),
+        (IEEE_802 | MAC48, 6) => field(output, form, "interface_addr", Colons(address)),
+        _ => field(output, form, "interface_addr", address),
     }
 }

@@ -1,7 +1,8 @@
 // Made from crates/icmp_fields/src/extensions/objects.rt by rust/erase.
 //! The objects of an extension structure (RFC 4884 section 8).
 
-use super::words::{Name, Why, Word, role_name};
+use super::words::{Why, Word, role_name};
+use crate::texts::Name;
 use control_wire::extensions::{
     InterfaceInformation, LabelEntry, LabelStack, LabelStackIterator, Object, ObjectRefusal,
     interface, mpls,

@@ -1,10 +1,10 @@
 // Made from crates/icmp_fields/src/extensions/words.rt by rust/erase.
-//! Words about extensions: why they are refused, the roles and the names of interfaces.
+//! Words about extensions: why they are refused, and the roles of interfaces.
 
 use control_wire::extensions::{
     InterfaceRefusal, LabelRefusal, ObjectRefusal, Role, SplitRefusal, StructureRefusal,
 };
-use control_wire::inside::text::{Sink, put_hex, put_number};
+use control_wire::inside::text::{Sink, put_number};
 use packet_fields::Form;
 use packet_fields::value::{Text, Value, put_text};
 use rattle_std::io;
@@ -100,41 +100,4 @@ pub(crate) fn role_name(role: Role) -> &'static str {
         Role::Outgoing => "outgoing",
         Role::NextHop => "next_hop",
     }
-}
-
-// The name of an interface, whatever its bytes: a quotation mark and a backslash are put behind a backslash, and a byte
-// that is neither a visible character of ASCII nor a space as `\x` and two digits.
-#[derive(Clone, Copy)]
-pub(crate) struct Name<'a>(pub(crate) &'a [u8]);
-
-impl Value for Name<'_> {
-    fn put<W: Write>(self, output: &mut W, form: Form) -> io::Result<()> {
-        put_text(output, form, self)
-    }
-}
-
-impl Text for Name<'_> {
-    fn put_into<O, S: Sink<O>>(self, output: &mut O) -> Result<(), S::Error> {
-        put_characters::<O, S>(output, self.0)
-    }
-}
-
-fn put_characters<O, S: Sink<O>>(output: &mut O, octets: &[u8]) -> Result<(), S::Error> {
-    for octet in octets {
-        put_character::<O, S>(output, *octet)?;
-    }
-    Ok(())
-}
-
-fn put_character<O, S: Sink<O>>(output: &mut O, octet: u8) -> Result<(), S::Error> {
-    match octet {
-        b'"' | b'\\' => S::put(output, &[b'\\', octet]),
-        b' '..=b'~' => S::put(output, &[octet]),
-        _ => put_hidden::<O, S>(output, octet),
-    }
-}
-
-fn put_hidden<O, S: Sink<O>>(output: &mut O, octet: u8) -> Result<(), S::Error> {
-    S::put_str(output, "\\x")?;
-    put_hex::<O, S>(output, &[octet])
 }

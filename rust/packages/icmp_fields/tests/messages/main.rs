@@ -6,6 +6,8 @@ mod icmp4;
 #[cfg(test)]
 mod icmp6;
 #[cfg(test)]
+mod interfaces;
+#[cfg(test)]
 mod queries;
 #[cfg(test)]
 mod testing;
