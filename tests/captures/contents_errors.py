@@ -153,7 +153,7 @@ def objects(packet, room):
             yield interface_information(values, c_type)
         else:
             yield {"object": re.compile("[a-z0-9_]+"), "data": values.text("icmp.ext.data") if length > 4 else "",
-                   "c_type": c_type, "class": number}
+                   "class": number, "c_type": c_type}
 
 
 def label(values):
@@ -176,6 +176,6 @@ def interface_information(values, c_type):
         return name_text(values.text(key).encode()) if values.count(key) else re.compile(".{0,3}")
 
     return {"object": "interface_information", "role": ROLES[values.number("icmp.int_info.role")],
-            "index": told("ifindex", "icmp.int_info.index", values.number), "address": told("ipaddr", "", address),
+            "index": told("ifindex", "icmp.int_info.index", values.number), "addr": told("ipaddr", "", address),
             "name": told("name_present", "icmp.int_info.name", name),
             "mtu": told("mtu_present", "icmp.int_info.mtu", values.number), "class": 2, "c_type": c_type}

@@ -13,9 +13,9 @@ class Broken(Exception):
     """Octets that are not what they are read as, and why."""
 
 
-def divided(octets, length, unit):
+def divided(octets, length, unit, is_whole):
     """What is quoted of all octets behind an error's header, and the items behind that: by the length in the error,
-    which counts so many octets each."""
+    which counts so many octets each. Of an error that is not whole the checksum of the structure tells nothing."""
     if length == 0:
         return octets, []
     end = length * unit
@@ -23,21 +23,21 @@ def divided(octets, length, unit):
         return octets, refused("the original datagram has fewer than 128 bytes by its length")
     if end > len(octets):
         return octets, refused("the original datagram is cut")
-    return octets[:end], structure(octets[end:]) if octets[end:] else []
+    return octets[:end], structure(octets[end:], is_whole) if octets[end:] else []
 
 
 def refused(why):
     return [Field("extensions_refused", why)]
 
 
-def structure(octets):
-    """An extension structure (RFC 4884 section 7)."""
+def structure(octets, is_whole):
+    """An extension structure (RFC 4884 section 7), whose checksum is that of all its octets."""
     why = None
     if len(octets) < 4:
         why = "the header of the extensions is cut"
     elif octets[0] >> 4 != 2:
         why = "the extensions are of version %d" % (octets[0] >> 4)
-    elif octets[2:4] != b"\0\0" and not is_good(octets):
+    elif is_whole and octets[2:4] != b"\0\0" and not is_good(octets):
         why = "the checksum of the extensions is wrong"
     return refused(why) + [Field("extensions_octets", octets)] if why else [Entries("extensions", objects(octets[4:]))]
 
@@ -69,8 +69,8 @@ def entries(number, kind, data):
 
 
 def plain(number, kind, data, *why):
-    return Entry(("object", labelled(CLASSES, "object", number)), ("data", data), Cell("c_type", kind), *why,
-                 Cell("class", number, HIDDEN))
+    return Entry(("object", labelled(CLASSES, "object", number)), ("data", data), Cell("class", number, HIDDEN),
+                 Cell("c_type", kind), *why)
 
 
 def labels(data):
@@ -84,12 +84,13 @@ def labels(data):
 
 
 def interface(kind, data):
-    """What is told of an interface (RFC 5837 section 4), by the bits of the C-Type."""
+    """What is told of an interface (RFC 5837 section 4), by the bits of the C-Type, and what is behind that."""
     parts = {}
-    for bit, key, read in ((8, "index", number4), (4, "address", address), (2, "name", name), (1, "mtu", number4)):
+    for bit, key, read in ((8, "index", number4), (4, "addr", address), (2, "name", name), (1, "mtu", number4)):
         parts[key], data = read(data) if kind & bit else (None, data)
     return Entry(("object", CLASSES[INTERFACE]), ("role", ROLES[kind >> 6]), *(Cell(*part) for part in parts.items()),
-                 Cell("class", INTERFACE, HIDDEN), Cell("c_type", kind, HIDDEN))
+                 Cell("class", INTERFACE, HIDDEN), Cell("c_type", kind, HIDDEN),
+                 *([Cell("additional_data", data)] if data else []))
 
 
 def cut(data, length):

@@ -13,17 +13,17 @@ ERRORS4, ECHOES4 = (3, 4, 5, 11, 12), (0, 8)
 ERRORS6, ECHOES6 = (1, 2, 3, 4), (128, 129)
 
 
-def icmp4(octets):
-    return message(octets, ERRORS4 + ECHOES4, head4, items4, QUERIES4)
+def icmp4(octets, is_whole):
+    return message(octets, is_whole, ERRORS4 + ECHOES4, head4, items4, QUERIES4)
 
 
-def icmp6(octets):
-    return message(octets, ERRORS6 + ECHOES6, head6, items6, QUERIES6)
+def icmp6(octets, is_whole):
+    return message(octets, is_whole, ERRORS6 + ECHOES6, head6, items6, QUERIES6)
 
 
-def message(octets, types, head, items_of, others):
-    """The items of a message, and why it is refused, or None. One that is not read is told by type, code and the octets
-    behind the checksum, as far as they are there; those of other types have readers of their own."""
+def message(octets, is_whole, types, head, items_of, others):
+    """The items of a message, whole or cut, and why it is refused, or None. One that is not read is told by type, code
+    and the octets behind the checksum, as far as they are there; those of other types have readers of their own."""
     try:
         if len(octets) < 8:
             raise Refused("short", "fewer than 8 bytes")
@@ -31,7 +31,7 @@ def message(octets, types, head, items_of, others):
             return head(octets) + others[octets[0]](octets), None
         if octets[0] not in types:
             raise Refused("type", None)
-        return head(octets) + items_of(octets), None
+        return head(octets) + items_of(octets, is_whole), None
     except Refused as refused:
         front, rest = (head(octets), octets[4:]) if len(octets) >= 4 else ([], octets)
         return front + [Field("rest", rest)] + refused.fields(), refused
@@ -51,13 +51,13 @@ def echo(octets):
 
 # ---- ICMPv4
 
-def items4(octets):
+def items4(octets, is_whole):
     if octets[0] in ECHOES4:
         if octets[1]:
             raise Refused("malformed", "an echo of code %d is not read" % octets[1])
         return echo(octets)
     # What is quoted is counted in words of 4 octets (RFC 4884 section 4).
-    quote, behind = divided(octets[8:], octets[5] if octets[0] in (3, 11, 12) else 0, 4)
+    quote, behind = divided(octets[8:], octets[5] if octets[0] in (3, 11, 12) else 0, 4, is_whole)
     return told4(octets) + quote4(quote) + behind
 
 
@@ -109,14 +109,14 @@ def header_len4(quote):
 
 # ---- ICMPv6
 
-def items6(octets):
+def items6(octets, is_whole):
     if octets[0] in ECHOES6:
         if octets[1]:
             raise Refused("malformed", "code %d is not read" % octets[1])
         return echo(octets)
     number = {2: "mtu", 4: "pointer"}.get(octets[0])
     # What is quoted is counted in words of 8 octets (RFC 4884 section 4).
-    quote, behind = divided(octets[8:], octets[4] if octets[0] in (1, 3) else 0, 8)
+    quote, behind = divided(octets[8:], octets[4] if octets[0] in (1, 3) else 0, 8, is_whole)
     return ([Field(number, be(octets[4:8]))] if number else []) + quote6(quote) + behind
 
 

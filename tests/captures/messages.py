@@ -61,7 +61,7 @@ def read(kind, of, why=None, is_strict=False):
         checksum = Checksum("unverified") if missing else checksum_of(of, octets)
         if is_strict and checksum.is_bad():
             return [Field("refused", "the checksum does not hold")], "checksum"
-        items, refused = message(kind, octets)
+        items, refused = message(kind, octets, not missing)
     except Refused as short:
         checksum, refused = Checksum("unverified"), short
         items = [Field("refused", short.phrase), Field("octets", octets)]
@@ -93,19 +93,19 @@ def checksum_of(of, octets):
     return Checksum("good" if is_good(octets, extra) else "bad")
 
 
-def message(kind, octets):
-    """The items of whole octets of a kind, and why they are refused, or None."""
+def message(kind, octets, is_whole):
+    """The items of octets of a kind, a whole message or a cut one, and why they are refused, or None."""
     if kind == "icmp4":
-        return icmp.icmp4(octets)
+        return icmp.icmp4(octets, is_whole)
     if kind == "igmp":
         return neighbors.igmp(octets)
     if kind == "icmp6":
-        return icmp6(octets)
+        return icmp6(octets, is_whole)
     return dhcp(octets[8:]) if kind == "dhcp" else dns.message(octets[8:], kind)
 
 
-def icmp6(octets):
+def icmp6(octets, is_whole):
     kind = octets[0] if octets else None
     if kind in neighbors.HEADERS:
         return neighbors.neighbor(octets)
-    return neighbors.listener(octets) if kind in (130, 131, 132, 143) else icmp.icmp6(octets)
+    return neighbors.listener(octets) if kind in (130, 131, 132, 143) else icmp.icmp6(octets, is_whole)

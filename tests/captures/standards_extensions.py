@@ -1,8 +1,8 @@
 """Captures of ICMP errors with extensions (RFC 4884), and of quotes of IPv6 with extension headers."""
 import struct
 
-from building import (HOST4, HOST6, ICMP6, SERVER6, TCP, UDP, hexed, icmp4, ip4, ip6, ip6_icmp6, pcap, sealed,
-                      v6)
+from building import (HOST4, HOST6, ICMP6, SERVER6, TCP, UDP, hexed, icmp4, ip4, ip6, ip6_icmp6, pcap, pcap_header,
+                      pcap_record, sealed, v6)
 
 UDP_HEADER = hexed("9c40 0035 05c8 0000")
 QUOTE4 = ip4(UDP_HEADER, UDP, total=1500).ljust(128, b"\0")
@@ -33,6 +33,11 @@ def error6(kind, code, behind, quote=QUOTE6, words=None):
     return raw(ip6_icmp6(kind, code, struct.pack(">BBH", words, 0, 0), quote + behind))
 
 
+def cut(datagram, *missing):
+    """Records that lack so many octets at the end of a datagram."""
+    return pcap_header(101) + b"".join(pcap_record(datagram[:-count], original_len=len(datagram)) for count in missing)
+
+
 # ---- objects
 
 def label(number, traffic_class, bottom, ttl):
@@ -44,6 +49,9 @@ NAME = b"\x0ceth0/1.\"\\\x7f\0"
 INTERFACE = item(2, 0x0F, hexed("00000003 0001 0000") + HOST4 + NAME + hexed("000005dc"))
 INTERFACE6 = item(2, 0xC6, hexed("0002 0000") + v6("fe80::7") + hexed("04 613100"))
 BARE = item(2, 0x40, b"") + item(2, 0x88, hexed("ffffffff 01"))
+# Parts with octets behind them: an index, and a name that is padded further than it needs before an MTU.
+SPARE = (item(2, 0x88, hexed("00000003 0102")) + item(2, 0xC3, b"\x0ca1".ljust(12, b"\0") + hexed("000005dc ff"))
+         + item(2, 0x40, hexed("00000000")))
 UNKNOWN = item(247, 9, hexed("01020304 05"))
 REFUSED = (item(1, 1, b"\1\2\3\4\5\6"), item(2, 0x0C, hexed("00000001 0003 0000") + HOST4),
            item(2, 2, b"\x05abcd"), item(2, 2, b"\x44" + b"a" * 67), item(2, 9, hexed("00000001 0000")),
@@ -53,6 +61,7 @@ REFUSED = (item(1, 1, b"\1\2\3\4\5\6"), item(2, 0x0C, hexed("00000001 0003 0000"
 EXTENSIONS = {
     "icmp4_error_with_labels": error4(11, 0, structure(LABELS)),
     "icmp4_error_with_an_interface": error4(3, 3, structure(INTERFACE, INTERFACE6, BARE)),
+    "icmp4_error_with_octets_behind_interfaces": error4(11, 0, structure(SPARE)),
     "icmp4_error_with_other_objects": error4(12, 0, structure(
         UNKNOWN, item(1, 2, b"\1\2\3\4"), item(3, 1, b"eth0"), item(1, 1, b""), item(4, 1, b"\0\0\0\1"))),
     "icmp4_error_with_an_mtu_and_labels": error4(3, 4, structure(LABELS), last=1400),
@@ -116,3 +125,19 @@ QUOTES = {
         3, 0, structure(LABELS), ip6(header(UDP) + UDP_HEADER, OPTIONS, HOST6, SERVER6).ljust(128, b"\0")),
 }
 EXTENSIONS.update(QUOTES)
+
+# ---- errors that the capture cut
+
+# Their structure has 25 octets: its header, labels and an object of 9. The checksum of what is left is not that of all.
+WHOLE4 = icmp4(11, 0, struct.pack(">BBH", 0, 32, 0), QUOTE4 + structure(LABELS, UNKNOWN))
+WHOLE6 = ip6_icmp6(3, 0, struct.pack(">BBH", 16, 0, 0), QUOTE6 + structure(LABELS, UNKNOWN))
+
+EXTENSIONS.update({
+    "icmp4_error_cut_within_its_extensions": cut(WHOLE4, 3, 9),
+    "icmp4_error_cut_within_a_header_of_extensions": cut(WHOLE4, 6, 21, 22, 24),
+    "icmp4_error_cut_at_its_extensions": cut(WHOLE4, 25, 26),
+    "icmp4_error_of_version_1_cut_within_its_extensions": cut(
+        icmp4(11, 0, struct.pack(">BBH", 0, 32, 0), QUOTE4 + structure(LABELS, version=1)), 1),
+    "icmp6_error_cut_within_its_extensions": cut(WHOLE6, 3, 9, 17),
+    "icmp6_error_cut_within_a_header_of_extensions": cut(WHOLE6, 6, 21, 22),
+})

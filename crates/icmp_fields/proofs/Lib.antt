@@ -1,5 +1,6 @@
 pub mod ExtensionEntries
 pub mod Gateways
+pub mod InterfaceEnds
 pub mod Items
 pub mod Quotes
 pub mod RouterEntries

@@ -1,7 +1,8 @@
 -- Extensions of ICMP errors (RFC 4884), as fields.
 use Rattle.std.specs.Prelude.{◌≡◌, ◌≢◌, ◌≤◌, ◌%◌, ◌++◌, ◌∷◌, [], List, None, Option, Some, ℕ, codes, length, map}
-use Rattle.std.specs.Prelude.{Result, Ok, Err}
+use Rattle.std.specs.Prelude.{Bool, false, true, drop, Result, Ok, Err}
 use Rattle.std.specs.Option.{option_map}
+use Rattle.wirebase.specs.Checks.{Check, Fails, Passes, check}
 use Rattle.extension_wire.specs.ExtensionDisplay.{interface_refusal_display, label_refusal_display}
 use Rattle.extension_wire.specs.ExtensionDisplay.{object_refusal_display, split_refusal_display}
 use Rattle.extension_wire.specs.ExtensionDisplay.{structure_refusal_display}
@@ -14,7 +15,7 @@ use Rattle.extension_wire.specs.Object.{ObjectValue, IsObject}
 use Rattle.extension_wire.specs.Split as split
 use Rattle.extension_wire.specs.Split.{PartsValue, IsSplit}
 use Rattle.extension_wire.specs.Structure as structure
-use Rattle.extension_wire.specs.Structure.{IsStructure}
+use Rattle.extension_wire.specs.Structure.{version_in}
 use Rattle.extension_wire.specs.declared.family.Family.{Family}
 use Rattle.extension_wire.specs.declared.mpls.LabelEntry.{LabelEntry}
 use Rattle.extension_wire.specs.declared.refusal.InterfaceRefusal.{InterfaceRefusal}
@@ -28,6 +29,7 @@ use Rattle.packet_fields.specs.Labels.{label_text}
 use Rattle.packet_fields.specs.Names.{Rows, name_in}
 use Rattle.packet_fields.specs.Texts.{address_text}
 use Rattle.icmp_fields.specs.ExtensionWords.{role_name}
+use Rattle.icmp_fields.specs.Queries.{spare_cells}
 use Rattle.icmp_fields.specs.Texts.{name_text}
 
 -- ---- objects
@@ -49,7 +51,7 @@ plain_entry o refused = record {
   first_key = codes "data";
   first = octets o.payload;
   rest =
-      keyed_value (codes "c_type") (number o.c_type) ++ refused_cells refused ++ hidden_value (codes "class") o.class;
+      hidden_value (codes "class") o.class ++ keyed_value (codes "c_type") (number o.c_type) ++ refused_cells refused;
 }
 
 -- octets that begin no object, and why
@@ -89,21 +91,26 @@ address_leaf_text address = address_text address.octets
 abbrev pub interface_cells : InterfaceValue → List Cell
 interface_cells v =
     keyed_value (codes "index") (leaf_or_missing number v.index)
-    ++ keyed_value (codes "address") (leaf_or_missing text (option_map address_leaf_text v.address))
+    ++ keyed_value (codes "addr") (leaf_or_missing text (option_map address_leaf_text v.address))
     ++ keyed_value (codes "name") (leaf_or_missing text (option_map name_text v.name))
     ++ keyed_value (codes "mtu") (leaf_or_missing number v.mtu)
 
-abbrev pub interface_entry : ℕ → InterfaceValue → Entry
-interface_entry c_type v = record {
+-- with this C-Type, and octets that the object has behind the parts
+abbrev pub interface_entry : ℕ → InterfaceValue → List ℕ → Entry
+interface_entry c_type v behind = record {
   label_key = codes "object";
   label = codes "interface_information";
   first_key = codes "role";
   first = text (role_name v.role);
-  rest = interface_cells v ++ hidden_value (codes "class") 2 ++ hidden_value (codes "c_type") c_type;
+  rest =
+      interface_cells v
+      ++ hidden_value (codes "class") 2
+      ++ hidden_value (codes "c_type") c_type
+      ++ spare_cells behind;
 }
 
 pub data IsInterfaceEntry (o : ObjectValue) (e : Entry) : Type 0 where
-  read : (v : InterfaceValue) → IsInformation o.c_type o.payload v → e ≡ interface_entry o.c_type v
+  read : (v : InterfaceValue) (is : IsInformation o.c_type o.payload v) → e ≡ interface_entry o.c_type v is.behind_mtu
       → IsInterfaceEntry o e
   refused : (why : InterfaceRefusal) → interface.Refuses o.c_type o.payload why
       → e ≡ plain_entry o (Some (interface_refusal_display why)) → IsInterfaceEntry o e
@@ -142,15 +149,26 @@ refused_items why = field (codes "extensions_refused") (text why) ∷ []
 abbrev pub refused_structure_items : List ℕ → List ℕ → List Item
 refused_structure_items why bytes = refused_items why ++ (field (codes "extensions_octets") (octets bytes) ∷ [])
 
--- a structure by its objects, or one that is refused
-pub data AreStructureItems (bytes : List ℕ) (items : List Item) : Type 0 where
-  objects : (inside : List ℕ) → IsStructure bytes inside → AreObjectsItems inside items → AreStructureItems bytes items
-  refused : (why : StructureRefusal) → structure.Refuses bytes why
-      → items ≡ refused_structure_items (structure_refusal_display why) bytes → AreStructureItems bytes items
+-- What a structure is held against, by whether its message is whole. The checksum is that of all octets, so where the
+-- capture cut the message it is not verified.
+abbrev pub header_checks : Bool → List ℕ → List (Check StructureRefusal)
+header_checks true bytes = structure.checks bytes
+header_checks false bytes =
+    check (4 ≤ length bytes) StructureRefusal.Short
+    ∷ check (version_in bytes ≡ 2) (StructureRefusal.Version (version_in bytes))
+    ∷ []
 
-abbrev pub AreExtensions : Option (List ℕ) → List Item → Type 0
-AreExtensions None items = items ≡ []
-AreExtensions (Some bytes) items = AreStructureItems bytes items
+-- a structure by its objects, or one that is refused
+pub data AreStructureItems (is_whole : Bool) (bytes : List ℕ) (items : List Item) : Type 0 where
+  objects : Passes (header_checks is_whole bytes) → AreObjectsItems (drop 4 bytes) items
+      → AreStructureItems is_whole bytes items
+  refused : (why : StructureRefusal) → Fails (header_checks is_whole bytes) why
+      → items ≡ refused_structure_items (structure_refusal_display why) bytes
+      → AreStructureItems is_whole bytes items
+
+abbrev pub AreExtensions : Bool → Option (List ℕ) → List Item → Type 0
+AreExtensions is_whole None items = items ≡ []
+AreExtensions is_whole (Some bytes) items = AreStructureItems is_whole bytes items
 
 -- ---- errors
 
@@ -167,7 +185,7 @@ abbrev pub quoted_in : Division → List ℕ → List ℕ
 quoted_in (Ok parts) bytes = parts.quoted
 quoted_in (Err why) bytes = bytes
 
--- the fields behind those of what is quoted
-abbrev pub AreBehind : Division → List Item → Type 0
-AreBehind (Ok parts) items = AreExtensions parts.extensions items
-AreBehind (Err why) items = items ≡ refused_items (split_refusal_display why)
+-- the fields behind those of what is quoted, by whether the message is whole
+abbrev pub AreBehind : Bool → Division → List Item → Type 0
+AreBehind is_whole (Ok parts) items = AreExtensions is_whole parts.extensions items
+AreBehind is_whole (Err why) items = items ≡ refused_items (split_refusal_display why)

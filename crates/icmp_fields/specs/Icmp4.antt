@@ -115,12 +115,12 @@ told_in_rest Kind.ParamProblem v = field (codes "pointer") (number (v.rest / 2 ^
 abbrev pub error_items : ErrorValue Kind → Ipv4Quote → List Item
 error_items v q = head_items (kind_number v.kind) v.code ++ told_in_rest v.kind v ++ ipv4_quote_items q
 
--- an error, with the fields of what it quotes, and those of extensions behind these (RFC 4884)
-pub record AreErrorItems (v : ErrorValue Kind) (items : List Item) : Type 0 where
+-- an error, whole or cut, with the fields of what it quotes, and those of extensions behind these (RFC 4884)
+pub record AreErrorItems (is_whole : Bool) (v : ErrorValue Kind) (items : List Item) : Type 0 where
   pub division : Division
   pub divides : IsDivision Family.V4 (length_in v) v.quoted division
   pub quote : Ipv4Quote
   pub quotes : IsIpv4Quote (quoted_in division v.quoted) quote
   pub behind : List Item
-  pub extensions : AreBehind division behind
+  pub extensions : AreBehind is_whole division behind
   pub items_are : items ≡ error_items v quote ++ behind

@@ -103,8 +103,8 @@ told_in_rest Kind.ParamProblem v = field (codes "pointer") (number v.rest) ∷ [
 abbrev pub error_items : ErrorValue Kind → Ipv6Quote → Option UpperValue → List Item
 error_items v q upper = head_items (kind_number v.kind) v.code ++ told_in_rest v.kind v ++ ipv6_quote_items q upper
 
--- an error, with the fields of what it quotes, and those of extensions behind these (RFC 4884)
-pub record AreErrorItems (v : ErrorValue Kind) (items : List Item) : Type 0 where
+-- an error, whole or cut, with the fields of what it quotes, and those of extensions behind these (RFC 4884)
+pub record AreErrorItems (is_whole : Bool) (v : ErrorValue Kind) (items : List Item) : Type 0 where
   pub division : Division
   pub divides : IsDivision Family.V6 (length_in v) v.quoted division
   pub quote : Ipv6Quote
@@ -112,5 +112,5 @@ pub record AreErrorItems (v : ErrorValue Kind) (items : List Item) : Type 0 wher
   pub upper : Option UpperValue
   pub leads : LeadsTo quote.next_header quote.payload.now upper
   pub behind : List Item
-  pub extensions : AreBehind division behind
+  pub extensions : AreBehind is_whole division behind
   pub items_are : items ≡ error_items v quote upper ++ behind

@@ -7,14 +7,14 @@ ghost use Rattle.std.specs.Option.{option_map};
 ghost use Rattle.packet_fields.specs.Prints.{Prints, PrintsSome};
 ghost use Rattle.icmp_fields.specs.Extensions.{quoted_in, AreBehind, AreExtensions, AreStructureItems};
 ghost use Rattle.icmp_fields.specs.Extensions.{refused_items, refused_structure_items, AreObjectsItems};
-ghost use Rattle.icmp_fields.specs.private.Reasons.{division_of, why_text};
+ghost use Rattle.icmp_fields.specs.private.Reasons.{HeaderTold, division_of, why_text};
 
 mod objects;
 pub(crate) mod words;
 
 use self::objects::show_objects;
 use self::words::{Why, Word};
-use extension_wire::{Parts, SplitRefusal, structure};
+use extension_wire::{Parts, SplitRefusal, StructureRefusal, structure};
 use packet_fields::Form;
 use packet_fields::entry::{close_list, open_list};
 use packet_fields::field::field;
@@ -34,17 +34,19 @@ pub(crate) fn quoted_of<'a>(parts: &Result<Parts<'a>, SplitRefusal>, octets: &'a
     }
 }
 
-// Prints the extensions behind what is quoted, or why they are not told apart.
+// Prints the extensions behind what is quoted, or why they are not told apart. Of a message that is not whole, their
+// checksum is not verified.
 pub(crate) fn show_extensions<W: Write>(
     output: &mut W,
     form: Form,
     parts: &Result<Parts<'_>, SplitRefusal>,
+    is_whole: bool,
 ) -> io::Result<()>
     ensures { OnOk result (PrintsSome form (W.contents output.old) (W.contents output.new)
-        (AreBehind (division_of parts.now))) }
+        (AreBehind is_whole (division_of parts.now))) }
 {
     match parts {
-        Ok(parts) => show_any(output, form, parts.extensions),
+        Ok(parts) => show_any(output, form, parts.extensions, is_whole),
         Err(refusal) => show_refused(output, form, Why::Split(*refusal)),
     }
 }
@@ -59,26 +61,46 @@ fn show_refused<W: Write>(output: &mut W, form: Form, why: Why) -> io::Result<()
 
 // Prints extensions, where there are any.
 #[tactic(auto, using(packet_fields::proofs::Fields::prints_none))]
-fn show_any<W: Write>(output: &mut W, form: Form, extensions: Option<&[u8]>) -> io::Result<()>
+fn show_any<W: Write>(
+    output: &mut W,
+    form: Form,
+    extensions: Option<&[u8]>,
+    is_whole: bool,
+) -> io::Result<()>
     ensures { OnOk result (PrintsSome form (W.contents output.old) (W.contents output.new)
-        (AreExtensions (option_map (λ some. some.now) extensions.entry))) }
+        (AreExtensions is_whole (option_map (λ some. some.now) extensions.entry))) }
 {
     match extensions {
-        Some(octets) => show_structure(output, form, octets),
+        Some(octets) => show_structure(output, form, octets, is_whole),
         None => Ok(()),
     }
 }
 
 // Prints a structure by its objects, or why it is refused, and its octets.
-fn show_structure<W: Write>(output: &mut W, form: Form, octets: &[u8]) -> io::Result<()>
+fn show_structure<W: Write>(
+    output: &mut W,
+    form: Form,
+    octets: &[u8],
+    is_whole: bool,
+) -> io::Result<()>
     ensures { OnOk result (PrintsSome form (W.contents output.old) (W.contents output.new)
-        (AreStructureItems octets.now)) }
+        (AreStructureItems is_whole octets.now)) }
 {
-    if let Err(refusal) = structure::parse(octets) {
+    if let Some(refusal) = wrong_header(octets, is_whole) {
         return show_refused_structure(output, form, Why::Structure(refusal), octets);
     }
     let (_, inside) = octets.split_at(HEADER_LEN);
     show_list(output, form, inside)
+}
+
+// Why a structure is refused, where it is; for its checksum only where the message is whole.
+fn wrong_header(octets: &[u8], is_whole: bool) -> Option<StructureRefusal>
+    ensures { HeaderTold is_whole octets.now result }
+{
+    match structure::parse(octets) {
+        Err(refusal) if is_whole || refusal != StructureRefusal::Checksum => Some(refusal),
+        _ => None,
+    }
 }
 
 fn show_refused_structure<W: Write>(

@@ -211,12 +211,19 @@ fn show_echo<W: Write>(
     icmp::show_echo(output, form, ident, seq_no, data)
 }
 
-/// Prints an error, what it quotes, and the extensions behind that (RFC 4884). Requires that it quotes the start of a
-/// datagram, as each error does that `Repr::parse` gives.
-pub fn show_error<W: Write>(output: &mut W, form: Form, error: &Repr<'_>) -> io::Result<()>
+/// Prints an error, what it quotes, and the extensions behind that (RFC 4884). Extensions whose checksum is wrong are
+/// refused, and printed by their octets. Where `is_whole` is false the capture cut the message: then the checksum can't
+/// be verified, and is not looked at. Requires that the error quotes the start of a datagram, as each does that
+/// `Repr::parse` gives.
+pub fn show_error<W: Write>(
+    output: &mut W,
+    form: Form,
+    error: &Repr<'_>,
+    is_whole: bool,
+) -> io::Result<()>
     requires { IsDatagram error.now.quoted.now }
     ensures { OnOk result (PrintsSome form (W.contents output.old) (W.contents output.new)
-        (AreErrorItems (value_of error.now))) }
+        (AreErrorItems is_whole (value_of error.now))) }
 {
     let division = error.parts();
     let Ok(quote) = Ipv4Quote::parse(quoted_of(&division, error.quoted)) else {
@@ -224,7 +231,7 @@ pub fn show_error<W: Write>(output: &mut W, form: Form, error: &Repr<'_>) -> io:
         return Ok(());
     };
     show_quoting(output, form, error, &quote)?;
-    show_extensions(output, form, &division)
+    show_extensions(output, form, &division, is_whole)
 }
 
 // Prints an error and this that it quotes.

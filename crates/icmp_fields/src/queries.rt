@@ -236,7 +236,7 @@ fn show_router<W: Write>(output: &mut W, form: Form, is_first: bool, entry: &[u8
 
 // Prints further words of an entry, where there are any.
 #[tactic(auto, using(packet_fields::proofs::Fields::cells_none))]
-fn show_spare<W: Write>(output: &mut W, form: Form, octets: &[u8]) -> io::Result<()>
+pub(crate) fn show_spare<W: Write>(output: &mut W, form: Form, octets: &[u8]) -> io::Result<()>
     ensures { OnOk result (PrintsCells form (W.contents output.old) (W.contents output.new)
         (spare_cells octets.now)) }
 {

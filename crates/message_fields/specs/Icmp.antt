@@ -49,13 +49,13 @@ pub data Reads {V R : Type 0} (IsValue : V → Type 0) (Are : V → List Item �
 
 -- ---- ICMPv4
 
-abbrev pub Icmp4Are : List ℕ → icmp4.MessageValue → List Item → Type 0
-Icmp4Are octets (icmp4.error v) items = fields4.AreErrorItems v items
-Icmp4Are octets (icmp4.other v) items = items ≡ fields4.message_items v octets
+abbrev pub Icmp4Are : Bool → List ℕ → icmp4.MessageValue → List Item → Type 0
+Icmp4Are is_whole octets (icmp4.error v) items = fields4.AreErrorItems is_whole v items
+Icmp4Are is_whole octets (icmp4.other v) items = items ≡ fields4.message_items v octets
 
-abbrev pub Icmp4Is : List ℕ → List Item → Option Refusal → Type 0
-Icmp4Is octets =
-    Reads (icmp4.IsMessage (all_of checksum.None) octets) (Icmp4Are octets)
+abbrev pub Icmp4Is : Bool → List ℕ → List Item → Option Refusal → Type 0
+Icmp4Is is_whole octets =
+    Reads (icmp4.IsMessage (all_of checksum.None) octets) (Icmp4Are is_whole octets)
     (icmp4.Refuses (all_of checksum.None) octets) refusal.Icmp4 (fields4.told octets)
     (fields4.unread_items octets)
 
@@ -119,22 +119,23 @@ abbrev pub NeighborIs : Ipv6Address → Ipv6Address → List ℕ → List Item �
 NeighborIs source destination octets items told =
     NdiscTold source destination octets told × (items ≡ ndisc_fields.message_items octets ++ unless_short told)
 
-abbrev pub Icmp6Are : List ℕ → icmp6.MessageValue → List Item → Type 0
-Icmp6Are octets (icmp6.error v) items = fields6.AreErrorItems v items
-Icmp6Are octets (icmp6.other v) items = items ≡ fields6.message_items v octets
+abbrev pub Icmp6Are : Bool → List ℕ → icmp6.MessageValue → List Item → Type 0
+Icmp6Are is_whole octets (icmp6.error v) items = fields6.AreErrorItems is_whole v items
+Icmp6Are is_whole octets (icmp6.other v) items = items ≡ fields6.message_items v octets
 
-abbrev pub OthersAre : Ipv6Address → Ipv6Address → List ℕ → List Item → Option Refusal → Type 0
-OthersAre source destination octets =
-    Reads (icmp6.IsMessage source destination (all_of checksum.None) octets) (Icmp6Are octets)
+abbrev pub OthersAre : Bool → Ipv6Address → Ipv6Address → List ℕ → List Item → Option Refusal → Type 0
+OthersAre is_whole source destination octets =
+    Reads (icmp6.IsMessage source destination (all_of checksum.None) octets) (Icmp6Are is_whole octets)
     (icmp6.Refuses source destination (all_of checksum.None) octets) refusal.Icmp6 (fields6.told octets)
     (fields6.unread_items octets)
 
 -- By its type: a message of multicast listeners, one of neighbor discovery, or another.
-pub data Icmp6Is (source destination : Ipv6Address) (octets : List ℕ) (items : List Item) (told : Option Refusal)
-    : Type 0 where
+pub data Icmp6Is (is_whole : Bool) (source destination : Ipv6Address) (octets : List ℕ) (items : List Item)
+    (told : Option Refusal) : Type 0 where
   of_listeners : has_mld_type octets ≡ true → items ≡ mld_fields.message_items octets
-      → told ≡ refusal_of (mld_fields.message_lack octets) → Icmp6Is source destination octets items told
+      → told ≡ refusal_of (mld_fields.message_lack octets) → Icmp6Is is_whole source destination octets items told
   of_neighbors : has_mld_type octets ≡ false → has_ndisc_type octets ≡ true
-      → NeighborIs source destination octets items told → Icmp6Is source destination octets items told
+      → NeighborIs source destination octets items told → Icmp6Is is_whole source destination octets items told
   of_others : has_mld_type octets ≡ false → has_ndisc_type octets ≡ false
-      → OthersAre source destination octets items told → Icmp6Is source destination octets items told
+      → OthersAre is_whole source destination octets items told
+      → Icmp6Is is_whole source destination octets items told

@@ -25,13 +25,13 @@ abbrev pub first_of : ChecksumState → Option Refusal → Option Refusal
 first_of state.Bad told = Some refusal.Checksum
 first_of _ told = told
 
--- the fields of a message, and why it is refused or read in part
+-- the fields of a message, whole or cut, and why it is refused or read in part
 abbrev pub BodyIs : Bool → MessageValue → List Item → Option Refusal → Type 0
-BodyIs tells_cut (icmp4 octets) = Icmp4Is octets
-BodyIs tells_cut (igmp octets) = IgmpIs octets
-BodyIs tells_cut (icmp6 source destination octets) = Icmp6Is source destination octets
-BodyIs tells_cut (udp service addresses octets) = UdpIs tells_cut service octets
-BodyIs tells_cut (tcp addresses segment octets) = DnsIs Kind.Dns octets
+BodyIs is_whole (icmp4 octets) = Icmp4Is is_whole octets
+BodyIs is_whole (igmp octets) = IgmpIs octets
+BodyIs is_whole (icmp6 source destination octets) = Icmp6Is is_whole source destination octets
+BodyIs is_whole (udp service addresses octets) = UdpIs is_whole service octets
+BodyIs is_whole (tcp addresses segment octets) = DnsIs Kind.Dns octets
 
 -- the hop-by-hop options of a packet, where it has any
 abbrev pub options_items : Option (List ℕ) → List Item

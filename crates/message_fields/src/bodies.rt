@@ -19,26 +19,27 @@ use std::alloc::Global;
 use std::io;
 use std::io::Write;
 
-/// Prints the fields of a message, and returns why it is refused or read in part. Where a UDP datagram has fewer bytes
-/// than its header says, their number is printed if `tells_cut` holds.
+/// Prints the fields of a message, and returns why it is refused or read in part. `is_whole` is false where the capture
+/// cut it: then the checksum of extensions (RFC 4884) can't be verified. Where it is true, and a UDP datagram has fewer
+/// bytes than its header says, their number is printed.
 pub(crate) fn show_body<W: Write>(
     output: &mut W,
     form: Form,
     alloc: Global,
     message: &Message<'_>,
-    tells_cut: bool,
+    is_whole: bool,
 ) -> io::Result<Option<Refusal>>
     ensures { IfOk result (λ told. PrintsSome form (W.contents output.old) (W.contents output.new)
-        (λ items. BodyIs tells_cut (value_of message.now) items told)) }
+        (λ items. BodyIs is_whole (value_of message.now) items told)) }
 {
     match message {
-        Message::Icmp4(octets) => show_icmp4(output, form, alloc, octets),
+        Message::Icmp4(octets) => show_icmp4(output, form, alloc, octets, is_whole),
         Message::Igmp(octets) => show_igmp(output, form, alloc, octets),
         Message::Icmp6(src_addr, dst_addr, octets) => {
-            show_icmp6(output, form, alloc, src_addr, dst_addr, octets)
+            show_icmp6(output, form, alloc, src_addr, dst_addr, octets, is_whole)
         }
         Message::Udp(service, _, octets) => {
-            show_udp(output, form, alloc, *service, octets, tells_cut)
+            show_udp(output, form, alloc, *service, octets, is_whole)
         }
         Message::Tcp(_, _, message) => show_dns(output, form, Kind::Dns, message),
     }

@@ -27,20 +27,21 @@ use wirebase::{ChecksumCapabilities, Ipv6Address};
 // The type of a membership report of version 3 (RFC 3376 section 4.2).
 const MEMBERSHIP_REPORT_V3: u8 = 0x22;
 
-/// Prints an ICMPv4 message, and returns why it is refused. Of a message whose reader refuses it the type, the code and
-/// the octets are printed.
+/// Prints an ICMPv4 message, whole or cut, and returns why it is refused. Of a message whose reader refuses it the
+/// type, the code and the octets are printed.
 pub(crate) fn show_icmp4<W: Write>(
     output: &mut W,
     form: Form,
     alloc: Global,
     octets: &[u8],
+    is_whole: bool,
 ) -> io::Result<Option<Refusal>>
     ensures { IfOk result (λ told. PrintsSome form (W.contents output.old) (W.contents output.new)
-        (λ items. Icmp4Is octets.now items told)) }
+        (λ items. Icmp4Is is_whole octets.now items told)) }
 {
     match Icmpv4Message::parse_or_refusal(octets, &ChecksumCapabilities::ignored()) {
         Ok(Icmpv4Message::Error(error)) => {
-            icmp4::show_error(output, form, &error)?;
+            icmp4::show_error(output, form, &error, is_whole)?;
             Ok(None)
         }
         Ok(Icmpv4Message::Message(message)) => {
@@ -161,7 +162,7 @@ fn show_if_group<W: Write>(
     show_phrase(output, form, alloc, "group_refused", refusal)
 }
 
-/// Prints an ICMPv6 message from one address to another, and returns why it is refused or read in part.
+/// Prints an ICMPv6 message from one address to another, whole or cut, and returns why it is refused or read in part.
 pub(crate) fn show_icmp6<W: Write>(
     output: &mut W,
     form: Form,
@@ -169,9 +170,10 @@ pub(crate) fn show_icmp6<W: Write>(
     src_addr: &Ipv6Address,
     dst_addr: &Ipv6Address,
     octets: &[u8],
+    is_whole: bool,
 ) -> io::Result<Option<Refusal>>
     ensures { IfOk result (λ told. PrintsSome form (W.contents output.old) (W.contents output.new)
-        (λ items. Icmp6Is src_addr.now dst_addr.now octets.now items told)) }
+        (λ items. Icmp6Is is_whole src_addr.now dst_addr.now octets.now items told)) }
 {
     if has_mld_type(octets) {
         let lack = show_mld(output, form, octets)?;
@@ -180,7 +182,7 @@ pub(crate) fn show_icmp6<W: Write>(
     if has_ndisc_type(octets) {
         return show_neighbor(output, form, alloc, src_addr, dst_addr, octets);
     }
-    show_others(output, form, alloc, src_addr, dst_addr, octets)
+    show_others(output, form, alloc, src_addr, dst_addr, octets, is_whole)
 }
 
 // Whether the type is that of multicast listeners, of version 1 or 2 (RFC 2710 section 3, RFC 3810 section 5).
@@ -256,14 +258,15 @@ fn show_others<W: Write>(
     src_addr: &Ipv6Address,
     dst_addr: &Ipv6Address,
     octets: &[u8],
+    is_whole: bool,
 ) -> io::Result<Option<Refusal>>
     ensures { IfOk result (λ told. PrintsSome form (W.contents output.old) (W.contents output.new)
-        (λ items. OthersAre src_addr.now dst_addr.now octets.now items told)) }
+        (λ items. OthersAre is_whole src_addr.now dst_addr.now octets.now items told)) }
 {
     let checksums = ChecksumCapabilities::ignored();
     match Icmpv6Message::parse_or_refusal(src_addr, dst_addr, octets, &checksums) {
         Ok(Icmpv6Message::Error(error)) => {
-            icmp6::show_error(output, form, &error)?;
+            icmp6::show_error(output, form, &error, is_whole)?;
             Ok(None)
         }
         Ok(Icmpv6Message::Message(message)) => {

@@ -205,6 +205,6 @@ fn names_in_extensions(rt: HostRuntime) {
         ),
     ];
     for &(extensions, want) in rows {
-        behind_quote(&rt, rt.alloc(), 32, extensions, want);
+        behind_quote(&rt, rt.alloc(), true, 32, extensions, want);
     }
 }

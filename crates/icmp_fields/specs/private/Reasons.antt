@@ -1,12 +1,14 @@
 -- What the functions behind the fields of extensions tell each other.
-use Rattle.std.specs.Prelude.{List, ℕ, Result, Ok, Err}
+use Rattle.std.specs.Prelude.{Bool, List, None, Option, Some, ℕ, Result, Ok, Err}
+use Rattle.wirebase.specs.Checks.{Fails, Passes}
 use Rattle.extension_wire.specs.ExtensionDisplay.{interface_refusal_display, label_refusal_display}
 use Rattle.extension_wire.specs.ExtensionDisplay.{object_refusal_display, split_refusal_display}
 use Rattle.extension_wire.specs.ExtensionDisplay.{structure_refusal_display}
 use Rattle.extension_wire.specs.Split as split
 use Rattle.extension_wire.specs.declared.refusal.SplitRefusal.{SplitRefusal}
+use Rattle.extension_wire.specs.declared.refusal.StructureRefusal.{StructureRefusal}
 use Rattle.extension_wire.specs.declared.split.Parts.{Parts}
-use Rattle.icmp_fields.specs.Extensions.{Division}
+use Rattle.icmp_fields.specs.Extensions.{Division, header_checks}
 use Rattle.icmp_fields.specs.declared.extensions.words.Why.{Why}
 
 -- why extensions are refused, or one of them, in the words of the library
@@ -21,3 +23,8 @@ why_text (Why.Interface why) = interface_refusal_display why
 abbrev pub division_of : Result Parts SplitRefusal → Division
 division_of (Ok parts) = Ok (split.value_of parts)
 division_of (Err why) = Err why
+
+-- why a structure is refused, where it is
+abbrev pub HeaderTold : Bool → List ℕ → Option StructureRefusal → Type 0
+HeaderTold is_whole bytes None = Passes (header_checks is_whole bytes)
+HeaderTold is_whole bytes (Some why) = Fails (header_checks is_whole bytes) why

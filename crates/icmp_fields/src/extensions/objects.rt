@@ -2,9 +2,10 @@
 
 #![tactic(auto, using(packet_fields::proofs::Fields::cells_both, packet_fields::proofs::Fields::cells_none))]
 
-ghost use Rattle.std.specs.Prelude.{◌≡◌, ◌↔◌, IsTrue, OnOk, false, map};
+ghost use Rattle.std.specs.Prelude.{◌≡◌, ◌≤◌, ◌↔◌, IsTrue, OnOk, drop, false, length, map};
 ghost use Rattle.std.specs.Option.{option_map};
 ghost use Rattle.extension_wire.specs.Interface as interfaces;
+ghost use Rattle.extension_wire.specs.InterfaceParts.{number_len};
 ghost use Rattle.extension_wire.specs.Object.{value_of};
 ghost use Rattle.packet_fields.specs.Entries.{PrintsEntry, refused_cells};
 ghost use Rattle.packet_fields.specs.private.Entries.{PrintsSomeEntry, PrintsSomeEntries};
@@ -19,8 +20,10 @@ ghost use Rattle.icmp_fields.specs.private.Reasons.{why_text};
 ghost use Rattle.extension_wire.specs.ExtensionDisplay.{object_refusal_display};
 ghost use Rattle.packet_fields.specs.Texts.{address_text};
 ghost use Rattle.icmp_fields.specs.private.Entries.{Continues, PrintsObject};
+ghost use Rattle.icmp_fields.specs.private.Names.{HasName, behind_name};
 
 use super::words::{Why, Word, role_name};
+use crate::queries::show_spare;
 use crate::texts::Name;
 use extension_wire::{
     InterfaceInformation, LabelEntry, LabelStack, LabelStackIterator, Object, ObjectRefusal,
@@ -41,6 +44,9 @@ const CLASSES: &[Row] = &[
     (3, "interface_identification"),
     (4, "extended_information"),
 ];
+
+// The bytes of an MTU.
+const MTU_LEN: usize = 4;
 
 // Prints the objects in turn. Where none begins, the octets that are left are the last entry, which says why.
 pub(super) fn show_objects<W: Write>(output: &mut W, form: Form, octets: &[u8]) -> io::Result<()>
@@ -176,7 +182,10 @@ fn show_interface<W: Write>(
         (IsInterfaceEntry (value_of object.now))) }
 {
     match InterfaceInformation::parse(object.c_type, object.payload) {
-        Ok(read) => show_information(output, form, is_first, object.c_type, &read),
+        Ok(read) => {
+            let behind = behind_parts(object, &read);
+            show_information(output, form, is_first, object.c_type, &read, behind)
+        }
         Err(refusal) => show_plain(
             output,
             form,
@@ -187,21 +196,62 @@ fn show_interface<W: Write>(
     }
 }
 
+// The octets of an object behind the parts that were read. A name may have more zeros behind it than it needs, so the
+// length in front of it counts.
+fn behind_parts<'a>(object: &Object<'a>, read: &InterfaceInformation<'_>) -> &'a [u8]
+    requires { interfaces.IsInformation object.now.c_type object.now.payload.now (interfaces.value_of read.now) }
+    ensures { (is : interfaces.IsInformation object.now.c_type object.now.payload.now (interfaces.value_of read.now))
+        → result.now ≡ is.behind_mtu }
+{
+    let front = InterfaceInformation {
+        name: None,
+        mtu: None,
+        ..*read
+    };
+    let (_, behind) = object.payload.split_at(front.buffer_len());
+    behind_mtu(read.mtu, behind_name(read.name, behind))
+}
+
+// What follows a name, where one is read in front, and its padding.
+fn behind_name<'a>(name: Option<&[u8]>, octets: &'a [u8]) -> &'a [u8]
+    requires { HasName (option_map (λ name. name.now) name) octets.now }
+    ensures { result.now ≡ behind_name (option_map (λ name. name.now) name.entry) octets.now }
+{
+    match name {
+        Some(_) => &octets[octets[0] as usize..],
+        None => octets,
+    }
+}
+
+// What follows an MTU, where one is read in front.
+fn behind_mtu<'a>(mtu: Option<u32>, octets: &'a [u8]) -> &'a [u8]
+    requires { number_len mtu ≤ length octets.now }
+    ensures { result.now ≡ drop (number_len mtu) octets.now }
+{
+    match mtu {
+        Some(_) => &octets[MTU_LEN..],
+        None => octets,
+    }
+}
+
+// Prints an interface with these octets behind its parts.
 fn show_information<W: Write>(
     output: &mut W,
     form: Form,
     is_first: bool,
     c_type: u8,
     read: &InterfaceInformation<'_>,
+    behind: &[u8],
 ) -> io::Result<()>
     ensures { OnOk result (PrintsEntry form is_first (W.contents output.old) (W.contents output.new)
-        (interface_entry c_type (interfaces.value_of read.now))) }
+        (interface_entry c_type (interfaces.value_of read.now) behind.now)) }
 {
     open_entry(output, form, is_first, "object", "interface_information")?;
     first_cell(output, form, "role", role_name(read.role))?;
     show_parts(output, form, read)?;
     hidden_number(output, form, "class", interface::CLASS as u64)?;
     hidden_number(output, form, "c_type", c_type as u64)?;
+    show_spare(output, form, behind)?;
     close_entry(output, form)
 }
 
@@ -215,7 +265,7 @@ fn show_parts<W: Write>(
         (interface_cells (interfaces.value_of read.now))) }
 {
     keyed_cell(output, form, "index", read.index)?;
-    keyed_cell(output, form, "address", address_of(read))?;
+    keyed_cell(output, form, "addr", address_of(read))?;
     keyed_cell(output, form, "name", name_of(read))?;
     keyed_cell(output, form, "mtu", read.mtu)
 }
@@ -255,9 +305,9 @@ fn show_plain<W: Write>(
 {
     open_entry(output, form, is_first, "object", label_of(object.class))?;
     first_cell(output, form, "data", object.payload)?;
+    hidden_number(output, form, "class", object.class as u64)?;
     keyed_cell(output, form, "c_type", object.c_type)?;
     show_why(output, form, why)?;
-    hidden_number(output, form, "class", object.class as u64)?;
     close_entry(output, form)
 }
 

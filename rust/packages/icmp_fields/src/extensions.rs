@@ -6,7 +6,7 @@ pub(crate) mod words;
 
 use self::objects::show_objects;
 use self::words::{Why, Word};
-use control_wire::extensions::{Parts, SplitRefusal, structure};
+use control_wire::extensions::{Parts, SplitRefusal, StructureRefusal, structure};
 use packet_fields::Form;
 use packet_fields::entry::{close_list, open_list};
 use packet_fields::field::field;
@@ -24,14 +24,16 @@ pub(crate) fn quoted_of<'a>(parts: &Result<Parts<'a>, SplitRefusal>, octets: &'a
     }
 }
 
-// Prints the extensions behind what is quoted, or why they are not told apart.
+// Prints the extensions behind what is quoted, or why they are not told apart. Of a message that is not whole, their
+// checksum is not verified.
 pub(crate) fn show_extensions<W: Write>(
     output: &mut W,
     form: Form,
     parts: &Result<Parts<'_>, SplitRefusal>,
+    is_whole: bool,
 ) -> io::Result<()> {
     match parts {
-        Ok(parts) => show_any(output, form, parts.extensions),
+        Ok(parts) => show_any(output, form, parts.extensions, is_whole),
         Err(refusal) => show_refused(output, form, Why::Split(*refusal)),
     }
 }
@@ -42,20 +44,38 @@ fn show_refused<W: Write>(output: &mut W, form: Form, why: Why) -> io::Result<()
 }
 
 // Prints extensions, where there are any.
-fn show_any<W: Write>(output: &mut W, form: Form, extensions: Option<&[u8]>) -> io::Result<()> {
+fn show_any<W: Write>(
+    output: &mut W,
+    form: Form,
+    extensions: Option<&[u8]>,
+    is_whole: bool,
+) -> io::Result<()> {
     match extensions {
-        Some(octets) => show_structure(output, form, octets),
+        Some(octets) => show_structure(output, form, octets, is_whole),
         None => Ok(()),
     }
 }
 
 // Prints a structure by its objects, or why it is refused, and its octets.
-fn show_structure<W: Write>(output: &mut W, form: Form, octets: &[u8]) -> io::Result<()> {
-    if let Err(refusal) = structure::parse(octets) {
+fn show_structure<W: Write>(
+    output: &mut W,
+    form: Form,
+    octets: &[u8],
+    is_whole: bool,
+) -> io::Result<()> {
+    if let Some(refusal) = wrong_header(octets, is_whole) {
         return show_refused_structure(output, form, Why::Structure(refusal), octets);
     }
     let (_, inside) = octets.split_at(HEADER_LEN);
     show_list(output, form, inside)
+}
+
+// Why a structure is refused, where it is; for its checksum only where the message is whole.
+fn wrong_header(octets: &[u8], is_whole: bool) -> Option<StructureRefusal> {
+    match structure::parse(octets) {
+        Err(refusal) if is_whole || refusal != StructureRefusal::Checksum => Some(refusal),
+        _ => None,
+    }
 }
 
 fn show_refused_structure<W: Write>(

@@ -191,7 +191,7 @@ fn show_router<W: Write>(
 }
 
 // Prints further words of an entry, where there are any.
-fn show_spare<W: Write>(output: &mut W, form: Form, octets: &[u8]) -> io::Result<()> {
+pub(crate) fn show_spare<W: Write>(output: &mut W, form: Form, octets: &[u8]) -> io::Result<()> {
     if octets.is_empty() {
         return Ok(());
     }

@@ -11,21 +11,22 @@ use packet_fields::Form;
 use rattle_std::io;
 use rattle_std::io::Write;
 
-/// Prints the fields of a message, and returns why it is refused or read in part. Where a UDP datagram has fewer bytes
-/// than its header says, their number is printed if `tells_cut` holds.
+/// Prints the fields of a message, and returns why it is refused or read in part. `is_whole` is false where the capture
+/// cut it: then the checksum of extensions (RFC 4884) can't be verified. Where it is true, and a UDP datagram has fewer
+/// bytes than its header says, their number is printed.
 pub(crate) fn show_body<W: Write>(
     output: &mut W,
     form: Form,
     message: &Message<'_>,
-    tells_cut: bool,
+    is_whole: bool,
 ) -> io::Result<Option<Refusal>> {
     match message {
-        Message::Icmp4(octets) => show_icmp4(output, form, octets),
+        Message::Icmp4(octets) => show_icmp4(output, form, octets, is_whole),
         Message::Igmp(octets) => show_igmp(output, form, octets),
         Message::Icmp6(src_addr, dst_addr, octets) => {
-            show_icmp6(output, form, src_addr, dst_addr, octets)
+            show_icmp6(output, form, src_addr, dst_addr, octets, is_whole)
         }
-        Message::Udp(service, _, octets) => show_udp(output, form, *service, octets, tells_cut),
+        Message::Udp(service, _, octets) => show_udp(output, form, *service, octets, is_whole),
         Message::Tcp(_, _, message) => show_dns(output, form, Kind::Dns, message),
     }
 }

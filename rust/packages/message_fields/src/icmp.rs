@@ -20,16 +20,17 @@ use rattle_std::io::Write;
 // The type of a membership report of version 3 (RFC 3376 section 4.2).
 const MEMBERSHIP_REPORT_V3: u8 = 0x22;
 
-/// Prints an ICMPv4 message, and returns why it is refused. Of a message whose reader refuses it the type, the code and
-/// the octets are printed.
+/// Prints an ICMPv4 message, whole or cut, and returns why it is refused. Of a message whose reader refuses it the
+/// type, the code and the octets are printed.
 pub(crate) fn show_icmp4<W: Write>(
     output: &mut W,
     form: Form,
     octets: &[u8],
+    is_whole: bool,
 ) -> io::Result<Option<Refusal>> {
     match Icmpv4Message::parse_or_refusal(octets, &ChecksumCapabilities::ignored()) {
         Ok(Icmpv4Message::Error(error)) => {
-            icmp4::show_error(output, form, &error)?;
+            icmp4::show_error(output, form, &error, is_whole)?;
             Ok(None)
         }
         Ok(Icmpv4Message::Message(message)) => {
@@ -115,13 +116,14 @@ fn show_if_group<W: Write>(output: &mut W, form: Form, refusal: &Refusal) -> io:
     show_phrase(output, form, "group_refused", refusal)
 }
 
-/// Prints an ICMPv6 message from one address to another, and returns why it is refused or read in part.
+/// Prints an ICMPv6 message from one address to another, whole or cut, and returns why it is refused or read in part.
 pub(crate) fn show_icmp6<W: Write>(
     output: &mut W,
     form: Form,
     src_addr: &Ipv6Address,
     dst_addr: &Ipv6Address,
     octets: &[u8],
+    is_whole: bool,
 ) -> io::Result<Option<Refusal>> {
     if has_mld_type(octets) {
         let lack = show_mld(output, form, octets)?;
@@ -130,7 +132,7 @@ pub(crate) fn show_icmp6<W: Write>(
     if has_ndisc_type(octets) {
         return show_neighbor(output, form, src_addr, dst_addr, octets);
     }
-    show_others(output, form, src_addr, dst_addr, octets)
+    show_others(output, form, src_addr, dst_addr, octets, is_whole)
 }
 
 // Whether the type is that of multicast listeners, of version 1 or 2 (RFC 2710 section 3, RFC 3810 section 5).
@@ -192,11 +194,12 @@ fn show_others<W: Write>(
     src_addr: &Ipv6Address,
     dst_addr: &Ipv6Address,
     octets: &[u8],
+    is_whole: bool,
 ) -> io::Result<Option<Refusal>> {
     let checksums = ChecksumCapabilities::ignored();
     match Icmpv6Message::parse_or_refusal(src_addr, dst_addr, octets, &checksums) {
         Ok(Icmpv6Message::Error(error)) => {
-            icmp6::show_error(output, form, &error)?;
+            icmp6::show_error(output, form, &error, is_whole)?;
             Ok(None)
         }
         Ok(Icmpv6Message::Message(message)) => {

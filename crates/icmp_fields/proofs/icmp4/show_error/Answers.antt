@@ -24,7 +24,8 @@ returns g c =
     let division = division_of c.parts-division.result in
     let divides : IsDivision Family.V4 (length_in error) error.quoted division =
     is_division _ _ _ c.parts-division.result c.parts-division.ensures.sound c.parts-division.ensures.told in
-    some_behind _ _ _ _ (error_items error c.in-Ok.quote) (AreBehind division) (AreErrorItems error) _
+    let is_whole = c.args.is_whole in
+    some_behind _ _ _ _ (error_items error c.in-Ok.quote) (AreBehind is_whole division) (AreErrorItems is_whole error) _
     c.in_ok-show_quoting.ensures
     (λ behind are. record {
       division = division;

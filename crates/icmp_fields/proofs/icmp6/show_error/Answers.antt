@@ -27,7 +27,9 @@ returns g c =
     let divides : IsDivision Family.V6 (length_in error) error.quoted division =
     is_division _ _ _ c.parts-division.result c.parts-division.ensures.sound c.parts-division.ensures.told in
     let upper = option_map upper_of c.upper.result in
-    some_behind _ _ _ _ (error_items error c.in-Ok.quote upper) (AreBehind division) (AreErrorItems error) _
+    let is_whole = c.args.is_whole in
+    some_behind _ _ _ _ (error_items error c.in-Ok.quote upper) (AreBehind is_whole division)
+    (AreErrorItems is_whole error) _
     c.in_ok-show_quoting.ensures
     (λ behind are. record {
       division = division;

@@ -11,7 +11,7 @@ returns-then-has_ndisc_type g c =
     let octets = c.args.octets.now in
     let no_listener = sym c.has_mld_type.ensures ∙ c.if-has_mld_type.false in
     let neighbor = sym c.has_ndisc_type.ensures ∙ c.if-has_ndisc_type.true in
-    told_as _ _ _ _ (NeighborIs source destination octets) (Icmp6Is source destination octets)
+    told_as _ _ _ _ (NeighborIs source destination octets) (Icmp6Is c.args.is_whole source destination octets)
     (λ items told are. of_neighbors no_listener neighbor are) c.show_neighbor.ensures
 
 pub returns : goal.returns
@@ -21,5 +21,6 @@ returns g c =
     let octets = c.args.octets.now in
     let no_listener = sym c.has_mld_type.ensures ∙ c.if-has_mld_type.false in
     let no_neighbor = sym c.has_ndisc_type.ensures ∙ c.if-has_ndisc_type.false in
-    told_as _ _ _ _ (OthersAre source destination octets) (Icmp6Is source destination octets)
+    let whole = c.args.is_whole in
+    told_as _ _ _ _ (OthersAre whole source destination octets) (Icmp6Is whole source destination octets)
     (λ items told are. of_others no_listener no_neighbor are) c.show_others.ensures

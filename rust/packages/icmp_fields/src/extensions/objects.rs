@@ -2,6 +2,7 @@
 //! The objects of an extension structure (RFC 4884 section 8).
 
 use super::words::{Why, Word, role_name};
+use crate::queries::show_spare;
 use crate::texts::Name;
 use control_wire::extensions::{
     InterfaceInformation, LabelEntry, LabelStack, LabelStackIterator, Object, ObjectRefusal,
@@ -22,6 +23,9 @@ const CLASSES: &[Row] = &[
     (3, "interface_identification"),
     (4, "extended_information"),
 ];
+
+// The bytes of an MTU.
+const MTU_LEN: usize = 4;
 
 // Prints the objects in turn. Where none begins, the octets that are left are the last entry, which says why.
 pub(super) fn show_objects<W: Write>(output: &mut W, form: Form, octets: &[u8]) -> io::Result<()> {
@@ -133,7 +137,10 @@ fn show_interface<W: Write>(
     object: &Object<'_>,
 ) -> io::Result<()> {
     match InterfaceInformation::parse(object.c_type, object.payload) {
-        Ok(read) => show_information(output, form, is_first, object.c_type, &read),
+        Ok(read) => {
+            let behind = behind_parts(object, &read);
+            show_information(output, form, is_first, object.c_type, &read, behind)
+        }
         Err(refusal) => show_plain(
             output,
             form,
@@ -144,18 +151,49 @@ fn show_interface<W: Write>(
     }
 }
 
+// The octets of an object behind the parts that were read. A name may have more zeros behind it than it needs, so the
+// length in front of it counts.
+fn behind_parts<'a>(object: &Object<'a>, read: &InterfaceInformation<'_>) -> &'a [u8] {
+    let front = InterfaceInformation {
+        name: None,
+        mtu: None,
+        ..*read
+    };
+    let (_, behind) = object.payload.split_at(front.buffer_len());
+    behind_mtu(read.mtu, behind_name(read.name, behind))
+}
+
+// What follows a name, where one is read in front, and its padding.
+fn behind_name<'a>(name: Option<&[u8]>, octets: &'a [u8]) -> &'a [u8] {
+    match name {
+        Some(_) => &octets[octets[0] as usize..],
+        None => octets,
+    }
+}
+
+// What follows an MTU, where one is read in front.
+fn behind_mtu<'a>(mtu: Option<u32>, octets: &'a [u8]) -> &'a [u8] {
+    match mtu {
+        Some(_) => &octets[MTU_LEN..],
+        None => octets,
+    }
+}
+
+// Prints an interface with these octets behind its parts.
 fn show_information<W: Write>(
     output: &mut W,
     form: Form,
     is_first: bool,
     c_type: u8,
     read: &InterfaceInformation<'_>,
+    behind: &[u8],
 ) -> io::Result<()> {
     open_entry(output, form, is_first, "object", "interface_information")?;
     first_cell(output, form, "role", role_name(read.role))?;
     show_parts(output, form, read)?;
     hidden_number(output, form, "class", interface::CLASS as u64)?;
     hidden_number(output, form, "c_type", c_type as u64)?;
+    show_spare(output, form, behind)?;
     close_entry(output, form)
 }
 
@@ -166,7 +204,7 @@ fn show_parts<W: Write>(
     read: &InterfaceInformation<'_>,
 ) -> io::Result<()> {
     keyed_cell(output, form, "index", read.index)?;
-    keyed_cell(output, form, "address", address_of(read))?;
+    keyed_cell(output, form, "addr", address_of(read))?;
     keyed_cell(output, form, "name", name_of(read))?;
     keyed_cell(output, form, "mtu", read.mtu)
 }
@@ -197,9 +235,9 @@ fn show_plain<W: Write>(
 ) -> io::Result<()> {
     open_entry(output, form, is_first, "object", label_of(object.class))?;
     first_cell(output, form, "data", object.payload)?;
+    hidden_number(output, form, "class", object.class as u64)?;
     keyed_cell(output, form, "c_type", object.c_type)?;
     show_why(output, form, why)?;
-    hidden_number(output, form, "class", object.class as u64)?;
     close_entry(output, form)
 }
 

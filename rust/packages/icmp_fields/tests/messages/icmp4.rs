@@ -122,12 +122,18 @@ const QUENCH_JSON: &str = ",\"type\":4,\"type_name\":\"source_quench\",\"code\":
     \"quoted_options\":\"94040000\",\"quoted_src_port\":49153,\"quoted_dst_port\":80,\
     \"quoted_payload\":\"c001005001020304\"";
 
-// The fields of a message in either form; empty where the octets are none.
+// The fields of a whole message in either form; empty where the octets are none.
 fn listing(form: Form, octets: &[u8]) -> Vec<u8> {
+    listing_of(form, octets, true)
+}
+
+// The fields of a message, whole or cut.
+fn listing_of(form: Form, octets: &[u8], is_whole: bool) -> Vec<u8> {
     let mut output = Vec::new();
     match Icmpv4Message::parse(octets, &ChecksumCapabilities::ignored()) {
         Ok(Icmpv4Message::Error(error)) => {
-            holds_of(octets, show_error(&mut output, form, &error).is_ok());
+            let shown = show_error(&mut output, form, &error, is_whole);
+            holds_of(octets, shown.is_ok());
         }
         Ok(Icmpv4Message::Message(message)) => {
             let shown = show_message(&mut output, form, &message, octets);
@@ -194,15 +200,15 @@ fn gateway_and_pointer_of_errors() {
     }
 }
 
-// What an error prints behind its quote, of 128 bytes, where this follows it.
-pub(crate) fn behind_quote(length: u8, behind: &[u8], want: &str) {
+// What an error, whole or cut, prints behind its quote, of 128 bytes, where this follows it.
+pub(crate) fn behind_quote(is_whole: bool, length: u8, behind: &[u8], want: &str) {
     let mut octets = [0; 200];
     octets[..36].copy_from_slice(TOO_LONG);
     octets[0] = 11;
     octets[5] = length;
     let len = behind.len().min(64);
     octets[136..136 + len].copy_from_slice(&behind[..len]);
-    let fields = listing(Form::Lines, &octets[..136 + len]);
+    let fields = listing_of(Form::Lines, &octets[..136 + len], is_whole);
     holds_of(want, fields.as_slice().ends_with(want.as_bytes()));
 }
 
@@ -224,7 +230,17 @@ fn extensions_behind_a_quote() {
                 0x20, 0, 0, 0, 0, 28, 2, 0x8f, 0, 0, 0, 3, 0, 1, 0, 0, 192, 0, 2, 1, 8, b'e', b't',
                 b'h', b'"', 0, 0, 0, 0, 0, 5, 220,
             ],
-            "00\n  interface_information=outgoing index=3 address=192.0.2.1 name=eth\\\" mtu=1500\n",
+            "00\n  interface_information=outgoing index=3 addr=192.0.2.1 name=eth\\\" mtu=1500\n",
+        ),
+        // The length of the name counts more zeros than it needs, and what is behind the MTU is no part.
+        (
+            32,
+            &[
+                0x20, 0, 0, 0, 0, 21, 2, 0xc3, 12, b'a', b'1', 0, 0, 0, 0, 0, 0, 0, 0, 0, 0, 0, 5,
+                220, 255,
+            ],
+            "00\n  interface_information=next_hop index=none addr=none name=a1 mtu=1500 \
+             additional_data=ff\n",
         ),
         (
             32,
@@ -247,9 +263,50 @@ fn extensions_behind_a_quote() {
             &[],
             "00\n  extensions_refused=the original datagram is cut\n",
         ),
+        (
+            32,
+            &[0x20, 0, 0x12, 0x34, 0, 6, 247, 9, 1, 2],
+            "00\n  extensions_refused=the checksum of the extensions is wrong\n  \
+             extensions_octets=200012340006f7090102\n",
+        ),
     ];
     for &(length, behind, want) in rows {
-        behind_quote(length, behind, want);
+        behind_quote(true, length, behind, want);
+    }
+}
+
+#[test]
+fn extensions_that_the_capture_cut() {
+    // The checksum is that of octets of which some are lacking (RFC 4884 section 7).
+    let rows: &[(u8, &[u8], &str)] = &[
+        (
+            32,
+            &[0x20, 0, 0x12, 0x34, 0, 6, 247, 9, 1, 2],
+            "00\n  object_247=0102 c_type=9\n",
+        ),
+        (
+            32,
+            &[0x20, 0, 0x12, 0x34, 0, 6, 247, 9, 1, 2, 0, 8, 247, 9, 3],
+            "00\n  object_247=0102 c_type=9\n  object=0008f70903 refused=the object is cut\n",
+        ),
+        (
+            32,
+            &[0x10, 0, 0x12, 0x34, 0, 6],
+            "00\n  extensions_refused=the extensions are of version 1\n  extensions_octets=100012340006\n",
+        ),
+        (
+            32,
+            &[0x20, 0, 0x12],
+            "00\n  extensions_refused=the header of the extensions is cut\n  extensions_octets=200012\n",
+        ),
+        (
+            33,
+            &[0x20, 0, 0x12],
+            "00200012\n  extensions_refused=the original datagram is cut\n",
+        ),
+    ];
+    for &(length, behind, want) in rows {
+        behind_quote(false, length, behind, want);
     }
 }
 

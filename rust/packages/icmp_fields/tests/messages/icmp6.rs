@@ -57,7 +57,8 @@ fn listing(form: Form, octets: &[u8]) -> Vec<u8> {
     let host = Ipv6Address::new(0x2001, 0xdb8, 0, 0, 0, 0, 0, 1);
     match Icmpv6Message::parse(&host, &host, octets, &ChecksumCapabilities::ignored()) {
         Ok(Icmpv6Message::Error(error)) => {
-            holds_of(octets, show_error(&mut output, form, &error).is_ok());
+            let shown = show_error(&mut output, form, &error, true);
+            holds_of(octets, shown.is_ok());
         }
         Ok(Icmpv6Message::Message(message)) => {
             let shown = show_message(&mut output, form, &message, octets);

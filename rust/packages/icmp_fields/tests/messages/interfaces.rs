@@ -206,6 +206,6 @@ fn names_in_extensions() {
         ),
     ];
     for &(extensions, want) in rows {
-        behind_quote(32, extensions, want);
+        behind_quote(true, 32, extensions, want);
     }
 }

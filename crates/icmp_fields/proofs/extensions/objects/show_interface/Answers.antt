@@ -6,7 +6,9 @@ use Rattle.icmp_fields.proofs.extensions.objects.show_interface.Goals as goal
 
 pub returns-in-Ok : goal.returns-in-Ok
 returns-in-Ok g c =
-    some_printed _ _ _ _ _ _ _ (read _ c.in-Ok.ensures.sound refl) c.show_information.ensures
+    let is = c.in-Ok.ensures.sound in
+    let printed = rw (c.behind_parts-behind.ensures is) at c.show_information.ensures in
+    some_printed _ _ _ _ _ _ _ (read _ is refl) printed
 
 pub returns-in-Err : goal.returns-in-Err
 returns-in-Err g c =
