@@ -9,6 +9,11 @@ from text import name_text
 
 
 def refusal(packet, kind, number):
+    """Why a message is refused, or None: it is not told by its fields, or its list is cut."""
+    return unread(packet, kind, number) or ("short" if is_cut(packet, kind, number) else None)
+
+
+def unread(packet, kind, number):
     """Why a message is not told by its fields, or None: it is short, its code is not 0, or it has wrong routers."""
     if payload_length(packet) < LEAST.get((kind, number), 8):
         return "short"
@@ -22,9 +27,22 @@ def refusal(packet, kind, number):
 def wrong_routers(packet):
     """RFC 1256 section 5.2."""
     count, words = packet.number("icmp.num_addrs"), packet.number("icmp.addr_entry_size")
-    if not count or words < 2:
-        return "malformed"
-    return "short" if payload_length(packet) < 8 + 4 * words * count else None
+    return "malformed" if not count or words < 2 else None
+
+
+def is_cut(packet, kind, number):
+    """Whether a message ends before its routers do, or within an address of a node."""
+    if (kind, number) == ("icmp4", 9):
+        words = packet.number("icmp.num_addrs") * packet.number("icmp.addr_entry_size")
+        return payload_length(packet) < 8 + 4 * words
+    if (kind, number) == ("icmp6", 140) and node_list(packet):
+        return (payload_length(packet) - 16) % node_list(packet)[0] > 0
+    return False
+
+
+def cut_entry(label, count):
+    """The entry of so many octets, where there are any."""
+    return [{"entry": label, "data": octets(count), "refused": re.compile(".+")}] if count else []
 
 
 # The octets that a message has at least.
@@ -57,21 +75,23 @@ def solicitation(packet):
 def advertisement(packet):
     """RFC 1256: entries of more than two words are read as well, which tshark does not."""
     count, words = packet.number("icmp.num_addrs"), packet.number("icmp.addr_entry_size")
+    whole, behind = divmod(payload_length(packet) - 8, 4 * words)
     routers = [router(packet, at) if words == 2 else unread_router(packet.text("data.data"), at, words)
-               for at in range(count)]
-    return {"lifetime": 1000 * packet.number("icmp.lifetime"), "routers": routers,
+               for at in range(min(count, whole))]
+    return {"lifetime": 1000 * packet.number("icmp.lifetime"),
+            "routers": routers + cut_entry("router", behind if whole < count else 0),
             **additional(payload_length(packet) - 8 - 4 * words * count)}
 
 
 def router(packet, at):
     return {"entry": "router", "addr": packet.text("icmp.router_address", at),
-            "preference": packet.text("icmp.pref_level", at)}
+            "preference_level": packet.text("icmp.pref_level", at)}
 
 
 def unread_router(text, at, words):
     its = bytes.fromhex(text)[4 * words * at:4 * words * (at + 1)]
     return {"entry": "router", "addr": ".".join(map(str, its[:4])),
-            "preference": str(int.from_bytes(its[4:8], "big", signed=True)), "additional_data": its[8:].hex()}
+            "preference_level": str(int.from_bytes(its[4:8], "big", signed=True)), "additional_data": its[8:].hex()}
 
 
 # ---- both (RFC 8335)
@@ -119,7 +139,7 @@ def node(packet):
     told = {"qtype": qtype, "flags": [named.get(1 << at, "0x%04x" % (1 << at)) for at in range(15, -1, -1)
                                       if bits >> at & 1],
             "nonce": "%016x" % packet.number("icmpv6.ni.nonce")}
-    return {**told, **(subject(packet, code) if packet.number("icmpv6.type") == 139 else answer(packet, code, qtype))}
+    return {**told, **(subject(packet, code) if packet.number("icmpv6.type") == 139 else answer(packet))}
 
 
 def subject(packet, code):
@@ -130,12 +150,22 @@ def subject(packet, code):
     return {"data": name_octets(packet, "icmpv6.ni.query.subject_fqdn", "")}
 
 
-def answer(packet, code, qtype):
+# The octets of an address and its time to live, and the field that has the address, by the type of the query.
+NODE_LISTS = {3: (20, "icmpv6.ni.reply.node_address"), 4: (8, "icmpv6.ni.reply.ipv4_address")}
+
+
+def node_list(packet):
+    """The row of a message that answers with addresses, or None."""
+    return NODE_LISTS.get(packet.number("icmpv6.ni.qtype")) if packet.number("icmpv6.code") == 0 else None
+
+
+def answer(packet):
     """Addresses, each with its time to live, or else octets: a name behind such a time."""
-    for its_qtype, name in ((3, "icmpv6.ni.reply.node_address"), (4, "icmpv6.ni.reply.ipv4_address")):
-        if (code, qtype) == (0, its_qtype):
-            return {"addresses": [{"entry": "address", "addr": text, "ttl": 1000 * time} for text, time in zip(
-                packet.all(name), packet.numbers("icmpv6.ni.reply.node_ttl"))]}
+    if node_list(packet):
+        width, name = node_list(packet)
+        addresses = [{"entry": "address", "addr": text, "ttl": 1000 * time} for text, time in zip(
+            packet.all(name), packet.numbers("icmpv6.ni.reply.node_ttl"))]
+        return {"addresses": addresses + cut_entry("address", (payload_length(packet) - 16) % width)}
     time = "%08x" % packet.number("icmpv6.ni.reply.node_ttl") if packet.has("icmpv6.ni.reply.node_ttl") else ""
     return {"data": name_octets(packet, "icmpv6.ni.reply.node_name", time)}
 
@@ -164,6 +194,5 @@ def query(packet, kind, number):
     rest = {"rest": octets(payload_length(packet) - 4)}
     if number not in READERS[kind]:
         return rest
-    if refusal(packet, kind, number):
-        return {**rest, "refused": re.compile(".+")}
-    return READERS[kind][number](packet)
+    why = {"refused": re.compile(".+")} if refusal(packet, kind, number) else {}
+    return {**(rest if unread(packet, kind, number) else READERS[kind][number](packet)), **why}

@@ -3,6 +3,7 @@ from extensions import divided
 from frames import Refused
 from ip import EXTENSIONS, FRAGMENT, TCP, UDP, extension_len
 from items import Field, named
+from neighbors import lacking
 from queries import QUERIES4, QUERIES6
 from registries import ICMP4_CODES, ICMP4_TYPES, ICMP6_CODES, ICMP6_TYPES, PROTOCOLS
 from text import be, colons, dotted
@@ -28,7 +29,8 @@ def message(octets, is_whole, types, head, items_of, others):
         if len(octets) < 8:
             raise Refused("short", "fewer than 8 bytes")
         if octets[0] in others:
-            return head(octets) + others[octets[0]](octets), None
+            items = others[octets[0]](octets)
+            return head(octets) + items, lacking(items)
         if octets[0] not in types:
             raise Refused("type", None)
         return head(octets) + items_of(octets, is_whole), None

@@ -9,10 +9,16 @@ from registries import ADDRESS_FAMILIES, NEIGHBOR_STATES, NODE_FLAGS, NODE_QTYPE
 from text import address, be, colons, dotted, is_good, mac, name_text
 
 SHORT = "fewer bytes than a message of this type has"
+CUT = "the entries are cut short"
 
 
 def additional(octets):
     return [Field("additional_data", octets)] if octets else []
+
+
+def cut(is_cut):
+    """That a list ends within an entry, or before all that are counted."""
+    return [Field("refused", CUT)] if is_cut else []
 
 
 def numbers(octets):
@@ -51,18 +57,21 @@ def advertisement(octets):
     if not count:
         raise Refused("malformed", "an advertisement of no routers")
     if words < 2:
-        raise Refused("malformed", "entries of %d words are below 2" % words)
-    end = 8 + 4 * words * count
-    if len(octets) < end:
-        raise Refused("short", "the routers of an advertisement are cut short")
-    routers = [router(octets[at:at + 4 * words]) for at in range(8, end, 4 * words)]
-    return [Field("lifetime", seconds(lifetime)), Entries("routers", routers)] + additional(octets[end:])
+        raise Refused("malformed", "entries of fewer than 2 words each (%d)" % words)
+    width = 4 * words
+    end = 8 + width * count
+    routers = [router(octets[at:at + width], width) for at in range(8, min(end, len(octets)), width)]
+    return ([Field("lifetime", seconds(lifetime)), Entries("routers", routers)] + cut(len(octets) < end)
+            + additional(octets[end:]))
 
 
-def router(octets):
-    preference = struct.unpack(">i", octets[4:8])[0]
+def router(octets, width):
+    """A router by its address and its preference level, a signed number (RFC 1256 section 3)."""
+    if len(octets) < width:
+        return Entry(("entry", "router"), ("data", octets), Cell("refused", "fewer bytes than an entry has"))
+    level = struct.unpack(">i", octets[4:8])[0]
     spare = [Cell("additional_data", octets[8:])] if octets[8:] else []
-    return Entry(("entry", "router"), ("addr", dotted(octets[:4])), Cell("preference", str(preference)), *spare)
+    return Entry(("entry", "router"), ("addr", dotted(octets[:4])), Cell("preference_level", str(level)), *spare)
 
 
 # ---- extended echoes
@@ -172,7 +181,7 @@ def answer(code, qtype, octets):
     if code or width is None:
         return [Field("data", octets)]
     parts = [octets[at:at + 4 + width] for at in range(0, len(octets), 4 + width)]
-    return [Entries("addresses", [lived(part, 4 + width) for part in parts])]
+    return [Entries("addresses", [lived(part, 4 + width) for part in parts])] + cut(len(octets) % (4 + width) != 0)
 
 
 def lived(octets, length):

@@ -87,13 +87,15 @@ ICMP4_TYPES = {
     17: "address_mask_request", 18: "address_mask_reply", 30: "traceroute", 40: "photuris",
     42: "extended_echo_request", 43: "extended_echo_reply",
 }
-# RFC 8335 section 3, of both ICMPs.
+# RFC 8335 sections 2 and 3, of both ICMPs.
+EXTENDED_REQUESTS = {0: "no_error"}
 EXTENDED_REPLIES = {0: "no_error", 1: "malformed_query", 2: "no_such_interface", 3: "no_such_table_entry",
                     4: "multiple_interfaces_satisfy_query"}
 NEIGHBOR_STATES = {0: "reserved", 1: "incomplete", 2: "reachable", 3: "stale", 4: "delay", 5: "probe", 6: "failed"}
 # Some of IANA's address family numbers.
 ADDRESS_FAMILIES = {1: "ipv4", 2: "ipv6", 6: "802", 16389: "mac48"}
-# Of each type the codes (RFC 792, RFC 1122 section 3.2.2, RFC 1812 section 5.2.7, RFC 8335 section 3).
+# Of each type the codes (RFC 792, RFC 1122 section 3.2.2, RFC 1812 section 5.2.7, RFC 2521 section 2,
+# RFC 5944 section 2.1, RFC 8335 sections 2 and 3).
 ICMP4_CODES = {
     3: {0: "net_unreachable", 1: "host_unreachable", 2: "protocol_unreachable", 3: "port_unreachable",
         4: "fragmentation_needed", 5: "source_route_failed", 6: "destination_network_unknown",
@@ -102,9 +104,12 @@ ICMP4_CODES = {
         12: "host_unreachable_for_type_of_service", 13: "communication_administratively_prohibited",
         14: "host_precedence_violation", 15: "precedence_cutoff_in_effect"},
     5: {0: "network", 1: "host", 2: "type_of_service_and_network", 3: "type_of_service_and_host"},
+    9: {0: "normal", 16: "no_common_traffic"},
     11: {0: "time_to_live_exceeded_in_transit", 1: "fragment_reassembly_time_exceeded"},
     12: {0: "pointer_indicates_the_error", 1: "missing_a_required_option", 2: "bad_length"},
-    43: EXTENDED_REPLIES,
+    40: {0: "bad_spi", 1: "authentication_failed", 2: "decompression_failed", 3: "decryption_failed",
+         4: "need_authentication", 5: "need_authorization"},
+    42: EXTENDED_REQUESTS, 43: EXTENDED_REPLIES,
 }
 
 # ---- ICMPv6
@@ -123,8 +128,8 @@ ICMP6_TYPES = {
     156: "ilnpv6_locator_update", 157: "duplicate_address_request", 158: "duplicate_address_confirmation",
     159: "mpl_control", 160: "extended_echo_request", 161: "extended_echo_reply",
 }
-# RFC 4443 section 3, RFC 4620 section 4, RFC 6554 section 3, RFC 7112 section 5, RFC 8335 section 3, RFC 8883, RFC 8986
-# section 4.1.1.
+# RFC 4443 section 3, RFC 4620 section 4, RFC 6554 section 3, RFC 7112 section 5, RFC 8335 sections 2 and 3, RFC 8883,
+# RFC 8986 section 4.1.1.
 ICMP6_CODES = {
     1: {0: "no_route_to_destination", 1: "communication_administratively_prohibited",
         2: "beyond_scope_of_source_address", 3: "address_unreachable", 4: "port_unreachable",
@@ -137,7 +142,7 @@ ICMP6_CODES = {
         7: "extension_header_chain_too_long", 8: "too_many_extension_headers",
         9: "too_many_options_in_extension_header", 10: "option_too_big"},
     139: {0: "ipv6_address", 1: "name", 2: "ipv4_address"}, 140: {0: "success", 1: "refused", 2: "unknown_qtype"},
-    161: EXTENDED_REPLIES,
+    160: EXTENDED_REQUESTS, 161: EXTENDED_REPLIES,
 }
 # RFC 4620 section 6: the types of queries about a node, and the flags of those about addresses.
 NODE_QTYPES = {0: "noop", 2: "node_name", 3: "node_addresses", 4: "ipv4_addresses"}

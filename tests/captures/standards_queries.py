@@ -6,7 +6,7 @@ NUMBERS = hexed("1234 0001")
 # 43,200,000 milliseconds behind midnight, and later ones; the last is no time of day (RFC 792).
 TIMES = hexed("02932e00 02932e01 80000001")
 ROUTERS = v4("224.0.0.2"), v4("224.0.0.1")
-# Routers with a preference of 0, of -1, and as none by default (RFC 1256 section 2.3).
+# Routers with a preference level of 0, of -1, and as none by default (RFC 1256 section 2.3).
 ENTRIES = v4("192.0.2.1") + hexed("00000000"), v4("192.0.2.2") + hexed("ffffffff"), v4("192.0.2.3") + hexed("80000000")
 
 
@@ -52,6 +52,10 @@ QUERIES = {
     "icmp4_routers_that_are_refused": raw(
         icmp4(10, 1, b"\0" * 4), icmp4(9, 1, hexed("01 02 0708"), ENTRIES[0]), icmp4(9, 0, hexed("00 02 0708")),
         icmp4(9, 0, hexed("01 01 0708"), ENTRIES[0]), icmp4(9, 0, hexed("02 02 0708"), ENTRIES[0] + ENTRIES[1][:7])),
+    "icmp4_routers_that_are_missing": raw(
+        icmp4(9, 0, hexed("01 02 0708")), icmp4(9, 0, hexed("03 02 0708"), ENTRIES[0] + ENTRIES[1]),
+        icmp4(9, 0, hexed("01 03 0708"), ENTRIES[0])),
+    "icmp4_security_failures": raw(*(icmp4(40, code, hexed("0000 0000"), hexed("00000100")) for code in range(7))),
     "extended_echo_by_name": about(asked(1, b"eth0")),
     "extended_echo_by_a_padded_name": about(asked(1, b'a"b\\c\xc3\n\0')),
     "extended_echo_by_a_name_with_zeros_and_a_space": about(asked(1, b"\0eth0\0 \0")),

@@ -3,5 +3,4 @@ pub mod Gateways
 pub mod InterfaceEnds
 pub mod Items
 pub mod Quotes
-pub mod RouterEntries
 pub mod Structures

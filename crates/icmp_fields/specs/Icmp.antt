@@ -1,7 +1,8 @@
 -- What messages of ICMPv4 and of ICMPv6 have in common, as fields.
 use Rattle.std.specs.Prelude.{◌∷◌, ◌++◌, [], List, Option, ℕ, codes, drop}
 use Rattle.wirebase.specs.Bytes.{field as at, number_of}
-use Rattle.packet_fields.specs.Fields.{Item, field, named, number, octets, text}
+use Rattle.packet_fields.specs.Entries.{keyed_value}
+use Rattle.packet_fields.specs.Fields.{Entry, Item, field, named, number, octets, text}
 use Rattle.icmp_fields.specs.Refusal.{refusal_text}
 use Rattle.icmp_fields.specs.declared.refusal.Refusal.{Refusal}
 
@@ -33,5 +34,18 @@ additional_items (b ∷ bs) = field (codes "additional_data") (octets (b ∷ bs)
 abbrev pub behind_checksum : List ℕ → List Item
 behind_checksum bytes = rest_items (drop 4 bytes)
 
+abbrev pub why_items : Refusal → List Item
+why_items why = field (codes "refused") (text (refusal_text why)) ∷ []
+
 abbrev pub refused_items : List ℕ → Refusal → List Item
-refused_items bytes why = behind_checksum bytes ++ (field (codes "refused") (text (refusal_text why)) ∷ [])
+refused_items bytes why = behind_checksum bytes ++ why_items why
+
+-- an entry of this kind that is cut, by its octets, and why it can't be read
+abbrev pub cut_entry : List ℕ → List ℕ → List ℕ → Entry
+cut_entry label why bytes = record {
+  label_key = codes "entry";
+  label = label;
+  first_key = codes "data";
+  first = octets bytes;
+  rest = keyed_value (codes "refused") (text why);
+}

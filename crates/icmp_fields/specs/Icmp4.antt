@@ -16,13 +16,14 @@ use Rattle.packet_fields.specs.Fields.{Item, field, number, text, leaf_or_missin
 use Rattle.icmp_fields.specs.ExtendedEcho.{request_items, reply_items}
 use Rattle.icmp_fields.specs.Extensions.{AreBehind, Division, IsDivision, quoted_in}
 use Rattle.icmp_fields.specs.Icmp.{named_head, echo_items as behind_echo, rest_items, behind_checksum}
-use Rattle.icmp_fields.specs.Icmp.{additional_items, refused_items}
+use Rattle.icmp_fields.specs.Icmp.{additional_items, refused_items, why_items}
 use Rattle.icmp_fields.specs.IcmpNames.{icmp4_types, icmp4_code_name}
 use Rattle.icmp_fields.specs.Names.{name_in}
 use Rattle.icmp_fields.specs.Queries.{timestamp_items, mask_items, advertisement_items}
 use Rattle.icmp_fields.specs.Queries.{wrong_fixed, wrong_advertisement}
 use Rattle.icmp_fields.specs.Quote.{ipv4_quote_items}
 use Rattle.icmp_fields.specs.declared.refusal.Refusal.{Refusal}
+use Rattle.icmp_fields.specs.declared.refusal.Refusal.TheVariants as reason
 use Rattle.icmp_fields.specs.declared.refusal.Told.{Told}
 use Rattle.icmp_fields.specs.declared.refusal.Told.TheVariants as how
 
@@ -48,7 +49,7 @@ refusal bytes =
     else if byte_of type_field bytes == 9 then wrong_advertisement bytes
     else None
 
--- one that is not refused, by its type: its fields, or else the octets behind its checksum
+-- one that has its fields, by its type: these, or else the octets behind its checksum
 abbrev pub told_items : List ℕ → List Item
 told_items bytes =
     if byte_of type_field bytes == 13 then timestamp_items bytes
@@ -61,8 +62,10 @@ told_items bytes =
     else if byte_of type_field bytes == 43 then reply_items bytes
     else behind_checksum bytes
 
+-- one that is refused: what there is of one whose entries are cut short, or else its octets; and why
 abbrev pub told_or_refused : Option Refusal → List ℕ → List Item
 told_or_refused None bytes = told_items bytes
+told_or_refused (Some reason.Cut) bytes = told_items bytes ++ why_items reason.Cut
 told_or_refused (Some why) bytes = refused_items bytes why
 
 -- how it is told

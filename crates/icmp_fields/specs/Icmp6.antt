@@ -16,11 +16,13 @@ use Rattle.packet_fields.specs.Fields.{Item, field, number}
 use Rattle.icmp_fields.specs.ExtendedEcho as extended
 use Rattle.icmp_fields.specs.Extensions.{AreBehind, Division, IsDivision, quoted_in}
 use Rattle.icmp_fields.specs.Icmp.{named_head, echo_items as behind_echo, rest_items, behind_checksum, refused_items}
+use Rattle.icmp_fields.specs.Icmp.{why_items}
 use Rattle.icmp_fields.specs.IcmpNames.{icmp6_types, icmp6_code_name}
 use Rattle.icmp_fields.specs.Names.{name_in}
 use Rattle.icmp_fields.specs.NodeInformation as node
 use Rattle.icmp_fields.specs.Quote.{ipv6_quote_items}
 use Rattle.icmp_fields.specs.declared.refusal.Refusal.{Refusal}
+use Rattle.icmp_fields.specs.declared.refusal.Refusal.TheVariants as reason
 use Rattle.icmp_fields.specs.declared.refusal.Told.{Told}
 use Rattle.icmp_fields.specs.declared.refusal.Told.TheVariants as how
 
@@ -38,10 +40,10 @@ echo_items t ident seq_no d = head_items t 0 ++ behind_echo ident seq_no d
 abbrev pub refusal : List ℕ → Option Refusal
 refusal bytes =
     if byte_of type_field bytes == 139 then node.wrong_node bytes
-    else if byte_of type_field bytes == 140 then node.wrong_node bytes
+    else if byte_of type_field bytes == 140 then node.wrong_reply bytes
     else None
 
--- one that is not refused, by its type: its fields, or else the octets behind its checksum
+-- one that has its fields, by its type: these, or else the octets behind its checksum
 abbrev pub told_items : List ℕ → List Item
 told_items bytes =
     if byte_of type_field bytes == 139 then node.query_items bytes
@@ -50,8 +52,10 @@ told_items bytes =
     else if byte_of type_field bytes == 161 then extended.reply_items bytes
     else behind_checksum bytes
 
+-- one that is refused: what there is of one whose entries are cut short, or else its octets; and why
 abbrev pub told_or_refused : Option Refusal → List ℕ → List Item
 told_or_refused None bytes = told_items bytes
+told_or_refused (Some reason.Cut) bytes = told_items bytes ++ why_items reason.Cut
 told_or_refused (Some why) bytes = refused_items bytes why
 
 -- how it is told

@@ -5,7 +5,10 @@ use Rattle.icmp_fields.specs.Names.{Rows, name_in}
 
 -- ---- both
 
--- RFC 8335 section 3
+-- RFC 8335 sections 2 and 3
+abbrev pub extended_request_codes : Rows
+extended_request_codes = (0, codes "no_error") ∷ []
+
 abbrev pub extended_reply_codes : Rows
 extended_reply_codes =
     (0, codes "no_error") ∷ (1, codes "malformed_query") ∷ (2, codes "no_such_interface")
@@ -39,6 +42,11 @@ icmp4_redirect_codes =
     (0, codes "network") ∷ (1, codes "host") ∷ (2, codes "type_of_service_and_network")
     ∷ (3, codes "type_of_service_and_host") ∷ []
 
+-- RFC 5944 section 2.1
+abbrev pub icmp4_advertisement_codes : Rows
+icmp4_advertisement_codes = (0, codes "normal") ∷ (16, codes "no_common_traffic") ∷ []
+
+-- RFC 792
 abbrev pub icmp4_time_exceeded_codes : Rows
 icmp4_time_exceeded_codes =
     (0, codes "time_to_live_exceeded_in_transit") ∷ (1, codes "fragment_reassembly_time_exceeded") ∷ []
@@ -48,13 +56,22 @@ abbrev pub icmp4_parameter_problem_codes : Rows
 icmp4_parameter_problem_codes =
     (0, codes "pointer_indicates_the_error") ∷ (1, codes "missing_a_required_option") ∷ (2, codes "bad_length") ∷ []
 
+-- RFC 2521 section 2
+abbrev pub photuris_codes : Rows
+photuris_codes =
+    (0, codes "bad_spi") ∷ (1, codes "authentication_failed") ∷ (2, codes "decompression_failed")
+    ∷ (3, codes "decryption_failed") ∷ (4, codes "need_authentication") ∷ (5, codes "need_authorization") ∷ []
+
 -- the name of a code of this type
 abbrev pub icmp4_code_name : ℕ → ℕ → Option (List ℕ)
 icmp4_code_name t code =
     if t == 3 then name_in icmp4_unreachable_codes code
     else if t == 5 then name_in icmp4_redirect_codes code
+    else if t == 9 then name_in icmp4_advertisement_codes code
     else if t == 11 then name_in icmp4_time_exceeded_codes code
     else if t == 12 then name_in icmp4_parameter_problem_codes code
+    else if t == 40 then name_in photuris_codes code
+    else if t == 42 then name_in extended_request_codes code
     else if t == 43 then name_in extended_reply_codes code
     else None
 
@@ -119,5 +136,6 @@ icmp6_code_name t code =
     else if t == 4 then name_in icmp6_parameter_problem_codes code
     else if t == 139 then name_in node_query_codes code
     else if t == 140 then name_in node_response_codes code
+    else if t == 160 then name_in extended_request_codes code
     else if t == 161 then name_in extended_reply_codes code
     else None

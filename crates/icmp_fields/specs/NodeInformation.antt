@@ -14,14 +14,15 @@
 --
 -- Data follows: of a query the node that it is about, of an answer what is told; addresses, each after its time to live
 -- of 4 bytes, where they are asked for (sections 6.3 and 6.4).
-use Rattle.std.specs.Prelude.{◌==◌, ◌&&◌, ◌+◌, ◌*◌, [], ◌∷◌, ◌++◌, List, None, Option, Some, ℕ, codes, drop}
-use Rattle.std.specs.Prelude.{if◌then◌else◌, length, map, nat_lt}
+use Rattle.std.specs.Prelude.{◌==◌, ◌&&◌, ◌+◌, ◌*◌, ◌%◌, [], ◌∷◌, ◌++◌, Bool, List, None, Option, Some, ℕ, codes, drop}
+use Rattle.std.specs.Prelude.{false, if◌then◌else◌, length, map, nat_lt}
 use Rattle.wirebase.specs.Bytes.{byte_of, bytes_of, field as at, number_of}
 use Rattle.packet_fields.specs.Entries.{keyed_value}
 use Rattle.packet_fields.specs.Fields.{Entry, Item, entries, field, named, octets, text, texts, time}
 use Rattle.packet_fields.specs.Names.{Rows as Flags}
 use Rattle.packet_fields.specs.Parts.{parts}
 use Rattle.packet_fields.specs.Texts.{address_text, flag_names}
+use Rattle.icmp_fields.specs.Icmp.{cut_entry}
 use Rattle.icmp_fields.specs.Names.{Rows, name_in}
 use Rattle.icmp_fields.specs.declared.refusal.Refusal.{Refusal}
 use Rattle.icmp_fields.specs.declared.refusal.Refusal.TheVariants as refusal
@@ -49,11 +50,6 @@ other_flags =
     ∷ (0x0800, codes "0x0800") ∷ (0x0400, codes "0x0400") ∷ (0x0200, codes "0x0200") ∷ (0x0100, codes "0x0100")
     ∷ (0x0080, codes "0x0080") ∷ (0x0040, codes "0x0040") ∷ (0x0020, codes "0x0020") ∷ (0x0010, codes "0x0010")
     ∷ (0x0008, codes "0x0008") ∷ (0x0004, codes "0x0004") ∷ (0x0002, codes "0x0002") ∷ (0x0001, codes "0x0001") ∷ []
-
--- ---- why a message is refused: it ends before its data
-
-abbrev pub wrong_node : List ℕ → Option Refusal
-wrong_node bytes = if nat_lt (length bytes) 16 then Some refusal.Length else None
 
 -- ---- fields
 
@@ -101,17 +97,11 @@ whole_entry width bytes = record {
   rest = keyed_value (codes "ttl") (time (1000 * number_of (at 0 4) bytes));
 }
 
-abbrev pub cut_entry : List ℕ → Entry
-cut_entry bytes = record {
-  label_key = codes "entry";
-  label = codes "address";
-  first_key = codes "data";
-  first = octets bytes;
-  rest = keyed_value (codes "refused") (text (codes "fewer bytes than an address and its time to live"));
-}
+abbrev pub cut_address : List ℕ → Entry
+cut_address bytes = cut_entry (codes "address") (codes "fewer bytes than an address and its time to live") bytes
 
 abbrev pub address_entry : ℕ → List ℕ → Entry
-address_entry width bytes = if nat_lt (length bytes) (4 + width) then cut_entry bytes else whole_entry width bytes
+address_entry width bytes = if nat_lt (length bytes) (4 + width) then cut_address bytes else whole_entry width bytes
 
 abbrev pub entry_len : ℕ → List ℕ → ℕ
 entry_len width bytes = if nat_lt (length bytes) (4 + width) then length bytes else 4 + width
@@ -127,9 +117,27 @@ answer_items code qtype bytes =
     else if (code == 0) && (qtype == 4) then addresses_items 4 bytes
     else data_items bytes
 
+-- whether its last address is cut
+abbrev pub is_cut : ℕ → ℕ → List ℕ → Bool
+is_cut code qtype bytes =
+    if (code == 0) && (qtype == 3) then nat_lt 0 (length bytes % 20)
+    else if (code == 0) && (qtype == 4) then nat_lt 0 (length bytes % 8)
+    else false
+
 abbrev pub query_items : List ℕ → List Item
 query_items bytes = fields_items bytes ++ subject_items (byte_of (at 1 2) bytes) (drop 16 bytes)
 
 abbrev pub reply_items : List ℕ → List Item
 reply_items bytes =
     fields_items bytes ++ answer_items (byte_of (at 1 2) bytes) (qtype_in bytes) (drop 16 bytes)
+
+-- ---- why a message is refused: it ends before its data, or an answer within an address
+
+abbrev pub wrong_node : List ℕ → Option Refusal
+wrong_node bytes = if nat_lt (length bytes) 16 then Some refusal.Length else None
+
+abbrev pub wrong_reply : List ℕ → Option Refusal
+wrong_reply bytes =
+    if nat_lt (length bytes) 16 then Some refusal.Length
+    else if is_cut (byte_of (at 1 2) bytes) (qtype_in bytes) (drop 16 bytes) then Some refusal.Cut
+    else None

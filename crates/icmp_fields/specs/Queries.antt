@@ -12,7 +12,7 @@
 -- +---------------+---------------+-------------------------------+
 --
 -- Behind these, timestamps have three numbers of 4 bytes, address masks one, and advertisements an entry for each
--- router: its address, its preference in two's complement, and maybe more words.
+-- router: its address, its preference level in two's complement, and maybe more words.
 use Rattle.std.specs.Prelude.{◌==◌, ◌*◌, ◌+◌, [], ◌∷◌, ◌++◌, List, None, Option, Some, ℕ, codes, drop}
 use Rattle.std.specs.Prelude.{if◌then◌else◌, length, map, nat_lt}
 use Rattle.wirebase.specs.Bytes.{byte_of, bytes_of, field as at, number_of}
@@ -20,7 +20,7 @@ use Rattle.packet_fields.specs.Entries.{keyed_value}
 use Rattle.packet_fields.specs.Fields.{Cell, Entry, Item, entries, field, number, octets, text, time}
 use Rattle.packet_fields.specs.Parts.{parts}
 use Rattle.packet_fields.specs.Texts.{address_text}
-use Rattle.icmp_fields.specs.Icmp.{additional_items, ids_items}
+use Rattle.icmp_fields.specs.Icmp.{additional_items, cut_entry, ids_items}
 use Rattle.icmp_fields.specs.Texts.{signed_text}
 use Rattle.icmp_fields.specs.declared.refusal.Refusal.{Refusal}
 use Rattle.icmp_fields.specs.declared.refusal.Refusal.TheVariants as refusal
@@ -86,12 +86,20 @@ router_entry bytes = record {
   first_key = codes "addr";
   first = text (address_text (bytes_of (at 0 4) bytes));
   rest =
-      keyed_value (codes "preference") (text (signed_text (number_of (at 4 8) bytes))) ++ spare_cells (drop 8 bytes);
+      keyed_value (codes "preference_level") (text (signed_text (number_of (at 4 8) bytes)))
+      ++ spare_cells (drop 8 bytes);
 }
 
--- so many entries of so many bytes
+-- a router that is cut, by its octets
+abbrev pub cut_router : List ℕ → Entry
+cut_router bytes = cut_entry (codes "router") (codes "fewer bytes than an entry has") bytes
+
+-- so many entries of so many bytes, or as many as there are, the last of which may be cut
+abbrev pub router_or_cut : ℕ → List ℕ → Entry
+router_or_cut width bytes = if nat_lt (length bytes) width then cut_router bytes else router_entry bytes
+
 abbrev pub router_entries : ℕ → ℕ → List ℕ → List Entry
-router_entries width count bytes = map router_entry (parts (λ left. width) count bytes)
+router_entries width count bytes = map (router_or_cut width) (parts (λ left. width) count bytes)
 
 abbrev pub advertisement_items : List ℕ → List Item
 advertisement_items bytes =

@@ -4,12 +4,14 @@
 
 ghost use Rattle.std.specs.Prelude.{◌≤◌, OnOk, length};
 ghost use Rattle.std.specs.Option.{option_map};
+ghost use Rattle.packet_fields.specs.Entries.{PrintsEntry};
 ghost use Rattle.packet_fields.specs.Prints.{Prints};
 ghost use Rattle.icmp_fields.specs.Icmp.{named_head, echo_items, rest_items, ids_items, additional_items};
-ghost use Rattle.icmp_fields.specs.Icmp.{behind_checksum, refused_items};
+ghost use Rattle.icmp_fields.specs.Icmp.{behind_checksum, refused_items, cut_entry};
 
 use crate::refusal::Refusal;
 use packet_fields::Form;
+use packet_fields::entry::{close_entry, first_cell, keyed_cell, open_entry};
 use packet_fields::field::{field, named};
 use std::io;
 use std::io::Write;
@@ -119,4 +121,22 @@ pub(crate) fn show_refused<W: Write>(
 {
     show_behind_checksum(output, form, message)?;
     field(output, form, "refused", why)
+}
+
+// Prints an entry of this kind that is cut, by its octets, and why it can't be read.
+pub(crate) fn show_cut_entry<W: Write>(
+    output: &mut W,
+    form: Form,
+    is_first: bool,
+    label: &str,
+    why: &str,
+    octets: &[u8],
+) -> io::Result<()>
+    ensures { OnOk result (PrintsEntry form is_first (W.contents output.old) (W.contents output.new)
+        (cut_entry label.now why.now octets.now)) }
+{
+    open_entry(output, form, is_first, "entry", label)?;
+    first_cell(output, form, "data", octets)?;
+    keyed_cell(output, form, "refused", why)?;
+    close_entry(output, form)
 }

@@ -2,13 +2,14 @@
 
 #![tactic(auto, using(packet_fields::proofs::Fields::prints_both))]
 
-ghost use Rattle.std.specs.Prelude.{◌≡◌, ◌≤◌, None, OnOk, length};
+ghost use Rattle.std.specs.Prelude.{◌≡◌, ◌≤◌, OnOk, length, true};
 ghost use Rattle.icmp4_wire.specs.Icmpv4 as messages;
 ghost use Rattle.quote_wire.specs.Icmpv4Error.{IsDatagram, value_of};
 ghost use Rattle.packet_fields.specs.Prints.{Prints, PrintsSome};
 ghost use Rattle.icmp_fields.specs.Icmp4.{head_items, echo_items, typed_items, unread_items, message_items};
 ghost use Rattle.icmp_fields.specs.Icmp4.{refusal, behind_items, told_or_refused, told_items, told, is_told};
 ghost use Rattle.icmp_fields.specs.Icmp4.{gateway_items, told_in_rest, error_items, AreErrorItems};
+ghost use Rattle.icmp_fields.specs.Refusal.{has_fields};
 
 use crate::extensions::{quoted_of, show_extensions};
 use crate::icmp::{
@@ -80,7 +81,8 @@ pub fn show_message<W: Write>(
 
 /// Prints a message of any type, which need not be known: its type, its code, and of a timestamp (RFC 792), an address
 /// mask (RFC 950), a router solicitation or advertisement (RFC 1256) and an extended echo (RFC 8335) its fields; of
-/// others, and of those that are refused, the octets behind the checksum. All octets where they are fewer than 4.
+/// others, and of those that are refused, the octets behind the checksum. Of an advertisement that ends within its
+/// routers what there is. All octets where they are fewer than 4.
 pub fn show_unread<W: Write>(output: &mut W, form: Form, octets: &[u8]) -> io::Result<()>
     ensures { OnOk result (Prints form (W.contents output.old) (W.contents output.new)
         (unread_items octets.now)) }
@@ -119,8 +121,12 @@ fn show_told_or_refused<W: Write>(output: &mut W, form: Form, octets: &[u8]) -> 
         (told_or_refused (refusal octets.now) octets.now)) }
 {
     match refusal(octets) {
-        Some(why) => show_refused(output, form, octets, why),
         None => show_by_type(output, form, octets),
+        Some(Refusal::Cut) => {
+            show_by_type(output, form, octets)?;
+            field(output, form, "refused", Refusal::Cut)
+        }
+        Some(why) => show_refused(output, form, octets, why),
     }
 }
 
@@ -169,10 +175,10 @@ fn is_told(type_: u8) -> bool
     )
 }
 
-// Prints a message that is not refused: its fields, or of another type its octets.
+// Prints a message that has its fields: these, or of another type its octets.
 fn show_by_type<W: Write>(output: &mut W, form: Form, octets: &[u8]) -> io::Result<()>
     requires long { 8 ≤ length octets.now }
-    requires right { refusal octets.now ≡ None }
+    requires right { has_fields (refusal octets.now) ≡ true }
     ensures { OnOk result (Prints form (W.contents output.old) (W.contents output.new)
         (told_items octets.now)) }
 {

@@ -2,7 +2,7 @@
 
 #![tactic(auto, using(packet_fields::proofs::Fields::prints_both))]
 
-ghost use Rattle.std.specs.Prelude.{◌≡◌, ◌≤◌, None, OnOk, length};
+ghost use Rattle.std.specs.Prelude.{◌≡◌, ◌≤◌, OnOk, length, true};
 ghost use Rattle.std.specs.Option.{option_map};
 ghost use Rattle.icmp6_wire.specs.Icmpv6 as messages;
 ghost use Rattle.quote_wire.specs.Icmpv6Error.{IsPacketFront, value_of};
@@ -11,6 +11,7 @@ ghost use Rattle.packet_fields.specs.Prints.{Prints, PrintsSome};
 ghost use Rattle.icmp_fields.specs.Icmp6.{head_items, echo_items, typed_items, unread_items, message_items};
 ghost use Rattle.icmp_fields.specs.Icmp6.{refusal, behind_items, told_or_refused, told_items, told, is_told};
 ghost use Rattle.icmp_fields.specs.Icmp6.{told_in_rest, error_items, AreErrorItems};
+ghost use Rattle.icmp_fields.specs.Refusal.{has_fields};
 
 use crate::extensions::{quoted_of, show_extensions};
 use crate::icmp::{
@@ -18,7 +19,7 @@ use crate::icmp::{
     show_rest,
 };
 use crate::icmp_names::{icmp6_code_name, icmp6_type_name};
-use crate::node_information::wrong_node;
+use crate::node_information::{wrong_node, wrong_reply};
 use crate::quote::show_ipv6_quote;
 use crate::refusal::{Refusal, Told};
 use crate::{extended_echo, icmp, node_information};
@@ -72,7 +73,7 @@ pub fn show_message<W: Write>(
 
 /// Prints a message of any type, which need not be known: its type, its code, and of node information (RFC 4620) and of
 /// an extended echo (RFC 8335) its fields; of others, and of those that are refused, the octets behind the checksum.
-/// All octets where they are fewer than 4.
+/// Of an answer that ends within an address what there is. All octets where they are fewer than 4.
 pub fn show_unread<W: Write>(output: &mut W, form: Form, octets: &[u8]) -> io::Result<()>
     ensures { OnOk result (Prints form (W.contents output.old) (W.contents output.new)
         (unread_items octets.now)) }
@@ -111,8 +112,12 @@ fn show_told_or_refused<W: Write>(output: &mut W, form: Form, octets: &[u8]) -> 
         (told_or_refused (refusal octets.now) octets.now)) }
 {
     match refusal(octets) {
-        Some(why) => show_refused(output, form, octets, why),
         None => show_by_type(output, form, octets),
+        Some(Refusal::Cut) => {
+            show_by_type(output, form, octets)?;
+            field(output, form, "refused", Refusal::Cut)
+        }
+        Some(why) => show_refused(output, form, octets, why),
     }
 }
 
@@ -122,7 +127,8 @@ pub fn refusal(octets: &[u8]) -> Option<Refusal>
     ensures { result ≡ refusal octets.now }
 {
     match octets[0] {
-        NODE_INFORMATION_QUERY | NODE_INFORMATION_RESPONSE => wrong_node(octets),
+        NODE_INFORMATION_QUERY => wrong_node(octets),
+        NODE_INFORMATION_RESPONSE => wrong_reply(octets),
         _ => None,
     }
 }
@@ -154,10 +160,10 @@ fn is_told(type_: u8) -> bool
     )
 }
 
-// Prints a message that is not refused: its fields, or of another type its octets.
+// Prints a message that has its fields: these, or of another type its octets.
 fn show_by_type<W: Write>(output: &mut W, form: Form, octets: &[u8]) -> io::Result<()>
     requires long { 8 ≤ length octets.now }
-    requires right { refusal octets.now ≡ None }
+    requires right { has_fields (refusal octets.now) ≡ true }
     ensures { OnOk result (Prints form (W.contents output.old) (W.contents output.new)
         (told_items octets.now)) }
 {

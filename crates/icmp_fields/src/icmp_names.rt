@@ -2,7 +2,8 @@
 
 ghost use Rattle.std.specs.Prelude.{◌≡◌};
 ghost use Rattle.std.specs.Option.{option_map};
-ghost use Rattle.icmp_fields.specs.IcmpNames.{extended_reply_codes, node_query_codes, node_response_codes};
+ghost use Rattle.icmp_fields.specs.IcmpNames.{extended_reply_codes, extended_request_codes, node_query_codes};
+ghost use Rattle.icmp_fields.specs.IcmpNames.{node_response_codes, icmp4_advertisement_codes, photuris_codes};
 ghost use Rattle.icmp_fields.specs.IcmpNames.{icmp4_types, icmp4_unreachable_codes, icmp4_redirect_codes};
 ghost use Rattle.icmp_fields.specs.IcmpNames.{icmp4_time_exceeded_codes, icmp4_parameter_problem_codes};
 ghost use Rattle.icmp_fields.specs.IcmpNames.{icmp6_types, icmp6_unreachable_codes, icmp6_time_exceeded_codes};
@@ -38,16 +39,19 @@ pub fn icmp4_type_name(number: u8) -> Option<&'static str>
     }
 }
 
-/// The name of a code of this type of ICMPv4 (RFC 792, RFC 1122 section 3.2.2, RFC 1812 section 5.2.7.1, RFC 8335
-/// section 3); None where it has none here.
+/// The name of a code of this type of ICMPv4 (RFC 792, RFC 1122 section 3.2.2, RFC 1812 section 5.2.7.1,
+/// RFC 2521 section 2, RFC 5944 section 2.1, RFC 8335 sections 2 and 3); None where it has none here.
 pub fn icmp4_code_name(type_: u8, code: u8) -> Option<&'static str>
     ensures { option_map (λ name. name.now) result ≡ code_name4 type_ code }
 {
     match type_ {
         3 => icmp4_unreachable(code),
         5 => icmp4_redirect(code),
+        9 => icmp4_advertisement(code),
         11 => icmp4_time_exceeded(code),
         12 => icmp4_parameter_problem(code),
+        40 => photuris(code),
+        42 => extended_request(code),
         43 => extended_reply(code),
         _ => None,
     }
@@ -91,6 +95,17 @@ fn icmp4_redirect(code: u8) -> Option<&'static str>
     }
 }
 
+// What a router that advertises itself does with datagrams of others than mobile nodes.
+fn icmp4_advertisement(code: u8) -> Option<&'static str>
+    ensures { option_map (λ name. name.now) result ≡ name_in icmp4_advertisement_codes code }
+{
+    match code {
+        0 => Some("normal"),
+        16 => Some("no_common_traffic"),
+        _ => None,
+    }
+}
+
 // The time that was exceeded.
 fn icmp4_time_exceeded(code: u8) -> Option<&'static str>
     ensures { option_map (λ name. name.now) result ≡ name_in icmp4_time_exceeded_codes code }
@@ -110,6 +125,21 @@ fn icmp4_parameter_problem(code: u8) -> Option<&'static str>
         0 => Some("pointer_indicates_the_error"),
         1 => Some("missing_a_required_option"),
         2 => Some("bad_length"),
+        _ => None,
+    }
+}
+
+// Why a datagram of a security association is refused.
+fn photuris(code: u8) -> Option<&'static str>
+    ensures { option_map (λ name. name.now) result ≡ name_in photuris_codes code }
+{
+    match code {
+        0 => Some("bad_spi"),
+        1 => Some("authentication_failed"),
+        2 => Some("decompression_failed"),
+        3 => Some("decryption_failed"),
+        4 => Some("need_authentication"),
+        5 => Some("need_authorization"),
         _ => None,
     }
 }
@@ -161,8 +191,8 @@ pub fn icmp6_type_name(number: u8) -> Option<&'static str>
     }
 }
 
-/// The name of a code of this type of ICMPv6 (RFC 4443 section 3, RFC 4620 section 4, RFC 6554 section 3, RFC 7112
-/// section 5, RFC 8335 section 3, RFC 8883, RFC 8986 section 4.1.1); None where it has none here.
+/// The name of a code of this type of ICMPv6 (RFC 4443 section 3, RFC 4620 section 4, RFC 6554 section 3,
+/// RFC 7112 section 5, RFC 8335 sections 2 and 3, RFC 8883, RFC 8986 section 4.1.1); None where it has none here.
 pub fn icmp6_code_name(type_: u8, code: u8) -> Option<&'static str>
     ensures { option_map (λ name. name.now) result ≡ code_name6 type_ code }
 {
@@ -172,6 +202,7 @@ pub fn icmp6_code_name(type_: u8, code: u8) -> Option<&'static str>
         4 => icmp6_parameter_problem(code),
         139 => node_query(code),
         140 => node_response(code),
+        160 => extended_request(code),
         161 => extended_reply(code),
         _ => None,
     }
@@ -246,6 +277,16 @@ fn node_response(code: u8) -> Option<&'static str>
         0 => Some("success"),
         1 => Some("refused"),
         2 => Some("unknown_qtype"),
+        _ => None,
+    }
+}
+
+// The only code that a request about an interface has.
+fn extended_request(code: u8) -> Option<&'static str>
+    ensures { option_map (λ name. name.now) result ≡ name_in extended_request_codes code }
+{
+    match code {
+        0 => Some("no_error"),
         _ => None,
     }
 }

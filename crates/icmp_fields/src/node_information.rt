@@ -8,11 +8,12 @@ ghost use Rattle.packet_fields.specs.Entries.{PrintsEntry};
 ghost use Rattle.packet_fields.specs.Prints.{Prints};
 ghost use Rattle.icmp_fields.specs.Names.{name_in};
 ghost use Rattle.icmp_fields.specs.NodeInformation.{wrong_node, qtype_names, flags_items, fields_items, subject_items};
-ghost use Rattle.icmp_fields.specs.NodeInformation.{whole_entry, cut_entry, address_entry, entry_len};
+ghost use Rattle.icmp_fields.specs.NodeInformation.{whole_entry, address_entry, entry_len, is_cut, wrong_reply};
 ghost use Rattle.icmp_fields.specs.NodeInformation.{answer_items, query_items, reply_items};
 ghost use Rattle.icmp_fields.specs.NodeInformation.{named_flags, address_or_data, subject_addr_items, data_items};
 ghost use Rattle.icmp_fields.specs.NodeInformation.{address_flags, other_flags};
 
+use crate::icmp::show_cut_entry;
 use crate::refusal::Refusal;
 use packet_fields::Form;
 use packet_fields::entry::{close_entry, first_cell, keyed_cell, open_entry};
@@ -69,6 +70,31 @@ pub(crate) fn wrong_node(message: &[u8]) -> Option<Refusal>
         return Some(Refusal::Length);
     }
     None
+}
+
+// Why an answer is refused, where it is.
+pub(crate) fn wrong_reply(message: &[u8]) -> Option<Refusal>
+    ensures { result ≡ wrong_reply message.now }
+{
+    if message.len() < place::DATA {
+        return Some(Refusal::Length);
+    }
+    let (_, data) = message.split_at(place::DATA);
+    if is_cut(message[place::CODE], message.u16_at(place::QTYPE), data) {
+        return Some(Refusal::Cut);
+    }
+    None
+}
+
+// Whether the last address of an answer is cut.
+fn is_cut(code: u8, qtype: u16, data: &[u8]) -> bool
+    ensures { result ≡ is_cut code qtype «data».now }
+{
+    match (code, qtype) {
+        (SUCCESS, NODE_ADDRESSES) => data.len() % (place::ADDRESS + IPV6_LEN) > 0,
+        (SUCCESS, IPV4_ADDRESSES) => data.len() % (place::ADDRESS + IPV4_LEN) > 0,
+        _ => false,
+    }
 }
 
 // Prints a query, and the node that it is about.
@@ -277,20 +303,10 @@ fn show_entry<W: Write>(
         (address_entry width entry.now)) }
 {
     if entry.len() < place::ADDRESS + width {
-        return show_cut(output, form, is_first, entry);
+        let why = "fewer bytes than an address and its time to live";
+        return show_cut_entry(output, form, is_first, "address", why, entry);
     }
     show_whole(output, form, is_first, width, entry)
-}
-
-fn show_cut<W: Write>(output: &mut W, form: Form, is_first: bool, entry: &[u8]) -> io::Result<()>
-    ensures { OnOk result (PrintsEntry form is_first (W.contents output.old) (W.contents output.new)
-        (cut_entry entry.now)) }
-{
-    let why = "fewer bytes than an address and its time to live";
-    open_entry(output, form, is_first, "entry", "address")?;
-    first_cell(output, form, "data", entry)?;
-    keyed_cell(output, form, "refused", why)?;
-    close_entry(output, form)
 }
 
 fn show_whole<W: Write>(

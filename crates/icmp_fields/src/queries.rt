@@ -3,16 +3,16 @@
 
 #![tactic(auto, using(packet_fields::proofs::Fields::prints_both))]
 
-ghost use Rattle.std.specs.Prelude.{◌≡◌, ◌≤◌, ◌*◌, ◌∷◌, [], None, OnOk, codes, length};
+ghost use Rattle.std.specs.Prelude.{◌≡◌, ◌≤◌, ◌∷◌, [], OnOk, codes, length};
 ghost use Rattle.packet_fields.specs.Entries.{PrintsEntry};
 ghost use Rattle.packet_fields.specs.Fields.{entries as entries_item};
 ghost use Rattle.packet_fields.specs.Prints.{Prints, PrintsCells};
 ghost use Rattle.packet_fields.specs.private.Entries.{PrintsEntries};
 ghost use Rattle.icmp_fields.specs.Queries.{wrong_fixed, wrong_routers, wrong_advertisement, routers_end};
 ghost use Rattle.icmp_fields.specs.Queries.{times_items, timestamp_items, mask_items, spare_cells, router_entry};
-ghost use Rattle.icmp_fields.specs.Queries.{router_entries, advertisement_items};
+ghost use Rattle.icmp_fields.specs.Queries.{router_entries, router_or_cut, words_in, advertisement_items};
 
-use crate::icmp::{HEADER_END, show_additional, show_ids};
+use crate::icmp::{HEADER_END, show_additional, show_cut_entry, show_ids};
 use crate::refusal::Refusal;
 use crate::texts::Signed;
 use packet_fields::Form;
@@ -52,9 +52,9 @@ mod place {
 
     pub const ROUTER_ADDR: Field = 0..4;
 
-    pub const PREFERENCE: Field = 4..8;
+    pub const PREFERENCE_LEVEL: Field = 4..8;
 
-    pub const PREFERENCE_END: usize = 8;
+    pub const PREFERENCE_LEVEL_END: usize = 8;
 }
 
 // The bytes of a timestamp, of an address mask and of a solicitation.
@@ -162,20 +162,20 @@ pub(crate) fn show_advertisement<W: Write>(
     message: &[u8],
 ) -> io::Result<()>
     requires long { 8 ≤ length message.now }
-    requires right { wrong_routers message.now ≡ None }
+    requires wide { 2 ≤ words_in message.now }
     ensures { OnOk result (Prints form (W.contents output.old) (W.contents output.new)
         (advertisement_items message.now)) }
 {
     let lifetime = Seconds(message.u16_at(place::LIFETIME) as u32);
     let width = WORD * message[place::ENTRY_WORDS] as usize;
     let (_, routers) = message.split_at(HEADER_END);
-    let (_, behind) = message.split_at(routers_end(message));
+    let (_, behind) = message.split_at(message.len().min(routers_end(message)));
     field(output, form, "lifetime", lifetime)?;
     show_routers(output, form, width, message[place::ROUTER_COUNT], routers)?;
     show_additional(output, form, behind)
 }
 
-// Prints so many routers of so many bytes each.
+// Prints so many routers of so many bytes each, or as many as there are.
 fn show_routers<W: Write>(
     output: &mut W,
     form: Form,
@@ -183,8 +183,7 @@ fn show_routers<W: Write>(
     count: u8,
     octets: &[u8],
 ) -> io::Result<()>
-    requires wide { 8 ≤ width }
-    requires whole { width * count ≤ length octets.now }
+    requires { 8 ≤ width }
     ensures { OnOk result (Prints form (W.contents output.old) (W.contents output.new)
         (entries_item (codes "routers") (router_entries width count octets.now) ∷ [])) }
 {
@@ -200,17 +199,16 @@ fn show_each<W: Write>(
     count: u8,
     octets: &[u8],
 ) -> io::Result<()>
-    requires wide { 8 ≤ width }
-    requires whole { width * count ≤ length octets.now }
+    requires { 8 ≤ width }
     ensures { OnOk result (PrintsEntries form (W.contents output.old) (W.contents output.new)
         (router_entries width count octets.now)) }
 {
     let mut rest = octets;
     let mut left = count;
     let mut is_first = true;
-    while left > 0 {
-        let (router, others) = rest.split_at(width);
-        show_router(output, form, is_first, router)?;
+    while left > 0 && !rest.is_empty() {
+        let (router, others) = rest.split_at(rest.len().min(width));
+        show_router_or_cut(output, form, is_first, width, router)?;
         rest = others;
         left -= 1;
         is_first = false;
@@ -218,18 +216,36 @@ fn show_each<W: Write>(
     Ok(())
 }
 
-// Prints a router.
+// Prints a router, or the octets of one that is cut.
+fn show_router_or_cut<W: Write>(
+    output: &mut W,
+    form: Form,
+    is_first: bool,
+    width: usize,
+    entry: &[u8],
+) -> io::Result<()>
+    requires { 8 ≤ width }
+    ensures { OnOk result (PrintsEntry form is_first (W.contents output.old) (W.contents output.new)
+        (router_or_cut width entry.now)) }
+{
+    if entry.len() < width {
+        let why = "fewer bytes than an entry has";
+        return show_cut_entry(output, form, is_first, "router", why, entry);
+    }
+    show_router(output, form, is_first, entry)
+}
+
 fn show_router<W: Write>(output: &mut W, form: Form, is_first: bool, entry: &[u8]) -> io::Result<()>
     requires { 8 ≤ length entry.now }
     ensures { OnOk result (PrintsEntry form is_first (W.contents output.old) (W.contents output.new)
         (router_entry entry.now)) }
 {
     let addr = entry.field(place::ROUTER_ADDR);
-    let preference = Signed(entry.u32_at(place::PREFERENCE));
-    let (_, spare) = entry.split_at(place::PREFERENCE_END);
+    let level = Signed(entry.u32_at(place::PREFERENCE_LEVEL));
+    let (_, spare) = entry.split_at(place::PREFERENCE_LEVEL_END);
     open_entry(output, form, is_first, "entry", "router")?;
     first_cell(output, form, "addr", Address(addr))?;
-    keyed_cell(output, form, "preference", preference)?;
+    keyed_cell(output, form, "preference_level", level)?;
     show_spare(output, form, spare)?;
     close_entry(output, form)
 }

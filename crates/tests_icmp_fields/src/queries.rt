@@ -2,7 +2,7 @@
 //! and RFC 8335, with a checksum of zero, which is not looked at.
 
 use crate::testing::{holds_of, same_of};
-use icmp_fields::refusal::Refusal;
+use icmp_fields::refusal::{Refusal, Told};
 use icmp_fields::{icmp4, icmp6};
 use packet_fields::Form;
 use std::alloc::Global;
@@ -43,23 +43,45 @@ const ADDRESS_MASK_LINES: &str = "  type=18 (address_mask_reply)
 const ADDRESS_MASK_JSON: &str = ",\"type\":18,\"type_name\":\"address_mask_reply\",\"code\":0,\
     \"ident\":7,\"seq_no\":1,\"mask\":\"255.255.255.0\",\"additional_data\":\"05\"";
 
-// Two routers, valid for 1,800 seconds, the second with the lowest preference, in entries of three words (RFC 1256).
+// Two routers, valid for 1,800 seconds, the second with the lowest preference level, in entries of three words
+// (RFC 1256).
 const ROUTERS: &[u8] = &[
     0x09, 0x00, 0x00, 0x00, 0x02, 0x03, 0x07, 0x08, 0xc0, 0x00, 0x02, 0x01, 0x00, 0x00, 0x00, 0x05,
     0xca, 0xfe, 0xba, 0xbe, 0xc0, 0x00, 0x02, 0x02, 0x80, 0x00, 0x00, 0x00, 0x00, 0x00, 0x00, 0x00,
 ];
 
 const ROUTERS_LINES: &str = "  type=9 (router_advertisement)
-  code=0
+  code=0 (normal)
   lifetime=1800s
-  router=192.0.2.1 preference=5 additional_data=cafebabe
-  router=192.0.2.2 preference=-2147483648 additional_data=00000000
+  router=192.0.2.1 preference_level=5 additional_data=cafebabe
+  router=192.0.2.2 preference_level=-2147483648 additional_data=00000000
 ";
 
 const ROUTERS_JSON: &str = ",\"type\":9,\"type_name\":\"router_advertisement\",\"code\":0,\
-    \"lifetime\":1800000,\"routers\":[{\"entry\":\"router\",\"addr\":\"192.0.2.1\",\
-    \"preference\":\"5\",\"additional_data\":\"cafebabe\"},{\"entry\":\"router\",\
-    \"addr\":\"192.0.2.2\",\"preference\":\"-2147483648\",\"additional_data\":\"00000000\"}]";
+    \"code_name\":\"normal\",\"lifetime\":1800000,\"routers\":[{\"entry\":\"router\",\
+    \"addr\":\"192.0.2.1\",\"preference_level\":\"5\",\"additional_data\":\"cafebabe\"},\
+    {\"entry\":\"router\",\"addr\":\"192.0.2.2\",\"preference_level\":\"-2147483648\",\
+    \"additional_data\":\"00000000\"}]";
+
+// Three routers are counted; the second is cut, and the third is missing.
+const CUT_ROUTERS: &[u8] = &[
+    0x09, 0x00, 0x00, 0x00, 0x03, 0x02, 0x07, 0x08, 0xc0, 0x00, 0x02, 0x01, 0x00, 0x00, 0x00, 0x05,
+    0xc0, 0x00, 0x02, 0x02, 0x80,
+];
+
+const CUT_ROUTERS_LINES: &str = "  type=9 (router_advertisement)
+  code=0 (normal)
+  lifetime=1800s
+  router=192.0.2.1 preference_level=5
+  router=c000020280 refused=fewer bytes than an entry has
+  refused=the entries are cut short
+";
+
+const CUT_ROUTERS_JSON: &str = ",\"type\":9,\"type_name\":\"router_advertisement\",\"code\":0,\
+    \"code_name\":\"normal\",\"lifetime\":1800000,\"routers\":[{\"entry\":\"router\",\
+    \"addr\":\"192.0.2.1\",\"preference_level\":\"5\"},{\"entry\":\"router\",\
+    \"data\":\"c000020280\",\"refused\":\"fewer bytes than an entry has\"}],\
+    \"refused\":\"the entries are cut short\"";
 
 // A request about an interface of the receiver by its name, of seven characters and a zero (RFC 8335).
 const BY_NAME: &[u8] = &[
@@ -68,7 +90,7 @@ const BY_NAME: &[u8] = &[
 ];
 
 const BY_NAME_LINES: &str = "  type=42 (extended_echo_request)
-  code=0
+  code=0 (no_error)
   ident=4660
   seq_no=7
   local=true
@@ -76,7 +98,7 @@ const BY_NAME_LINES: &str = "  type=42 (extended_echo_request)
 ";
 
 const BY_NAME_JSON: &str = ",\"type\":42,\"type_name\":\"extended_echo_request\",\"code\":0,\
-    \"ident\":4660,\"seq_no\":7,\"local\":true,\"interface_name\":\"ge-0/1\\\\\\\"\"";
+    \"code_name\":\"no_error\",\"ident\":4660,\"seq_no\":7,\"local\":true,\"interface_name\":\"ge-0/1\\\\\\\"\"";
 
 // A request about an interface of a node beside the receiver, by its address of IPv4 (RFC 8335).
 const BY_ADDRESS: &[u8] = &[
@@ -85,7 +107,7 @@ const BY_ADDRESS: &[u8] = &[
 ];
 
 const BY_ADDRESS_LINES: &str = "  type=160 (extended_echo_request)
-  code=0
+  code=0 (no_error)
   ident=4660
   seq_no=7
   local=false
@@ -94,7 +116,8 @@ const BY_ADDRESS_LINES: &str = "  type=160 (extended_echo_request)
 ";
 
 const BY_ADDRESS_JSON: &str = ",\"type\":160,\"type_name\":\"extended_echo_request\",\
-    \"code\":0,\"ident\":4660,\"seq_no\":7,\"local\":false,\"interface_addr_family\":1,\
+    \"code\":0,\"code_name\":\"no_error\",\"ident\":4660,\"seq_no\":7,\"local\":false,\
+    \"interface_addr_family\":1,\
     \"interface_addr_family_name\":\"ipv4\",\"interface_addr\":\"192.0.2.1\"";
 
 // The answer that a node beside the one that answers is reachable, and runs both protocols (RFC 8335).
@@ -147,6 +170,7 @@ const NODE_ANSWER_LINES: &str = "  type=140 (node_information_response)
   nonce=0102030405060708
   address=2001:db8::1 ttl=3600s
   address=0000000120010d refused=fewer bytes than an address and its time to live
+  refused=the entries are cut short
 ";
 
 const NODE_ANSWER_JSON: &str = ",\"type\":140,\"type_name\":\"node_information_response\",\
@@ -154,7 +178,8 @@ const NODE_ANSWER_JSON: &str = ",\"type\":140,\"type_name\":\"node_information_r
     \"flags\":[\"truncated\"],\"nonce\":\"0102030405060708\",\
     \"addresses\":[{\"entry\":\"address\",\"addr\":\"2001:db8::1\",\
     \"ttl\":3600000},{\"entry\":\"address\",\"data\":\"0000000120010d\",\
-    \"refused\":\"fewer bytes than an address and its time to live\"}]";
+    \"refused\":\"fewer bytes than an address and its time to live\"}],\
+    \"refused\":\"the entries are cut short\"";
 
 // The fields of a message of ICMPv6, or else of ICMPv4.
 fn listing(rt: &impl Abort, alloc: Global, form: Form, is_v6: bool, octets: &[u8]) -> Vec<u8> {
@@ -168,6 +193,14 @@ fn listing(rt: &impl Abort, alloc: Global, form: Form, is_v6: bool, octets: &[u8
     output
 }
 
+// Ends the test where a message does not print these lines and these members.
+fn prints(rt: &impl Abort, alloc: Global, is_v6: bool, octets: &[u8], lines: &str, json: &str) {
+    let fields = listing(rt, alloc, Form::Lines, is_v6, octets);
+    same_of(rt, lines, fields.as_slice(), lines.as_bytes());
+    let fields = listing(rt, alloc, Form::Json, is_v6, octets);
+    same_of(rt, json, fields.as_slice(), json.as_bytes());
+}
+
 #[test]
 fn queries_and_answers(rt: HostRuntime) {
     let rows: &[(&[u8], &str, &str)] = &[
@@ -178,16 +211,19 @@ fn queries_and_answers(rt: HostRuntime) {
         (BY_ADDRESS, BY_ADDRESS_LINES, BY_ADDRESS_JSON),
         (REACHABLE, REACHABLE_LINES, REACHABLE_JSON),
         (NODE_QUERY, NODE_QUERY_LINES, NODE_QUERY_JSON),
-        (NODE_ANSWER, NODE_ANSWER_LINES, NODE_ANSWER_JSON),
     ];
     for &(octets, lines, json) in rows {
         // Types of ICMPv6 that are no errors begin at 128.
-        let is_v6 = octets[0] >= 128;
-        let fields = listing(&rt, rt.alloc(), Form::Lines, is_v6, octets);
-        same_of(&rt, lines, fields.as_slice(), lines.as_bytes());
-        let fields = listing(&rt, rt.alloc(), Form::Json, is_v6, octets);
-        same_of(&rt, json, fields.as_slice(), json.as_bytes());
+        prints(&rt, rt.alloc(), octets[0] >= 128, octets, lines, json);
     }
+}
+
+#[test]
+fn lists_that_are_cut(rt: HostRuntime) {
+    let (lines, json) = (CUT_ROUTERS_LINES, CUT_ROUTERS_JSON);
+    prints(&rt, rt.alloc(), false, CUT_ROUTERS, lines, json);
+    let (lines, json) = (NODE_ANSWER_LINES, NODE_ANSWER_JSON);
+    prints(&rt, rt.alloc(), true, NODE_ANSWER, lines, json);
 }
 
 // What stands behind type and code, in lines.
@@ -220,12 +256,28 @@ fn what_follows_the_code(rt: HostRuntime) {
         (
             false,
             &[9, 0, 0, 0, 1, 1, 0, 60, 192, 0, 2, 1],
-            "  rest=0101003cc0000201\n  refused=entries of 1 words are below 2\n",
+            "  rest=0101003cc0000201\n  refused=entries of fewer than 2 words each (1)\n",
         ),
         (
             false,
-            &[9, 0, 0, 0, 1, 2, 0, 60, 192, 0, 2, 1, 0, 0, 0],
-            "  rest=0102003cc0000201000000\n  refused=the routers of an advertisement are cut short\n",
+            &[9, 16, 0, 0, 1, 2, 0, 60],
+            "  code=16 (no_common_traffic)\n  rest=0102003c\n  refused=code 16 is not 0\n",
+        ),
+        // A router that is missing, and one of three words that ends behind the second.
+        (
+            false,
+            &[9, 0, 0, 0, 1, 2, 0, 60],
+            "  code=0 (normal)\n  lifetime=60s\n  refused=the entries are cut short\n",
+        ),
+        (
+            false,
+            &[9, 0, 0, 0, 1, 3, 0, 60, 192, 0, 2, 1, 0, 0, 0, 0],
+            "  router=c000020100000000 refused=fewer bytes than an entry has\n  refused=the entries are cut short\n",
+        ),
+        (
+            false,
+            &[40, 5, 0, 0, 0, 0, 0, 7, 0, 0, 1, 0],
+            "  type=40 (photuris)\n  code=5 (need_authorization)\n  rest=0000000700000100\n",
         ),
         (
             true,
@@ -280,4 +332,31 @@ fn why_messages_are_refused(rt: HostRuntime) {
         Some(Refusal::Length),
     );
     same_of(&rt, 160, icmp6::refusal(&[160, 0, 0, 0, 0, 0, 0, 0]), None);
+}
+
+// Lists that end within an entry, or before all that are counted, are refused.
+#[test]
+fn how_lists_are_told(rt: HostRuntime) {
+    let cut = Told::Refused(Refusal::Cut);
+    same_of(&rt, ROUTERS, icmp4::told(ROUTERS), Told::Fields);
+    same_of(&rt, CUT_ROUTERS, icmp4::told(CUT_ROUTERS), cut);
+    same_of(&rt, NODE_ANSWER, icmp6::told(NODE_ANSWER), cut);
+    // Answers of so many octets, by the type of their query: whole addresses of IPv6 and of IPv4, and parts of one.
+    let rows: &[(u8, usize, Told)] = &[
+        (3, 16, Told::Fields),
+        (3, 17, cut),
+        (3, 24, cut),
+        (3, 36, Told::Fields),
+        (4, 23, cut),
+        (4, 24, Told::Fields),
+        (4, 25, cut),
+        // The octets of a name are no list.
+        (2, 23, Told::Fields),
+    ];
+    for &(qtype, len, want) in rows {
+        let mut octets = [0; 36];
+        octets[0] = 140;
+        octets[5] = qtype;
+        same_of(&rt, len, icmp6::told(&octets[..len]), want);
+    }
 }

@@ -4,6 +4,7 @@
 use crate::refusal::Refusal;
 use control_wire::{Field, Octets};
 use packet_fields::Form;
+use packet_fields::entry::{close_entry, first_cell, keyed_cell, open_entry};
 use packet_fields::field::{field, named};
 use rattle_std::io;
 use rattle_std::io::Write;
@@ -90,4 +91,19 @@ pub(crate) fn show_refused<W: Write>(
 ) -> io::Result<()> {
     show_behind_checksum(output, form, message)?;
     field(output, form, "refused", why)
+}
+
+// Prints an entry of this kind that is cut, by its octets, and why it can't be read.
+pub(crate) fn show_cut_entry<W: Write>(
+    output: &mut W,
+    form: Form,
+    is_first: bool,
+    label: &str,
+    why: &str,
+    octets: &[u8],
+) -> io::Result<()> {
+    open_entry(output, form, is_first, "entry", label)?;
+    first_cell(output, form, "data", octets)?;
+    keyed_cell(output, form, "refused", why)?;
+    close_entry(output, form)
 }

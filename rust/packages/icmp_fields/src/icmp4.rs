@@ -69,7 +69,8 @@ pub fn show_message<W: Write>(
 
 /// Prints a message of any type, which need not be known: its type, its code, and of a timestamp (RFC 792), an address
 /// mask (RFC 950), a router solicitation or advertisement (RFC 1256) and an extended echo (RFC 8335) its fields; of
-/// others, and of those that are refused, the octets behind the checksum. All octets where they are fewer than 4.
+/// others, and of those that are refused, the octets behind the checksum. Of an advertisement that ends within its
+/// routers what there is. All octets where they are fewer than 4.
 pub fn show_unread<W: Write>(output: &mut W, form: Form, octets: &[u8]) -> io::Result<()> {
     if octets.len() < CHECKSUM_END {
         show_rest(output, form, octets)
@@ -93,8 +94,12 @@ fn show_behind<W: Write>(output: &mut W, form: Form, octets: &[u8]) -> io::Resul
 
 fn show_told_or_refused<W: Write>(output: &mut W, form: Form, octets: &[u8]) -> io::Result<()> {
     match refusal(octets) {
-        Some(why) => show_refused(output, form, octets, why),
         None => show_by_type(output, form, octets),
+        Some(Refusal::Cut) => {
+            show_by_type(output, form, octets)?;
+            field(output, form, "refused", Refusal::Cut)
+        }
+        Some(why) => show_refused(output, form, octets, why),
     }
 }
 
@@ -136,7 +141,7 @@ fn is_told(type_: u8) -> bool {
     )
 }
 
-// Prints a message that is not refused: its fields, or of another type its octets.
+// Prints a message that has its fields: these, or of another type its octets.
 fn show_by_type<W: Write>(output: &mut W, form: Form, octets: &[u8]) -> io::Result<()> {
     match octets[0] {
         TIMESTAMP | TIMESTAMP_REPLY => queries::show_timestamp(output, form, octets),

@@ -7,7 +7,7 @@ use crate::icmp::{
     show_rest,
 };
 use crate::icmp_names::{icmp6_code_name, icmp6_type_name};
-use crate::node_information::wrong_node;
+use crate::node_information::{wrong_node, wrong_reply};
 use crate::quote::show_ipv6_quote;
 use crate::refusal::{Refusal, Told};
 use crate::{extended_echo, icmp, node_information};
@@ -58,7 +58,7 @@ pub fn show_message<W: Write>(
 
 /// Prints a message of any type, which need not be known: its type, its code, and of node information (RFC 4620) and of
 /// an extended echo (RFC 8335) its fields; of others, and of those that are refused, the octets behind the checksum.
-/// All octets where they are fewer than 4.
+/// Of an answer that ends within an address what there is. All octets where they are fewer than 4.
 pub fn show_unread<W: Write>(output: &mut W, form: Form, octets: &[u8]) -> io::Result<()> {
     if octets.len() < CHECKSUM_END {
         show_rest(output, form, octets)
@@ -82,15 +82,20 @@ fn show_behind<W: Write>(output: &mut W, form: Form, octets: &[u8]) -> io::Resul
 
 fn show_told_or_refused<W: Write>(output: &mut W, form: Form, octets: &[u8]) -> io::Result<()> {
     match refusal(octets) {
-        Some(why) => show_refused(output, form, octets, why),
         None => show_by_type(output, form, octets),
+        Some(Refusal::Cut) => {
+            show_by_type(output, form, octets)?;
+            field(output, form, "refused", Refusal::Cut)
+        }
+        Some(why) => show_refused(output, form, octets, why),
     }
 }
 
 /// Why a message that is told by its fields is refused, where it is; None of every other type. Requires 8 octets.
 pub fn refusal(octets: &[u8]) -> Option<Refusal> {
     match octets[0] {
-        NODE_INFORMATION_QUERY | NODE_INFORMATION_RESPONSE => wrong_node(octets),
+        NODE_INFORMATION_QUERY => wrong_node(octets),
+        NODE_INFORMATION_RESPONSE => wrong_reply(octets),
         _ => None,
     }
 }
@@ -118,7 +123,7 @@ fn is_told(type_: u8) -> bool {
     )
 }
 
-// Prints a message that is not refused: its fields, or of another type its octets.
+// Prints a message that has its fields: these, or of another type its octets.
 fn show_by_type<W: Write>(output: &mut W, form: Form, octets: &[u8]) -> io::Result<()> {
     match octets[0] {
         NODE_INFORMATION_QUERY => node_information::show_query(output, form, octets),

@@ -1,6 +1,7 @@
 // Made from crates/icmp_fields/src/node_information.rt by rust/erase.
 //! Queries about a node and their answers (RFC 4620), messages of ICMPv6.
 
+use crate::icmp::show_cut_entry;
 use crate::refusal::Refusal;
 use control_wire::Octets;
 use packet_fields::Form;
@@ -55,6 +56,27 @@ pub(crate) fn wrong_node(message: &[u8]) -> Option<Refusal> {
         return Some(Refusal::Length);
     }
     None
+}
+
+// Why an answer is refused, where it is.
+pub(crate) fn wrong_reply(message: &[u8]) -> Option<Refusal> {
+    if message.len() < place::DATA {
+        return Some(Refusal::Length);
+    }
+    let (_, data) = message.split_at(place::DATA);
+    if is_cut(message[place::CODE], message.u16_at(place::QTYPE), data) {
+        return Some(Refusal::Cut);
+    }
+    None
+}
+
+// Whether the last address of an answer is cut.
+fn is_cut(code: u8, qtype: u16, data: &[u8]) -> bool {
+    match (code, qtype) {
+        (SUCCESS, NODE_ADDRESSES) => data.len() % (place::ADDRESS + IPV6_LEN) > 0,
+        (SUCCESS, IPV4_ADDRESSES) => data.len() % (place::ADDRESS + IPV4_LEN) > 0,
+        _ => false,
+    }
 }
 
 // Prints a query, and the node that it is about.
@@ -205,17 +227,10 @@ fn show_entry<W: Write>(
     entry: &[u8],
 ) -> io::Result<()> {
     if entry.len() < place::ADDRESS + width {
-        return show_cut(output, form, is_first, entry);
+        let why = "fewer bytes than an address and its time to live";
+        return show_cut_entry(output, form, is_first, "address", why, entry);
     }
     show_whole(output, form, is_first, width, entry)
-}
-
-fn show_cut<W: Write>(output: &mut W, form: Form, is_first: bool, entry: &[u8]) -> io::Result<()> {
-    let why = "fewer bytes than an address and its time to live";
-    open_entry(output, form, is_first, "entry", "address")?;
-    first_cell(output, form, "data", entry)?;
-    keyed_cell(output, form, "refused", why)?;
-    close_entry(output, form)
 }
 
 fn show_whole<W: Write>(

@@ -2,7 +2,7 @@
 //! Messages of ICMPv4 beside echoes and errors: timestamps (RFC 792), address masks (RFC 950), and the solicitations
 //! and advertisements of routers (RFC 1256).
 
-use crate::icmp::{HEADER_END, show_additional, show_ids};
+use crate::icmp::{HEADER_END, show_additional, show_cut_entry, show_ids};
 use crate::refusal::Refusal;
 use crate::texts::Signed;
 use control_wire::Octets;
@@ -42,9 +42,9 @@ mod place {
 
     pub const ROUTER_ADDR: Field = 0..4;
 
-    pub const PREFERENCE: Field = 4..8;
+    pub const PREFERENCE_LEVEL: Field = 4..8;
 
-    pub const PREFERENCE_END: usize = 8;
+    pub const PREFERENCE_LEVEL_END: usize = 8;
 }
 
 // The bytes of a timestamp, of an address mask and of a solicitation.
@@ -134,13 +134,13 @@ pub(crate) fn show_advertisement<W: Write>(
     let lifetime = Seconds(message.u16_at(place::LIFETIME) as u32);
     let width = WORD * message[place::ENTRY_WORDS] as usize;
     let (_, routers) = message.split_at(HEADER_END);
-    let (_, behind) = message.split_at(routers_end(message));
+    let (_, behind) = message.split_at(message.len().min(routers_end(message)));
     field(output, form, "lifetime", lifetime)?;
     show_routers(output, form, width, message[place::ROUTER_COUNT], routers)?;
     show_additional(output, form, behind)
 }
 
-// Prints so many routers of so many bytes each.
+// Prints so many routers of so many bytes each, or as many as there are.
 fn show_routers<W: Write>(
     output: &mut W,
     form: Form,
@@ -163,9 +163,9 @@ fn show_each<W: Write>(
     let mut rest = octets;
     let mut left = count;
     let mut is_first = true;
-    while left > 0 {
-        let (router, others) = rest.split_at(width);
-        show_router(output, form, is_first, router)?;
+    while left > 0 && !rest.is_empty() {
+        let (router, others) = rest.split_at(rest.len().min(width));
+        show_router_or_cut(output, form, is_first, width, router)?;
         rest = others;
         left -= 1;
         is_first = false;
@@ -173,7 +173,21 @@ fn show_each<W: Write>(
     Ok(())
 }
 
-// Prints a router.
+// Prints a router, or the octets of one that is cut.
+fn show_router_or_cut<W: Write>(
+    output: &mut W,
+    form: Form,
+    is_first: bool,
+    width: usize,
+    entry: &[u8],
+) -> io::Result<()> {
+    if entry.len() < width {
+        let why = "fewer bytes than an entry has";
+        return show_cut_entry(output, form, is_first, "router", why, entry);
+    }
+    show_router(output, form, is_first, entry)
+}
+
 fn show_router<W: Write>(
     output: &mut W,
     form: Form,
@@ -181,11 +195,11 @@ fn show_router<W: Write>(
     entry: &[u8],
 ) -> io::Result<()> {
     let addr = entry.field(place::ROUTER_ADDR);
-    let preference = Signed(entry.u32_at(place::PREFERENCE));
-    let (_, spare) = entry.split_at(place::PREFERENCE_END);
+    let level = Signed(entry.u32_at(place::PREFERENCE_LEVEL));
+    let (_, spare) = entry.split_at(place::PREFERENCE_LEVEL_END);
     open_entry(output, form, is_first, "entry", "router")?;
     first_cell(output, form, "addr", Address(addr))?;
-    keyed_cell(output, form, "preference", preference)?;
+    keyed_cell(output, form, "preference_level", level)?;
     show_spare(output, form, spare)?;
     close_entry(output, form)
 }

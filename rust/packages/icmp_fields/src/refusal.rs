@@ -1,5 +1,5 @@
 // Made from crates/icmp_fields/src/refusal.rt by rust/erase.
-//! Why a message of a type that is known is not told by its fields.
+//! Why a message of a type that is known is refused.
 
 use control_wire::inside::text::{Sink, put_number};
 use packet_fields::Form;
@@ -7,8 +7,8 @@ use packet_fields::value::{Text, Value, put_text};
 use rattle_std::io::Write;
 use rattle_std::{fmt, io};
 
-/// Why a message of 8 bytes or more, of a type that is known, is not told by its fields: the first check that fails.
-/// The checksum is not looked at.
+/// Why a message of 8 bytes or more, of a type that is known, is refused: the first check that fails. The checksum is
+/// not looked at.
 #[derive(Debug, PartialEq, Eq, Clone, Copy)]
 pub enum Refusal {
     /// The code is not 0, in a message of ICMPv4 of another kind than an extended echo: this is its number.
@@ -19,7 +19,8 @@ pub enum Refusal {
     NoRouters,
     /// An advertisement whose entries have fewer than two words; this is their number.
     EntrySize(u8),
-    /// An advertisement ends before its routers do.
+    /// An advertisement ends before its routers do, or an answer about a node within an address (RFC 4620 section 6.3):
+    /// what there is of it is told by its fields.
     Cut,
 }
 
@@ -28,7 +29,7 @@ pub enum Refusal {
 pub enum Told {
     /// By its fields.
     Fields,
-    /// By its octets, since it is refused.
+    /// It is refused: by its octets, or by what there is of one whose entries are cut.
     Refused(Refusal),
     /// By its octets: it has fewer than 8, or a type of which no fields are told.
     Octets,
@@ -41,8 +42,10 @@ impl fmt::Display for Refusal {
             Refusal::Code(code) => write!(f, "code {code} is not 0"),
             Refusal::Length => write!(f, "fewer bytes than a message of this type has"),
             Refusal::NoRouters => write!(f, "an advertisement of no routers"),
-            Refusal::EntrySize(words) => write!(f, "entries of {words} words are below 2"),
-            Refusal::Cut => write!(f, "the routers of an advertisement are cut short"),
+            Refusal::EntrySize(words) => {
+                write!(f, "entries of fewer than 2 words each ({words})")
+            }
+            Refusal::Cut => write!(f, "the entries are cut short"),
         }
     }
 }
@@ -55,7 +58,7 @@ impl Text for Refusal {
             Refusal::Length => S::put_str(output, "fewer bytes than a message of this type has"),
             Refusal::NoRouters => S::put_str(output, "an advertisement of no routers"),
             Refusal::EntrySize(words) => put_size::<O, S>(output, words),
-            Refusal::Cut => S::put_str(output, "the routers of an advertisement are cut short"),
+            Refusal::Cut => S::put_str(output, "the entries are cut short"),
         }
     }
 }
@@ -73,7 +76,7 @@ fn put_code<O, S: Sink<O>>(output: &mut O, code: u8) -> Result<(), S::Error> {
 }
 
 fn put_size<O, S: Sink<O>>(output: &mut O, words: u8) -> Result<(), S::Error> {
-    S::put_str(output, "entries of ")?;
+    S::put_str(output, "entries of fewer than 2 words each (")?;
     put_number::<O, S>(output, words as u64)?;
-    S::put_str(output, " words are below 2")
+    S::put_str(output, ")")
 }

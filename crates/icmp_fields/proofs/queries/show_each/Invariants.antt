@@ -1,5 +1,5 @@
--- The entries so far, and those of the routers that are left, which are all there.
-use Rattle.std.proofs.Common.{◌≡◌, ◌++◌, ◌*◌, ◌≤◌, List, length}
+-- The entries so far, and those of the routers that are left.
+use Rattle.std.proofs.Common.{◌≡◌, ◌++◌, List}
 use Rattle.packet_fields.specs.Fields.{Entry}
 use Rattle.packet_fields.specs.private.Entries.{PrintsEntries}
 use Rattle.packet_fields.proofs.EntryChains.{is_none}
@@ -11,7 +11,6 @@ invariant-loop-left g l =
     (done : List Entry)
     × (done ++ router_entries l.width l.left l.rest ≡ router_entries l.width l.count l.octets)
     × (l.is_first ≡ is_none done)
-    × (l.width * l.left ≤ length l.rest)
     × PrintsEntries l.form (g.W.Write.contents l.initial.output) (g.W.Write.contents l.output) done
 
 abbrev pub decreases-loop-left : goal.decreases-loop-left

@@ -1,6 +1,6 @@
 -- The label, the octets, why, and the end.
 use Rattle.packet_fields.proofs.EntryChains.{entry_printed}
-use Rattle.icmp_fields.proofs.node_information.show_cut.Goals as goal
+use Rattle.icmp_fields.proofs.icmp.show_cut_entry.Goals as goal
 
 pub returns : goal.returns
 returns g c =
