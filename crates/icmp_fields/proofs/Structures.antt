@@ -5,7 +5,7 @@ use Rattle.std.proofs.lemmas.Bool.{eq-eqb, le-ltb, lt-ltb, ne_eqb}
 use Rattle.std.proofs.lemmas.List.{length-drop}
 use Rattle.std.specs.Prelude.{Option, if◌then◌else◌}
 use Rattle.wirebase.specs.Bytes.{number_of}
-use Rattle.wirebase.specs.Checks.{Passes}
+use Rattle.wirebase.specs.Checks.{Fails, Passes}
 use Rattle.wirebase.specs.Checksum.{IsGood, fold, word_sum}
 use Rattle.wirebase.proofs.Pieces.{length-part}
 use Rattle.extension_wire.specs.Object as object
@@ -18,6 +18,7 @@ use Rattle.packet_fields.specs.Prints.{Prints}
 use Rattle.packet_fields.specs.declared.form.Form.{Form}
 use Rattle.icmp_fields.specs.ExtendedEcho.{named_or_refused, object_in, object_or_refused, object_refusal}
 use Rattle.icmp_fields.specs.ExtendedEcho.{structure_refusal, wrong_object}
+use Rattle.icmp_fields.specs.Extensions.{header_checks}
 
 either : (b : Bool) (o : Option StructureRefusal) → (if b then o else o) ≡ o
 either true o = refl
@@ -31,8 +32,8 @@ sum_good : (bytes : List ℕ) → fold (word_sum bytes) ≡ 65535 → IsGood byt
 sum_good bytes good =
     let same : word_sum bytes + 0 ≡ word_sum bytes = omega arith in ap (λ (n : ℕ). fold n) same ∙ good
 
-pub structure_wrong : (bytes : List ℕ) (why : StructureRefusal) → structure.Refuses bytes why
-    → structure_refusal bytes ≡ Some why
+structure_wrong : (bytes : List ℕ) (why : StructureRefusal) → structure.Refuses bytes why
+    → structure_refusal true bytes ≡ Some why
 structure_wrong bytes why (inl (short, is)) =
     rw (lt-ltb (length bytes) 4 (omega (arith, short))) (ap (λ (w : StructureRefusal). Some w) (sym is))
 structure_wrong bytes why (inr (long, inl (other, is))) =
@@ -48,7 +49,7 @@ structure_wrong bytes why (inr (long, inr (two, inl (wrong, is)))) =
     (ap (λ (w : StructureRefusal). Some w) (sym is))
 structure_wrong bytes why (inr (long, inr (two, inr (right, never)))) = absurd never
 
-pub structure_right : (bytes : List ℕ) → Passes (structure.checks bytes) → structure_refusal bytes ≡ None
+structure_right : (bytes : List ℕ) → Passes (structure.checks bytes) → structure_refusal true bytes ≡ None
 structure_right bytes (long, (two, (inl none, u))) =
     rw (le-ltb (length bytes) 4 long, eq-eqb (version_in bytes) 2 two, eq-eqb (number_of checksum_field bytes) 0 none)
     refl
@@ -59,6 +60,22 @@ structure_right bytes (long, (two, (inr good, u))) =
       eq-eqb (fold (word_sum bytes)) 65535 (good_sum bytes good),
     )
     (either (number_of checksum_field bytes == 0) None)
+
+pub header_wrong : (is_whole : Bool) (bytes : List ℕ) (why : StructureRefusal) → Fails (header_checks is_whole bytes) why
+    → structure_refusal is_whole bytes ≡ Some why
+header_wrong true bytes why fails = structure_wrong bytes why fails
+header_wrong false bytes why (inl (short, is)) =
+    rw (lt-ltb (length bytes) 4 (omega (arith, short))) (ap (λ (w : StructureRefusal). Some w) (sym is))
+header_wrong false bytes why (inr (long, inl (other, is))) =
+    rw (le-ltb (length bytes) 4 long, ne_eqb (version_in bytes) 2 other)
+    (ap (λ (w : StructureRefusal). Some w) (sym is))
+header_wrong false bytes why (inr (long, inr (two, never))) = absurd never
+
+pub header_right : (is_whole : Bool) (bytes : List ℕ) → Passes (header_checks is_whole bytes)
+    → structure_refusal is_whole bytes ≡ None
+header_right true bytes passes = structure_right bytes passes
+header_right false bytes (long, (two, u)) =
+    rw (le-ltb (length bytes) 4 long, eq-eqb (version_in bytes) 2 two) refl
 
 pub object_wrong : (bytes : List ℕ) (why : ObjectRefusal) → object.Refuses bytes why → object_refusal bytes ≡ Some why
 object_wrong bytes why (inl (short, is)) =

@@ -20,7 +20,7 @@
 -- +-------------------------------+---------------+---------------+
 -- | address
 -- +- - - -
-use Rattle.std.specs.Prelude.{◌==◌, ◌&&◌, ◌||◌, ◌/◌, ◌%◌, ◌+◌, ◌-◌, [], ◌∷◌, ◌++◌, List, None, Option, Some, ℕ}
+use Rattle.std.specs.Prelude.{◌==◌, ◌&&◌, ◌||◌, ◌/◌, ◌%◌, ◌+◌, ◌-◌, [], ◌∷◌, ◌++◌, Bool, List, None, Option, Some, ℕ}
 use Rattle.std.specs.Prelude.{codes, drop, if◌then◌else◌, length, nat_lt, take}
 use Rattle.wirebase.specs.Bytes.{byte_of, bytes_of, field as at, number_of, part}
 use Rattle.wirebase.specs.Checksum.{fold, word_sum}
@@ -51,17 +51,18 @@ family_names = (1, codes "ipv4") ∷ (2, codes "ipv6") ∷ (6, codes "802") ∷ 
 
 -- ---- the structure of a request
 
--- why it is refused, where it is, as its reader refuses it (RFC 4884 section 7)
+-- Why it is refused, where it is, as its reader refuses it (RFC 4884 section 7). The checksum is that of all octets, so
+-- where the capture cut the message it is not verified.
 abbrev pub wrong_checksum : List ℕ → Option StructureRefusal
 wrong_checksum bytes =
     if number_of checksum_field bytes == 0 then None
     else if fold (word_sum bytes) == 65535 then None
     else Some StructureRefusal.Checksum
 
-abbrev pub structure_refusal : List ℕ → Option StructureRefusal
-structure_refusal bytes =
+abbrev pub structure_refusal : Bool → List ℕ → Option StructureRefusal
+structure_refusal is_whole bytes =
     if nat_lt (length bytes) 4 then Some StructureRefusal.Short
-    else if version_in bytes == 2 then wrong_checksum bytes
+    else if version_in bytes == 2 then (if is_whole then wrong_checksum bytes else None)
     else Some (StructureRefusal.Version (version_in bytes))
 
 -- the object behind its header, and why there is none, where there is none (RFC 4884 section 8)
@@ -158,8 +159,8 @@ abbrev pub structure_or_refused : Option StructureRefusal → List ℕ → List 
 structure_or_refused None bytes = object_or_refused (object_refusal (drop 4 bytes)) bytes
 structure_or_refused (Some why) bytes = unread_structure bytes (text (structure_refusal_display why))
 
-abbrev pub structure_items : List ℕ → List Item
-structure_items bytes = structure_or_refused (structure_refusal bytes) bytes
+abbrev pub structure_items : Bool → List ℕ → List Item
+structure_items is_whole bytes = structure_or_refused (structure_refusal is_whole bytes) bytes
 
 -- ---- messages
 
@@ -170,8 +171,8 @@ request_fields bytes =
     ∷ field (codes "seq_no") (number (byte_of (at 6 7) bytes))
     ∷ field (codes "local") (truth (byte_of (at 7 8) bytes % 2 == 1)) ∷ []
 
-abbrev pub request_items : List ℕ → List Item
-request_items bytes = request_fields bytes ++ structure_items (drop 8 bytes)
+abbrev pub request_items : Bool → List ℕ → List Item
+request_items is_whole bytes = request_fields bytes ++ structure_items is_whole (drop 8 bytes)
 
 -- the state, and the flags A, 4 and 6: the interface is active, runs IPv4, and runs IPv6
 abbrev pub state_items : ℕ → List Item

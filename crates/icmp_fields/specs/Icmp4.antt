@@ -1,6 +1,6 @@
 -- ICMPv4 messages (RFC 792), as fields.
 use Rattle.std.specs.Prelude.{◌≡◌, ◌==◌, ◌||◌, ◌/◌, ◌^◌, ◌∷◌, ◌++◌, [], Bool, List, None, Option, Some, ℕ, codes}
-use Rattle.std.specs.Prelude.{decimal, drop, if◌then◌else◌, length, nat_lt}
+use Rattle.std.specs.Prelude.{decimal, drop, if◌then◌else◌, length, nat_lt, true}
 use Rattle.std.specs.List.{join_by}
 use Rattle.wirebase.specs.Bytes.{byte_of}
 use Rattle.wirebase.specs.ByteWriter.{be32}
@@ -50,23 +50,23 @@ refusal bytes =
     else None
 
 -- one that has its fields, by its type: these, or else the octets behind its checksum
-abbrev pub told_items : List ℕ → List Item
-told_items bytes =
+abbrev pub told_items : Bool → List ℕ → List Item
+told_items is_whole bytes =
     if byte_of type_field bytes == 13 then timestamp_items bytes
     else if byte_of type_field bytes == 14 then timestamp_items bytes
     else if byte_of type_field bytes == 17 then mask_items bytes
     else if byte_of type_field bytes == 18 then mask_items bytes
     else if byte_of type_field bytes == 10 then additional_items (drop 8 bytes)
     else if byte_of type_field bytes == 9 then advertisement_items bytes
-    else if byte_of type_field bytes == 42 then request_items bytes
+    else if byte_of type_field bytes == 42 then request_items is_whole bytes
     else if byte_of type_field bytes == 43 then reply_items bytes
     else behind_checksum bytes
 
 -- one that is refused: what there is of one whose entries are cut short, or else its octets; and why
-abbrev pub told_or_refused : Option Refusal → List ℕ → List Item
-told_or_refused None bytes = told_items bytes
-told_or_refused (Some reason.Cut) bytes = told_items bytes ++ why_items reason.Cut
-told_or_refused (Some why) bytes = refused_items bytes why
+abbrev pub told_or_refused : Option Refusal → Bool → List ℕ → List Item
+told_or_refused None is_whole bytes = told_items is_whole bytes
+told_or_refused (Some reason.Cut) is_whole bytes = told_items is_whole bytes ++ why_items reason.Cut
+told_or_refused (Some why) is_whole bytes = refused_items bytes why
 
 -- how it is told
 abbrev pub is_told : ℕ → Bool
@@ -81,23 +81,24 @@ told bytes =
     if nat_lt (length bytes) 8 then how.Octets else told_as (refusal bytes) (is_told (byte_of type_field bytes))
 
 -- what follows the checksum
-abbrev pub behind_items : List ℕ → List Item
-behind_items bytes =
-    if nat_lt (length bytes) 8 then behind_checksum bytes else told_or_refused (refusal bytes) bytes
+abbrev pub behind_items : Bool → List ℕ → List Item
+behind_items is_whole bytes =
+    if nat_lt (length bytes) 8 then behind_checksum bytes else told_or_refused (refusal bytes) is_whole bytes
 
 -- any message by its type, its code and what follows the checksum; what is shorter than these by its octets
-abbrev pub typed_items : List ℕ → List Item
-typed_items bytes = head_items (byte_of type_field bytes) (byte_of code_field bytes) ++ behind_items bytes
+abbrev pub typed_items : Bool → List ℕ → List Item
+typed_items is_whole bytes =
+    head_items (byte_of type_field bytes) (byte_of code_field bytes) ++ behind_items is_whole bytes
 
-abbrev pub unread_items : List ℕ → List Item
-unread_items bytes = if nat_lt (length bytes) 4 then rest_items bytes else typed_items bytes
+abbrev pub unread_items : Bool → List ℕ → List Item
+unread_items is_whole bytes = if nat_lt (length bytes) 4 then rest_items bytes else typed_items is_whole bytes
 
 -- a message that was read in these octets: an echo, or another by its octets
 abbrev pub message_items : MessageValue → List ℕ → List Item
 message_items (echo_request ident seq_no d) bytes = echo_items 8 ident seq_no d
 message_items (echo_reply ident seq_no d) bytes = echo_items 0 ident seq_no d
-message_items (unreachable reason quoted d) bytes = unread_items bytes
-message_items (time_exceeded reason quoted d) bytes = unread_items bytes
+message_items (unreachable reason quoted d) bytes = unread_items true bytes
+message_items (time_exceeded reason quoted d) bytes = unread_items true bytes
 
 -- ---- errors
 

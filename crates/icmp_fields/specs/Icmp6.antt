@@ -1,6 +1,6 @@
 -- ICMPv6 messages (RFC 4443), as fields.
 use Rattle.std.specs.Prelude.{◌≡◌, ◌==◌, ◌||◌, ◌∷◌, ◌++◌, [], Bool, List, None, Option, Some, ℕ, codes}
-use Rattle.std.specs.Prelude.{if◌then◌else◌, length, nat_lt}
+use Rattle.std.specs.Prelude.{if◌then◌else◌, length, nat_lt, true}
 use Rattle.wirebase.specs.Bytes.{byte_of}
 use Rattle.wirebase.specs.Icmp.{code_field, type_field}
 use Rattle.icmp6_wire.specs.Icmpv6.{MessageValue, echo_request, echo_reply, unreachable, too_big, time_exceeded}
@@ -44,19 +44,19 @@ refusal bytes =
     else None
 
 -- one that has its fields, by its type: these, or else the octets behind its checksum
-abbrev pub told_items : List ℕ → List Item
-told_items bytes =
+abbrev pub told_items : Bool → List ℕ → List Item
+told_items is_whole bytes =
     if byte_of type_field bytes == 139 then node.query_items bytes
     else if byte_of type_field bytes == 140 then node.reply_items bytes
-    else if byte_of type_field bytes == 160 then extended.request_items bytes
+    else if byte_of type_field bytes == 160 then extended.request_items is_whole bytes
     else if byte_of type_field bytes == 161 then extended.reply_items bytes
     else behind_checksum bytes
 
 -- one that is refused: what there is of one whose entries are cut short, or else its octets; and why
-abbrev pub told_or_refused : Option Refusal → List ℕ → List Item
-told_or_refused None bytes = told_items bytes
-told_or_refused (Some reason.Cut) bytes = told_items bytes ++ why_items reason.Cut
-told_or_refused (Some why) bytes = refused_items bytes why
+abbrev pub told_or_refused : Option Refusal → Bool → List ℕ → List Item
+told_or_refused None is_whole bytes = told_items is_whole bytes
+told_or_refused (Some reason.Cut) is_whole bytes = told_items is_whole bytes ++ why_items reason.Cut
+told_or_refused (Some why) is_whole bytes = refused_items bytes why
 
 -- how it is told
 abbrev pub is_told : ℕ → Bool
@@ -71,27 +71,28 @@ told bytes =
     if nat_lt (length bytes) 8 then how.Octets else told_as (refusal bytes) (is_told (byte_of type_field bytes))
 
 -- what follows the checksum
-abbrev pub behind_items : List ℕ → List Item
-behind_items bytes =
-    if nat_lt (length bytes) 8 then behind_checksum bytes else told_or_refused (refusal bytes) bytes
+abbrev pub behind_items : Bool → List ℕ → List Item
+behind_items is_whole bytes =
+    if nat_lt (length bytes) 8 then behind_checksum bytes else told_or_refused (refusal bytes) is_whole bytes
 
 -- any message by its type, its code and what follows the checksum; what is shorter than these by its octets
-abbrev pub typed_items : List ℕ → List Item
-typed_items bytes = head_items (byte_of type_field bytes) (byte_of code_field bytes) ++ behind_items bytes
+abbrev pub typed_items : Bool → List ℕ → List Item
+typed_items is_whole bytes =
+    head_items (byte_of type_field bytes) (byte_of code_field bytes) ++ behind_items is_whole bytes
 
-abbrev pub unread_items : List ℕ → List Item
-unread_items bytes = if nat_lt (length bytes) 4 then rest_items bytes else typed_items bytes
+abbrev pub unread_items : Bool → List ℕ → List Item
+unread_items is_whole bytes = if nat_lt (length bytes) 4 then rest_items bytes else typed_items is_whole bytes
 
 -- a message that was read in these octets: an echo, or another by its octets
 abbrev pub message_items : MessageValue → List ℕ → List Item
 message_items (echo_request ident seq_no d) bytes = echo_items 128 ident seq_no d
 message_items (echo_reply ident seq_no d) bytes = echo_items 129 ident seq_no d
-message_items (unreachable reason quoted d) bytes = unread_items bytes
-message_items (too_big mtu quoted d) bytes = unread_items bytes
-message_items (time_exceeded reason quoted d) bytes = unread_items bytes
-message_items (param_problem reason pointer quoted d) bytes = unread_items bytes
-message_items (ndisc message) bytes = unread_items bytes
-message_items (mld message) bytes = unread_items bytes
+message_items (unreachable reason quoted d) bytes = unread_items true bytes
+message_items (too_big mtu quoted d) bytes = unread_items true bytes
+message_items (time_exceeded reason quoted d) bytes = unread_items true bytes
+message_items (param_problem reason pointer quoted d) bytes = unread_items true bytes
+message_items (ndisc message) bytes = unread_items true bytes
+message_items (mld message) bytes = unread_items true bytes
 
 -- ---- errors
 

@@ -31,15 +31,20 @@ mod place {
     pub const FLAGS: Field = 7..8;
 }
 
-// Prints a request, and the interface that is asked for.
-pub(crate) fn show_request<W: Write>(output: &mut W, form: Form, message: &[u8]) -> io::Result<()>
+// Prints a request, whole or cut, and the interface that is asked for.
+pub(crate) fn show_request<W: Write>(
+    output: &mut W,
+    form: Form,
+    message: &[u8],
+    is_whole: bool,
+) -> io::Result<()>
     requires { 8 ≤ length message.now }
     ensures { OnOk result (Prints form (W.contents output.old) (W.contents output.new)
-        (request_items message.now)) }
+        (request_items is_whole message.now)) }
 {
     let (_, structure) = message.split_at(HEADER_END);
     show_request_fields(output, form, message)?;
-    show_structure(output, form, structure)
+    show_structure(output, form, structure, is_whole)
 }
 
 fn show_request_fields<W: Write>(output: &mut W, form: Form, message: &[u8]) -> io::Result<()>

@@ -93,8 +93,8 @@ fn show_structure<W: Write>(
     show_list(output, form, inside)
 }
 
-// Why a structure is refused, where it is; for its checksum only where the message is whole.
-fn wrong_header(octets: &[u8], is_whole: bool) -> Option<StructureRefusal>
+/// Why a structure is refused, where it is; for its checksum only where the message is whole.
+pub(crate) fn wrong_header(octets: &[u8], is_whole: bool) -> Option<StructureRefusal>
     ensures { HeaderTold is_whole octets.now result }
 {
     match structure::parse(octets) {

@@ -67,54 +67,69 @@ pub fn show_message<W: Write>(
             seq_no,
             data,
         } => show_echo(output, form, ECHO_REPLY, *ident, *seq_no, data),
-        _ => show_unread(output, form, octets),
+        _ => show_unread(output, form, octets, true),
     }
 }
 
 /// Prints a message of any type, which need not be known: its type, its code, and of node information (RFC 4620) and of
 /// an extended echo (RFC 8335) its fields; of others, and of those that are refused, the octets behind the checksum.
 /// Of an answer that ends within an address what there is. All octets where they are fewer than 4.
-pub fn show_unread<W: Write>(output: &mut W, form: Form, octets: &[u8]) -> io::Result<()>
+pub fn show_unread<W: Write>(
+    output: &mut W,
+    form: Form,
+    octets: &[u8],
+    is_whole: bool,
+) -> io::Result<()>
     ensures { OnOk result (Prints form (W.contents output.old) (W.contents output.new)
-        (unread_items octets.now)) }
+        (unread_items is_whole octets.now)) }
 {
     if octets.len() < CHECKSUM_END {
         show_rest(output, form, octets)
     } else {
-        show_typed(output, form, octets)
+        show_typed(output, form, octets, is_whole)
     }
 }
 
-fn show_typed<W: Write>(output: &mut W, form: Form, octets: &[u8]) -> io::Result<()>
+fn show_typed<W: Write>(output: &mut W, form: Form, octets: &[u8], is_whole: bool) -> io::Result<()>
     requires { 4 ≤ length octets.now }
     ensures { OnOk result (Prints form (W.contents output.old) (W.contents output.new)
-        (typed_items octets.now)) }
+        (typed_items is_whole octets.now)) }
 {
     show_head(output, form, octets.u8_at(TYPE), octets.u8_at(CODE))?;
-    show_behind(output, form, octets)
+    show_behind(output, form, octets, is_whole)
 }
 
 // Prints what follows the checksum.
-fn show_behind<W: Write>(output: &mut W, form: Form, octets: &[u8]) -> io::Result<()>
+fn show_behind<W: Write>(
+    output: &mut W,
+    form: Form,
+    octets: &[u8],
+    is_whole: bool,
+) -> io::Result<()>
     requires { 4 ≤ length octets.now }
     ensures { OnOk result (Prints form (W.contents output.old) (W.contents output.new)
-        (behind_items octets.now)) }
+        (behind_items is_whole octets.now)) }
 {
     if octets.len() < HEADER_END {
         return show_behind_checksum(output, form, octets);
     }
-    show_told_or_refused(output, form, octets)
+    show_told_or_refused(output, form, octets, is_whole)
 }
 
-fn show_told_or_refused<W: Write>(output: &mut W, form: Form, octets: &[u8]) -> io::Result<()>
+fn show_told_or_refused<W: Write>(
+    output: &mut W,
+    form: Form,
+    octets: &[u8],
+    is_whole: bool,
+) -> io::Result<()>
     requires { 8 ≤ length octets.now }
     ensures { OnOk result (Prints form (W.contents output.old) (W.contents output.new)
-        (told_or_refused (refusal octets.now) octets.now)) }
+        (told_or_refused (refusal octets.now) is_whole octets.now)) }
 {
     match refusal(octets) {
-        None => show_by_type(output, form, octets),
+        None => show_by_type(output, form, octets, is_whole),
         Some(Refusal::Cut) => {
-            show_by_type(output, form, octets)?;
+            show_by_type(output, form, octets, is_whole)?;
             field(output, form, "refused", Refusal::Cut)
         }
         Some(why) => show_refused(output, form, octets, why),
@@ -161,16 +176,21 @@ fn is_told(type_: u8) -> bool
 }
 
 // Prints a message that has its fields: these, or of another type its octets.
-fn show_by_type<W: Write>(output: &mut W, form: Form, octets: &[u8]) -> io::Result<()>
+fn show_by_type<W: Write>(
+    output: &mut W,
+    form: Form,
+    octets: &[u8],
+    is_whole: bool,
+) -> io::Result<()>
     requires long { 8 ≤ length octets.now }
     requires right { has_fields (refusal octets.now) ≡ true }
     ensures { OnOk result (Prints form (W.contents output.old) (W.contents output.new)
-        (told_items octets.now)) }
+        (told_items is_whole octets.now)) }
 {
     match octets[0] {
         NODE_INFORMATION_QUERY => node_information::show_query(output, form, octets),
         NODE_INFORMATION_RESPONSE => node_information::show_reply(output, form, octets),
-        EXTENDED_ECHO_REQUEST => extended_echo::show_request(output, form, octets),
+        EXTENDED_ECHO_REQUEST => extended_echo::show_request(output, form, octets, is_whole),
         EXTENDED_ECHO_REPLY => extended_echo::show_reply(output, form, octets),
         _ => show_behind_checksum(output, form, octets),
     }

@@ -57,7 +57,7 @@ abbrev pub Icmp4Is : Bool → List ℕ → List Item → Option Refusal → Type
 Icmp4Is is_whole octets =
     Reads (icmp4.IsMessage (all_of checksum.None) octets) (Icmp4Are is_whole octets)
     (icmp4.Refuses (all_of checksum.None) octets) refusal.Icmp4 (fields4.told octets)
-    (fields4.unread_items octets)
+    (fields4.unread_items is_whole octets)
 
 -- a message that has less than it takes or counts
 abbrev pub refusal_of : Option Lack → Option Refusal
@@ -127,7 +127,7 @@ abbrev pub OthersAre : Bool → Ipv6Address → Ipv6Address → List ℕ → Lis
 OthersAre is_whole source destination octets =
     Reads (icmp6.IsMessage source destination (all_of checksum.None) octets) (Icmp6Are is_whole octets)
     (icmp6.Refuses source destination (all_of checksum.None) octets) refusal.Icmp6 (fields6.told octets)
-    (fields6.unread_items octets)
+    (fields6.unread_items is_whole octets)
 
 -- By its type: a message of multicast listeners, one of neighbor discovery, or another.
 pub data Icmp6Is (is_whole : Bool) (source destination : Ipv6Address) (octets : List ℕ) (items : List Item)

@@ -50,7 +50,7 @@ pub(crate) fn show_icmp4<W: Write>(
         }
         Err(refusal) => {
             let refusal = Refusal::Icmp4(refusal);
-            icmp4::show_unread(output, form, octets)?;
+            icmp4::show_unread(output, form, octets, is_whole)?;
             show_mistake(output, form, alloc, &refusal)?;
             Ok(unless_told(refusal, icmp4::told(octets)))
         }
@@ -275,7 +275,7 @@ fn show_others<W: Write>(
         }
         Err(refusal) => {
             let refusal = Refusal::Icmp6(refusal);
-            icmp6::show_unread(output, form, octets)?;
+            icmp6::show_unread(output, form, octets, is_whole)?;
             show_mistake(output, form, alloc, &refusal)?;
             Ok(unless_told(refusal, icmp6::told(octets)))
         }

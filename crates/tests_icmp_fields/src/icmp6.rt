@@ -122,7 +122,7 @@ fn messages_of_other_types_by_their_octets(rt: HostRuntime) {
         holds_of(
             &rt,
             octets,
-            show_unread(&mut output, Form::Lines, octets).is_ok(),
+            show_unread(&mut output, Form::Lines, octets, true).is_ok(),
         );
         same_of(&rt, want, output.as_slice(), want.as_bytes());
     }

@@ -7,14 +7,14 @@ use packet_fields::Form;
 use std::alloc::Global;
 use std::process::Abort;
 
-// What a request prints last whose structure this is, in lines.
-fn structure_ends(rt: &impl Abort, alloc: Global, structure: &[u8], want: &str) {
+// What a request, whole or cut, prints last whose structure this is, in lines.
+fn structure_ends(rt: &impl Abort, alloc: Global, is_whole: bool, structure: &[u8], want: &str) {
     let mut octets = [0; 40];
     let end = 8 + structure.len().min(32);
     octets[0] = 42;
     octets[8..end].copy_from_slice(&structure[..end - 8]);
     let mut output = Vec::new(alloc);
-    let shown = show_unread(&mut output, Form::Lines, &octets[..end]);
+    let shown = show_unread(&mut output, Form::Lines, &octets[..end], is_whole);
     holds_of(rt, want, shown.is_ok());
     holds_of(rt, want, output.as_slice().ends_with(want.as_bytes()));
 }
@@ -47,7 +47,7 @@ fn interfaces_by_name_and_by_index(rt: HostRuntime) {
         (&[0x20, 0, 0, 0, 0, 4, 3, 1], "  interface_name=\n"),
     ];
     for &(structure, want) in rows {
-        structure_ends(&rt, rt.alloc(), structure, want);
+        structure_ends(&rt, rt.alloc(), true, structure, want);
     }
 }
 
@@ -97,7 +97,7 @@ fn interfaces_by_address(rt: HostRuntime) {
         ),
     ];
     for &(structure, want) in rows {
-        structure_ends(&rt, rt.alloc(), structure, want);
+        structure_ends(&rt, rt.alloc(), true, structure, want);
     }
 }
 
@@ -129,7 +129,7 @@ fn octets_behind_an_address(rt: HostRuntime) {
         ),
     ];
     for &(structure, want) in rows {
-        structure_ends(&rt, rt.alloc(), structure, want);
+        structure_ends(&rt, rt.alloc(), true, structure, want);
     }
 }
 
@@ -182,7 +182,33 @@ fn structures_that_are_refused(rt: HostRuntime) {
         ),
     ];
     for &(structure, want) in rows {
-        structure_ends(&rt, rt.alloc(), structure, want);
+        structure_ends(&rt, rt.alloc(), true, structure, want);
+    }
+}
+
+// Of a request that the capture cut the checksum is not verified.
+#[test]
+fn cut_structures(rt: HostRuntime) {
+    let rows: &[(&[u8], &str)] = &[
+        (
+            &[0x20, 0, 0, 1, 0, 8, 3, 2, 0, 0, 1, 0],
+            "  local=false\n  interface_index=256\n",
+        ),
+        (
+            &[0x20, 0, 0, 1, 0, 8, 3, 2, 0, 0, 1],
+            "  data=2000000100080302000001\n  data_refused=the object is cut\n",
+        ),
+        (
+            &[0x20, 0, 0],
+            "  data=200000\n  data_refused=the header of the extensions is cut\n",
+        ),
+        (
+            &[0x10, 0, 0, 1, 0, 8, 3, 2, 0, 0, 1, 0],
+            "  data_refused=the extensions are of version 1\n",
+        ),
+    ];
+    for &(structure, want) in rows {
+        structure_ends(&rt, rt.alloc(), false, structure, want);
     }
 }
 

@@ -14,9 +14,10 @@ ghost use Rattle.icmp_fields.specs.ExtendedEcho.{unread_structure, wrong_address
 ghost use Rattle.icmp_fields.specs.Names.{name_in};
 
 use crate::extensions::words::{Why, Word};
+use crate::extensions::wrong_header;
 use crate::icmp::show_additional;
 use crate::texts::{Name, trimmed};
-use extension_wire::{Object, structure};
+use extension_wire::Object;
 use packet_fields::Form;
 use packet_fields::field::{field, named};
 use packet_fields::texts::Address;
@@ -68,13 +69,14 @@ pub(super) fn show_structure<W: Write>(
     output: &mut W,
     form: Form,
     structure: &[u8],
+    is_whole: bool,
 ) -> io::Result<()>
     ensures { OnOk result (Prints form (W.contents output.old) (W.contents output.new)
-        (structure_items structure.now)) }
+        (structure_items is_whole structure.now)) }
 {
-    match structure::parse(structure) {
-        Ok(_) => show_inside(output, form, structure),
-        Err(refusal) => show_unread(output, form, structure, Word(Why::Structure(refusal))),
+    match wrong_header(structure, is_whole) {
+        Some(refusal) => show_unread(output, form, structure, Word(Why::Structure(refusal))),
+        None => show_inside(output, form, structure),
     }
 }
 

@@ -24,11 +24,16 @@ mod place {
     pub const FLAGS: Field = 7..8;
 }
 
-// Prints a request, and the interface that is asked for.
-pub(crate) fn show_request<W: Write>(output: &mut W, form: Form, message: &[u8]) -> io::Result<()> {
+// Prints a request, whole or cut, and the interface that is asked for.
+pub(crate) fn show_request<W: Write>(
+    output: &mut W,
+    form: Form,
+    message: &[u8],
+    is_whole: bool,
+) -> io::Result<()> {
     let (_, structure) = message.split_at(HEADER_END);
     show_request_fields(output, form, message)?;
-    show_structure(output, form, structure)
+    show_structure(output, form, structure, is_whole)
 }
 
 fn show_request_fields<W: Write>(output: &mut W, form: Form, message: &[u8]) -> io::Result<()> {

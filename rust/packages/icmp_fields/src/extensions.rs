@@ -70,8 +70,8 @@ fn show_structure<W: Write>(
     show_list(output, form, inside)
 }
 
-// Why a structure is refused, where it is; for its checksum only where the message is whole.
-fn wrong_header(octets: &[u8], is_whole: bool) -> Option<StructureRefusal> {
+/// Why a structure is refused, where it is; for its checksum only where the message is whole.
+pub(crate) fn wrong_header(octets: &[u8], is_whole: bool) -> Option<StructureRefusal> {
     match structure::parse(octets) {
         Err(refusal) if is_whole || refusal != StructureRefusal::Checksum => Some(refusal),
         _ => None,

@@ -61,7 +61,7 @@ pub fn show_message<W: Write>(
             data,
         } => show_echo(output, form, ECHO_REPLY, ident, seq_no, data),
         icmpv4::Repr::DstUnreachable { .. } | icmpv4::Repr::TimeExceeded { .. } => {
-            show_unread(output, form, octets)
+            show_unread(output, form, octets, true)
         }
         _ => unreachable!(),
     }
@@ -71,32 +71,52 @@ pub fn show_message<W: Write>(
 /// mask (RFC 950), a router solicitation or advertisement (RFC 1256) and an extended echo (RFC 8335) its fields; of
 /// others, and of those that are refused, the octets behind the checksum. Of an advertisement that ends within its
 /// routers what there is. All octets where they are fewer than 4.
-pub fn show_unread<W: Write>(output: &mut W, form: Form, octets: &[u8]) -> io::Result<()> {
+pub fn show_unread<W: Write>(
+    output: &mut W,
+    form: Form,
+    octets: &[u8],
+    is_whole: bool,
+) -> io::Result<()> {
     if octets.len() < CHECKSUM_END {
         show_rest(output, form, octets)
     } else {
-        show_typed(output, form, octets)
+        show_typed(output, form, octets, is_whole)
     }
 }
 
-fn show_typed<W: Write>(output: &mut W, form: Form, octets: &[u8]) -> io::Result<()> {
+fn show_typed<W: Write>(
+    output: &mut W,
+    form: Form,
+    octets: &[u8],
+    is_whole: bool,
+) -> io::Result<()> {
     show_head(output, form, octets.u8_at(TYPE), octets.u8_at(CODE))?;
-    show_behind(output, form, octets)
+    show_behind(output, form, octets, is_whole)
 }
 
 // Prints what follows the checksum.
-fn show_behind<W: Write>(output: &mut W, form: Form, octets: &[u8]) -> io::Result<()> {
+fn show_behind<W: Write>(
+    output: &mut W,
+    form: Form,
+    octets: &[u8],
+    is_whole: bool,
+) -> io::Result<()> {
     if octets.len() < HEADER_END {
         return show_behind_checksum(output, form, octets);
     }
-    show_told_or_refused(output, form, octets)
+    show_told_or_refused(output, form, octets, is_whole)
 }
 
-fn show_told_or_refused<W: Write>(output: &mut W, form: Form, octets: &[u8]) -> io::Result<()> {
+fn show_told_or_refused<W: Write>(
+    output: &mut W,
+    form: Form,
+    octets: &[u8],
+    is_whole: bool,
+) -> io::Result<()> {
     match refusal(octets) {
-        None => show_by_type(output, form, octets),
+        None => show_by_type(output, form, octets, is_whole),
         Some(Refusal::Cut) => {
-            show_by_type(output, form, octets)?;
+            show_by_type(output, form, octets, is_whole)?;
             field(output, form, "refused", Refusal::Cut)
         }
         Some(why) => show_refused(output, form, octets, why),
@@ -142,13 +162,18 @@ fn is_told(type_: u8) -> bool {
 }
 
 // Prints a message that has its fields: these, or of another type its octets.
-fn show_by_type<W: Write>(output: &mut W, form: Form, octets: &[u8]) -> io::Result<()> {
+fn show_by_type<W: Write>(
+    output: &mut W,
+    form: Form,
+    octets: &[u8],
+    is_whole: bool,
+) -> io::Result<()> {
     match octets[0] {
         TIMESTAMP | TIMESTAMP_REPLY => queries::show_timestamp(output, form, octets),
         ADDRESS_MASK_REQUEST | ADDRESS_MASK_REPLY => queries::show_mask(output, form, octets),
         ROUTER_SOLICITATION => show_additional(output, form, &octets[HEADER_END..]),
         ROUTER_ADVERTISEMENT => queries::show_advertisement(output, form, octets),
-        EXTENDED_ECHO_REQUEST => extended_echo::show_request(output, form, octets),
+        EXTENDED_ECHO_REQUEST => extended_echo::show_request(output, form, octets, is_whole),
         EXTENDED_ECHO_REPLY => extended_echo::show_reply(output, form, octets),
         _ => show_behind_checksum(output, form, octets),
     }

@@ -2,10 +2,11 @@
 //! The interface that a request asks for: the object of its extension structure (RFC 8335 section 2.1).
 
 use crate::extensions::words::{Why, Word};
+use crate::extensions::wrong_header;
 use crate::icmp::show_additional;
 use crate::texts::{Name, trimmed};
 use control_wire::Octets;
-use control_wire::extensions::{Object, structure};
+use control_wire::extensions::Object;
 use packet_fields::Form;
 use packet_fields::field::{field, named};
 use packet_fields::texts::Address;
@@ -56,10 +57,11 @@ pub(super) fn show_structure<W: Write>(
     output: &mut W,
     form: Form,
     structure: &[u8],
+    is_whole: bool,
 ) -> io::Result<()> {
-    match structure::parse(structure) {
-        Ok(_) => show_inside(output, form, structure),
-        Err(refusal) => show_unread(output, form, structure, Word(Why::Structure(refusal))),
+    match wrong_header(structure, is_whole) {
+        Some(refusal) => show_unread(output, form, structure, Word(Why::Structure(refusal))),
+        None => show_inside(output, form, structure),
     }
 }
 

@@ -324,7 +324,7 @@ fn messages_of_other_types_by_their_octets() {
         let mut output = Vec::new();
         holds_of(
             octets,
-            show_unread(&mut output, Form::Lines, octets).is_ok(),
+            show_unread(&mut output, Form::Lines, octets, true).is_ok(),
         );
         same_of(want, output.as_slice(), want.as_bytes());
     }

@@ -186,9 +186,9 @@ const NODE_ANSWER_JSON: &str = ",\"type\":140,\"type_name\":\"node_information_r
 fn listing(form: Form, is_v6: bool, octets: &[u8]) -> Vec<u8> {
     let mut output = Vec::new();
     let shown = if is_v6 {
-        icmp6::show_unread(&mut output, form, octets)
+        icmp6::show_unread(&mut output, form, octets, true)
     } else {
-        icmp4::show_unread(&mut output, form, octets)
+        icmp4::show_unread(&mut output, form, octets, true)
     };
     holds_of(octets, shown.is_ok());
     output
