@@ -1,10 +1,21 @@
 -- What the headers that extend IPv6 lead to in a quote, which may end within them (RFC 8200 section 4).
 use Rattle.std.specs.Prelude.{◌≡◌, ◌≢◌, ◌⊎◌, ◌≤◌, ◌<◌, ◌/◌, List, None, Option, Some, ℕ, drop, length, slice_index}
+use Rattle.std.specs.Prelude.{take, zero}
 use Rattle.wirebase.specs.Bytes.{field, number_of}
 use Rattle.wirebase.specs.Ip.{protocol_of}
 use Rattle.wirebase.specs.declared.ip.IpProtocol.{IpProtocol}
 use Rattle.frame_wire.specs.DatagramHeaders.{IsExtension, HasExtension, extension_end}
+use Rattle.quote_wire.specs.declared.quote.Ipv6Quote.{Ipv6Quote}
 use Rattle.quote_wire.specs.declared.quote.upper.Upper.{Upper}
+
+-- what is quoted of the packet's own payload: zeros may fill the quote up behind it (RFC 4884 section 4). A length of 0
+-- before hop-by-hop options is that of a jumbogram, which is longer than any quote (RFC 2675 section 2).
+abbrev pub own_part : ℕ → IpProtocol → List ℕ → List ℕ
+own_part zero IpProtocol.HopByHop payload = payload
+own_part len next_header payload = take len payload
+
+abbrev pub own_payload : Ipv6Quote → List ℕ
+own_payload q = own_part q.payload_len q.next_header q.payload.now
 
 -- the protocol that they lead to, and the bytes from its header on
 pub record UpperValue : Type 0 where

@@ -17,14 +17,16 @@ const LEAST_HEADER: usize = 8;
 pub struct Upper<'a> {
     /// The protocol: the first that is no extension header that is passed.
     pub protocol: IpProtocol,
-    /// The octets of its header, as far as they are quoted, and all that follows it.
+    /// The octets of its header and what follows it in the packet, as far as they are quoted.
     pub octets: &'a [u8],
 }
 
 impl<'a> Ipv6Quote<'a> {
     /// What the packet has behind its extension headers: the hop-by-hop and destination options, the routing headers
     /// and the header of a first fragment are passed. None where one of these is cut, and behind the header of a later
-    /// fragment, which begins within the payload.
+    /// fragment, which begins within the payload. Of `payload` at most `payload_len` bytes are read: those behind them
+    /// are not the packet's, such as the zeros that fill a quote up to 128 bytes (RFC 4884 section 4). All are read
+    /// where it is 0 before hop-by-hop options, since a jumbogram is longer than any quote (RFC 2675 section 2).
     ///
     /// ```
     /// use control_wire::quotes::quote::Ipv6Quote;
@@ -38,10 +40,23 @@ impl<'a> Ipv6Quote<'a> {
     /// assert_eq!(quote.next_header, IpProtocol::Ipv6Frag);
     /// let upper = quote.upper().unwrap();
     /// assert_eq!((upper.protocol, upper.octets), (IpProtocol::Udp, &quoted[48..]));
+    ///
+    /// // A payload of 2 bytes, and zeros behind it: no header of UDP.
+    /// let quote = Ipv6Quote { payload_len: 2, next_header: IpProtocol::Udp, ..quote };
+    /// assert_eq!(quote.upper().unwrap().octets.len(), 2);
     /// # Ok::<(), control_wire::Error>(())
     /// ```
     pub fn upper(&self) -> Option<Upper<'a>> {
-        lead(self.next_header, self.payload)
+        lead(self.next_header, self.own_payload())
+    }
+
+    // The quoted part of the packet's own payload.
+    fn own_payload(&self) -> &'a [u8] {
+        if self.payload_len == 0 && self.next_header == IpProtocol::HopByHop {
+            return self.payload;
+        }
+        let len = (self.payload_len as usize).min(self.payload.len());
+        &self.payload[..len]
     }
 }
 

@@ -110,28 +110,35 @@ fn upper_protocol_stands_behind_extension_headers() {
         43, 0, 1, 4, 0, 0, 0, 0, 44, 1, 4, 0, 0, 0, 0, 0, 0, 0, 0, 0, 0, 0, 0, 0, //
         17, 0, 0, 1, 0, 0, 0, 7, 0x9c, 0x40, 0, 53,
     ];
-    let rows: &[(IpProtocol, usize, usize, Option<(IpProtocol, usize)>)] = &[
-        (IpProtocol::HopByHop, 0, 36, Some((IpProtocol::Udp, 4))),
-        (IpProtocol::HopByHop, 0, 32, Some((IpProtocol::Udp, 0))),
-        (IpProtocol::HopByHop, 0, 31, None),
-        (IpProtocol::HopByHop, 0, 23, None),
-        (IpProtocol::HopByHop, 0, 7, None),
-        (IpProtocol::HopByHop, 0, 0, None),
-        (IpProtocol::Ipv6Frag, 24, 36, Some((IpProtocol::Udp, 4))),
+    let rows: &[(IpProtocol, u16, usize, usize, Option<(IpProtocol, usize)>)] = &[
+        (IpProtocol::HopByHop, 36, 0, 36, Some((IpProtocol::Udp, 4))),
+        (IpProtocol::HopByHop, 36, 0, 32, Some((IpProtocol::Udp, 0))),
+        (IpProtocol::HopByHop, 36, 0, 31, None),
+        (IpProtocol::HopByHop, 36, 0, 23, None),
+        (IpProtocol::HopByHop, 36, 0, 7, None),
+        (IpProtocol::HopByHop, 36, 0, 0, None),
+        // What stands behind the packet's own payload is not read.
+        (IpProtocol::HopByHop, 34, 0, 36, Some((IpProtocol::Udp, 2))),
+        (IpProtocol::HopByHop, 31, 0, 36, None),
+        (IpProtocol::Ipv6Opts, 0, 0, 36, None),
+        // A jumbogram (RFC 2675 section 2).
+        (IpProtocol::HopByHop, 0, 0, 36, Some((IpProtocol::Udp, 4))),
+        (IpProtocol::Ipv6Frag, 36, 24, 36, Some((IpProtocol::Udp, 4))),
         // A later fragment, whose offset is one unit.
-        (IpProtocol::Ipv6Frag, 0, 8, None),
+        (IpProtocol::Ipv6Frag, 36, 0, 8, None),
         (
             IpProtocol::Ipv6NoNxt,
+            36,
             0,
             8,
             Some((IpProtocol::Ipv6NoNxt, 8)),
         ),
     ];
-    for &(next_header, start, end, want) in rows {
+    for &(next_header, payload_len, start, end, want) in rows {
         let quote = Ipv6Quote {
             traffic_class: 0,
             flow_label: 0,
-            payload_len: 36,
+            payload_len,
             next_header,
             hop_limit: 64,
             src_addr: to(),
