@@ -55,8 +55,9 @@ def quote6(packet, room):
         "quoted_traffic_class": packet.number("ipv6.tclass", 1), "quoted_flow_label": packet.number("ipv6.flow", 1),
         "quoted_payload_len": packet.number("ipv6.plen", 1), "quoted_hop_limit": packet.number("ipv6.hlim", 1),
         "quoted_next_header": chain[0], "quoted_src_addr": packet.text("ipv6.src", 1),
-        "quoted_dst_addr": packet.text("ipv6.dst", 1), **quoted_ports(packet, chain[-1], is_first),
-        "quoted_payload": its_octets,
+        "quoted_dst_addr": packet.text("ipv6.dst", 1),
+        **({"quoted_protocol": chain[-1]} if len(chain) > 1 and is_first else {}),
+        **quoted_ports(packet, chain[-1], is_first), "quoted_payload": its_octets,
     }
 
 

@@ -1,7 +1,7 @@
 """Messages of ICMPv4 (RFC 792) and ICMPv6 (RFC 4443) but for those of neighbors and listeners, as items."""
 from extensions import divided
 from frames import Refused
-from ip import EXTENSIONS, FRAGMENT, TCP, UDP, extension_len
+from ip import EXTENSIONS, FRAGMENT, HOP_BY_HOP, TCP, UDP, extension_len
 from items import Field, named
 from neighbors import lacking
 from queries import QUERIES4, QUERIES6
@@ -84,16 +84,18 @@ def quote4(quote):
 
 def header4(quote):
     """A header (RFC 791 section 3.1), and what stands behind it."""
-    flags, payload = be(quote[6:8]), quote[header_len4(quote):]
-    offset = flags % 0x2000 * 8
+    flags, total, length = be(quote[6:8]), be(quote[2:4]), header_len4(quote)
+    payload, offset = quote[length:], flags % 0x2000 * 8
+    # A total length that leaves no room for the header is none.
+    own = payload if total < length else payload[:total - length]
     return quoted(
-        Field("type_of_service", quote[1]), Field("total_len", be(quote[2:4])), Field("ident", be(quote[4:6])),
+        Field("type_of_service", quote[1]), Field("total_len", total), Field("ident", be(quote[4:6])),
         Field("dont_frag", flags & 0x4000 > 0), Field("more_frags", flags & 0x2000 > 0), Field("frag_offset", offset),
         Field("hop_limit", quote[8]), named("next_header", quote[9], PROTOCOLS),
         Field("src_addr", dotted(quote[12:16])), Field("dst_addr", dotted(quote[16:20])),
         Field("options", quote[20:len(quote) - len(payload)]),
         # A later fragment does not begin with a header.
-        *ports_of(quote[9], b"" if offset else payload), Field("payload", payload))
+        *ports_of(quote[9], b"" if offset else own), Field("payload", payload))
 
 
 def header_len4(quote):
@@ -128,11 +130,16 @@ def quote6(quote):
         raise Refused("quote", QUOTE_CUT)
     if quote[0] >> 4 != 6:
         raise Refused("quote", "the quoted header is of version %d" % (quote[0] >> 4))
+    # What is quoted behind the packet itself is padding (RFC 4884 section 4); of a jumbogram nothing is.
+    length = be(quote[4:6])
+    protocol, its_octets = upper(quote[6], quote[40:] if (length, quote[6]) == (0, HOP_BY_HOP) else
+                                 quote[40:40 + length])
     return quoted(
         Field("traffic_class", be(quote[0:2]) >> 4 & 0xFF), Field("flow_label", be(quote[0:4]) % 2 ** 20),
-        Field("payload_len", be(quote[4:6])), Field("hop_limit", quote[7]), named("next_header", quote[6], PROTOCOLS),
+        Field("payload_len", length), Field("hop_limit", quote[7]), named("next_header", quote[6], PROTOCOLS),
         Field("src_addr", colons(quote[8:24])), Field("dst_addr", colons(quote[24:40])),
-        *ports_of(*upper(quote[6], quote[40:])), Field("payload", quote[40:]))
+        *([] if protocol in (None, quote[6]) else [named("protocol", protocol, PROTOCOLS)]),
+        *ports_of(protocol, its_octets), Field("payload", quote[40:]))
 
 
 def upper(protocol, octets):

@@ -110,9 +110,10 @@ def quoting(payload, protocol):
 
 CHAIN = (header(ROUTE, ALERT) + header(OPTIONS, hexed("04 00 00000000") + SERVER6) + header(FRAGMENT, PAD + PAD[:2]
          + b"\0" * 6) + fragment(TCP, 0, 1) + UDP_HEADER)
+BEHIND_OPTIONS = header(UDP) + UDP_HEADER
 
 QUOTES = {
-    "icmp6_quote_of_options": raw(quoting(header(UDP) + UDP_HEADER, OPTIONS), quoting(header(UDP)[:7], HOP)),
+    "icmp6_quote_of_options": raw(quoting(BEHIND_OPTIONS, OPTIONS), quoting(header(UDP)[:7], HOP)),
     "icmp6_quote_of_headers": raw(quoting(CHAIN, HOP)),
     "icmp6_quote_of_cut_headers": raw(*(quoting(CHAIN[:length], HOP) for length in (7, 31, 47, 55, 59))),
     "icmp6_quote_of_fragments": raw(
@@ -122,7 +123,19 @@ QUOTES = {
                                          quoting(header(51) + UDP_HEADER, OPTIONS),
                                          quoting(header(ICMP6) + UDP_HEADER, OPTIONS)),
     "icmp6_quote_of_options_with_labels": error6(
-        3, 0, structure(LABELS), ip6(header(UDP) + UDP_HEADER, OPTIONS, HOST6, SERVER6).ljust(128, b"\0")),
+        3, 0, structure(LABELS), ip6(BEHIND_OPTIONS, OPTIONS, HOST6, SERVER6).ljust(128, b"\0")),
+    # Of less than a header of UDP, with zeros behind it (RFC 4884 section 4), and of other lengths.
+    "icmp4_quote_of_a_padded_datagram": error4(11, 0, structure(LABELS), ip4(b"\1\2", UDP).ljust(128, b"\0")),
+    "icmp4_quotes_of_other_lengths": raw(*(
+        icmp4(11, 0, b"\0" * 4, ip4(UDP_HEADER, UDP, options=options, total=total)) for options in (b"", b"\1" * 4)
+        for total in (0, 19, 20, 23, 24, 27, 28))),
+    "icmp6_quote_of_a_padded_packet": error6(
+        3, 0, structure(LABELS), ip6(header(UDP) + b"\1\2", OPTIONS).ljust(128, b"\0")),
+    "icmp6_quotes_of_other_lengths": raw(*(
+        ip6_icmp6(3, 0, b"\0" * 4, ip6(payload, protocol, length=length))
+        for payload, protocol, lengths in ((UDP_HEADER, UDP, (0, 3, 4)), (BEHIND_OPTIONS, OPTIONS, (0, 7, 11, 12)),
+                                           (BEHIND_OPTIONS, HOP, (0, 11)))
+        for length in lengths)),
 }
 EXTENSIONS.update(QUOTES)
 

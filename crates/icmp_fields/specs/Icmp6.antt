@@ -9,7 +9,7 @@ use Rattle.extension_wire.specs.declared.family.Family.{Family}
 use Rattle.quote_wire.specs.Error.{ErrorValue}
 use Rattle.quote_wire.specs.Icmpv6Error.{kind_number, length_in}
 use Rattle.quote_wire.specs.Quote.{IsIpv6Quote}
-use Rattle.quote_wire.specs.Upper.{LeadsTo, UpperValue}
+use Rattle.quote_wire.specs.Upper.{LeadsTo, UpperValue, own_payload}
 use Rattle.quote_wire.specs.declared.icmpv6_error.Kind.{Kind}
 use Rattle.quote_wire.specs.declared.quote.Ipv6Quote.{Ipv6Quote}
 use Rattle.packet_fields.specs.Fields.{Item, field, number}
@@ -115,7 +115,7 @@ pub record AreErrorItems (is_whole : Bool) (v : ErrorValue Kind) (items : List I
   pub quote : Ipv6Quote
   pub quotes : IsIpv6Quote (quoted_in division v.quoted) quote
   pub upper : Option UpperValue
-  pub leads : LeadsTo quote.next_header quote.payload.now upper
+  pub leads : LeadsTo quote.next_header (own_payload quote) upper
   pub behind : List Item
   pub extensions : AreBehind is_whole division behind
   pub items_are : items ≡ error_items v quote upper ++ behind

@@ -8,7 +8,7 @@ ghost use Rattle.quote_wire.specs.Upper.{value_of as upper_of};
 ghost use Rattle.packet_fields.specs.Prints.{Prints};
 ghost use Rattle.icmp_fields.specs.Quote.{protocol_item, port_items, ports_items, fragment_items, ipv4_path_items};
 ghost use Rattle.icmp_fields.specs.Quote.{ipv4_ports, ipv4_quote_items, flow_items, ipv6_path_items, ipv6_quote_items};
-ghost use Rattle.icmp_fields.specs.Quote.{upper_ports};
+ghost use Rattle.icmp_fields.specs.Quote.{other_items, other_protocol, own_payload, upper_ports};
 
 use crate::protocol_names::protocol_name;
 use packet_fields::Form;
@@ -18,6 +18,9 @@ use quote_wire::quote::{Ipv4Quote, Ipv6Quote, Upper};
 use std::io;
 use std::io::Write;
 use wirebase::IpProtocol;
+
+// The bytes of an IPv4 header without options (RFC 791 section 3.1).
+const FIXED_LEN: usize = 20;
 
 /// Prints what an ICMPv4 error quotes (RFC 792): the fields of the datagram's header, and all that follows it.
 pub fn show_ipv4_quote<W: Write>(
@@ -57,7 +60,7 @@ fn show_ipv4_path<W: Write>(output: &mut W, form: Form, quote: &Ipv4Quote<'_>) -
         (ipv4_path_items quote.now)) }
 {
     field(output, form, "quoted_hop_limit", quote.hop_limit)?;
-    show_protocol(output, form, quote.next_header)?;
+    show_protocol(output, form, "quoted_next_header", quote.next_header)?;
     field(output, form, "quoted_src_addr", quote.src_addr)?;
     field(output, form, "quoted_dst_addr", quote.dst_addr)
 }
@@ -66,15 +69,34 @@ fn show_ipv4_path<W: Write>(output: &mut W, form: Form, quote: &Ipv4Quote<'_>) -
 fn ipv4_ports_of(quote: &Ipv4Quote<'_>) -> Option<(u16, u16)>
     ensures { result ≡ ipv4_ports quote.now }
 {
-    if quote.frag_offset == 0 {
-        ports_of(quote.next_header, quote.payload)
-    } else {
-        None
+    if quote.frag_offset != 0 {
+        return None;
     }
+    let header_len = FIXED_LEN + quote.options.len();
+    ports_of(
+        quote.next_header,
+        own_payload(quote.total_len, header_len, quote.payload),
+    )
 }
 
-/// Prints what an ICMPv6 error quotes (RFC 4443 section 3): the fields of the packet's header, the ports behind its
-/// extension headers, which lead to `upper`, and all that follows the header.
+/// Of what is quoted behind an IPv4 header, the octets of the datagram's own payload, by its total length and its
+/// header's in bytes: zeros may fill the quote up behind them (RFC 4884 section 4). All of it where the total length is
+/// below the header's.
+#[tactic(auto, using(std::proofs::lemmas::List::take_min))]
+pub fn own_payload(total_len: u16, header_len: usize, payload: &[u8]) -> &[u8]
+    ensures { result.now ≡ own_payload total_len header_len payload.now }
+{
+    let total_len = total_len as usize;
+    if header_len <= total_len {
+        let len = (total_len - header_len).min(payload.len());
+        return &payload[..len];
+    }
+    payload
+}
+
+/// Prints what an ICMPv6 error quotes (RFC 4443 section 3): the fields of the packet's header, the protocol that its
+/// extension headers lead to, where it has some, and the ports behind them, which are those of `upper`, and all that
+/// follows the header.
 pub fn show_ipv6_quote<W: Write>(
     output: &mut W,
     form: Form,
@@ -86,8 +108,30 @@ pub fn show_ipv6_quote<W: Write>(
 {
     show_flow(output, form, quote)?;
     show_ipv6_path(output, form, quote)?;
+    show_other(output, form, other_protocol(quote.next_header, upper))?;
     show_ports(output, form, upper_ports(upper))?;
     field(output, form, "quoted_payload", quote.payload)
+}
+
+// The protocol that the extension headers lead to, where it is another than the first.
+fn other_protocol(first: IpProtocol, upper: Option<Upper<'_>>) -> Option<IpProtocol>
+    ensures { result ≡ other_protocol first (option_map upper_of upper.entry) }
+{
+    match upper {
+        Some(upper) if u8::from(upper.protocol) != u8::from(first) => Some(upper.protocol),
+        _ => None,
+    }
+}
+
+#[tactic(auto, using(packet_fields::proofs::Fields::prints_none))]
+fn show_other<W: Write>(output: &mut W, form: Form, protocol: Option<IpProtocol>) -> io::Result<()>
+    ensures { OnOk result (Prints form (W.contents output.old) (W.contents output.new)
+        (other_items protocol)) }
+{
+    match protocol {
+        Some(protocol) => show_protocol(output, form, "quoted_protocol", protocol),
+        None => Ok(()),
+    }
 }
 
 // The ports behind the extension headers.
@@ -114,20 +158,25 @@ fn show_ipv6_path<W: Write>(output: &mut W, form: Form, quote: &Ipv6Quote<'_>) -
         (ipv6_path_items quote.now)) }
 {
     field(output, form, "quoted_hop_limit", quote.hop_limit)?;
-    show_protocol(output, form, quote.next_header)?;
+    show_protocol(output, form, "quoted_next_header", quote.next_header)?;
     field(output, form, "quoted_src_addr", quote.src_addr)?;
     field(output, form, "quoted_dst_addr", quote.dst_addr)
 }
 
-fn show_protocol<W: Write>(output: &mut W, form: Form, protocol: IpProtocol) -> io::Result<()>
+fn show_protocol<W: Write>(
+    output: &mut W,
+    form: Form,
+    name: &str,
+    protocol: IpProtocol,
+) -> io::Result<()>
     ensures { OnOk result (Prints form (W.contents output.old) (W.contents output.new)
-        (protocol_item protocol ∷ [])) }
+        (protocol_item name.now protocol ∷ [])) }
 {
     let number = u8::from(protocol);
     named(
         output,
         form,
-        "quoted_next_header",
+        name,
         u64::from(number),
         protocol_name(protocol),
     )

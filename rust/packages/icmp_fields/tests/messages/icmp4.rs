@@ -114,6 +114,8 @@ const QUENCH_LINES: &str = "  type=4 (source_quench)
   quoted_payload=c001005001020304
 ";
 
+const QUENCH_END: &str = "  quoted_payload=c001005001020304\n";
+
 const QUENCH_JSON: &str = ",\"type\":4,\"type_name\":\"source_quench\",\"code\":0,\
     \"quoted_type_of_service\":16,\"quoted_total_len\":44,\"quoted_ident\":43981,\
     \"quoted_dont_frag\":false,\"quoted_more_frags\":false,\"quoted_frag_offset\":0,\
@@ -197,6 +199,28 @@ fn gateway_and_pointer_of_errors() {
         octets[4..8].copy_from_slice(&rest);
         let fields = listing(Form::Lines, &octets);
         holds_of((kind, code), fields.as_slice().starts_with(want));
+    }
+}
+
+#[test]
+fn ports_within_the_quoted_datagram() {
+    // The total length of a datagram with a header of 24 bytes: one that is too small for it bounds nothing.
+    let rows: &[(u8, &[u8])] = &[
+        (28, b"  quoted_src_port=49153\n  quoted_dst_port=80\n"),
+        (27, b"  quoted_src_port=none\n  quoted_dst_port=none\n"),
+        (24, b"  quoted_src_port=none\n  quoted_dst_port=none\n"),
+        (23, b"  quoted_src_port=49153\n  quoted_dst_port=80\n"),
+        (0, b"  quoted_src_port=49153\n  quoted_dst_port=80\n"),
+    ];
+    let mut octets = [0; 40];
+    octets.copy_from_slice(QUENCH);
+    for &(total_len, want) in rows {
+        octets[11] = total_len;
+        let fields = listing(Form::Lines, &octets);
+        let (front, _) = fields
+            .as_slice()
+            .split_at(fields.len().saturating_sub(QUENCH_END.len()));
+        holds_of(total_len, front.ends_with(want));
     }
 }
 

@@ -51,6 +51,37 @@ const PORT_UNREACHABLE_JSON: &str = ",\"type\":1,\"type_name\":\"destination_unr
     \"quoted_src_port\":50000,\"quoted_dst_port\":33435,\
     \"quoted_payload\":\"c350829b000abeef6869\"";
 
+// The same behind destination options of padding (RFC 8200 sections 4.2 and 4.6), and the end of what it prints.
+const BEHIND_OPTIONS: &[u8] = &[
+    0x01, 0x04, 0x00, 0x00, 0x00, 0x00, 0x00, 0x00, 0x60, 0x00, 0x00, 0x00, 0x00, 0x12, 0x3c, 0x40,
+    0x20, 0x01, 0x0d, 0xb8, 0x00, 0x00, 0x00, 0x00, 0x00, 0x00, 0x00, 0x00, 0x00, 0x00, 0x00, 0x01,
+    0x20, 0x01, 0x0d, 0xb8, 0x00, 0x00, 0x00, 0x00, 0x00, 0x00, 0x00, 0x00, 0x00, 0x00, 0x00, 0x02,
+    0x11, 0x00, 0x01, 0x04, 0x00, 0x00, 0x00, 0x00, 0xc3, 0x50, 0x82, 0x9b, 0x00, 0x0a, 0xbe, 0xef,
+    0x68, 0x69,
+];
+
+const BEHIND_OPTIONS_LINES: &str = "  quoted_next_header=60 (ipv6_opts)
+  quoted_src_addr=2001:db8::1
+  quoted_dst_addr=2001:db8::2
+  quoted_protocol=17 (udp)
+  quoted_src_port=50000
+  quoted_dst_port=33435
+  quoted_payload=1100010400000000c350829b000abeef6869
+";
+
+// Where the packet's own payload ends within the ports, and within the options.
+const WITHOUT_PORTS_LINES: &str = "  quoted_protocol=17 (udp)
+  quoted_src_port=none
+  quoted_dst_port=none
+  quoted_payload=1100010400000000c350829b000abeef6869
+";
+
+const WITHOUT_OPTIONS_LINES: &str = "  quoted_dst_addr=2001:db8::2
+  quoted_src_port=none
+  quoted_dst_port=none
+  quoted_payload=1100010400000000c350829b000abeef6869
+";
+
 // The fields of a message in either form; empty where the octets are none.
 fn listing(form: Form, octets: &[u8]) -> Vec<u8> {
     let mut output = Vec::new();
@@ -105,6 +136,25 @@ fn mtu_and_pointer_of_errors() {
         octets[1] = code;
         let fields = listing(Form::Lines, &octets);
         holds_of((kind, code), fields.as_slice().starts_with(want));
+    }
+}
+
+#[test]
+fn protocol_and_ports_behind_options_within_the_quoted_packet() {
+    // The packet's own length, and what its quote prints.
+    let rows: &[(u8, &str)] = &[
+        (18, BEHIND_OPTIONS_LINES),
+        (12, BEHIND_OPTIONS_LINES),
+        (11, WITHOUT_PORTS_LINES),
+        (8, WITHOUT_PORTS_LINES),
+        (7, WITHOUT_OPTIONS_LINES),
+    ];
+    let mut octets = [0; 66];
+    octets.copy_from_slice(BEHIND_OPTIONS);
+    for &(payload_len, want) in rows {
+        octets[13] = payload_len;
+        let fields = listing(Form::Lines, &octets);
+        holds_of(payload_len, fields.as_slice().ends_with(want.as_bytes()));
     }
 }
 
