@@ -1,5 +1,5 @@
 -- Why messages of types that are known are refused.
-use Rattle.std.specs.Prelude.{◌++◌, Bool, List, None, Option, Some, ℕ, codes, decimal, false, true}
+use Rattle.std.specs.Prelude.{◌++◌, List, ℕ, codes, decimal}
 use Rattle.icmp_fields.specs.declared.refusal.Refusal.{Refusal}
 use Rattle.icmp_fields.specs.declared.refusal.Refusal.TheVariants as refusal
 
@@ -15,9 +15,3 @@ refusal_text refusal.Length = codes "fewer bytes than a message of this type has
 refusal_text refusal.NoRouters = codes "an advertisement of no routers"
 refusal_text (refusal.EntrySize n) = size_text n
 refusal_text refusal.Cut = codes "the entries are cut short"
-
--- whether a message has its fields: it is not refused, or only since its entries are cut short
-abbrev pub has_fields : Option Refusal → Bool
-has_fields None = true
-has_fields (Some refusal.Cut) = true
-has_fields (Some _) = false

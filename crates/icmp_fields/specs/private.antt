@@ -1,3 +1,4 @@
 pub mod Entries
 pub mod Names
 pub mod Reasons
+pub mod Told

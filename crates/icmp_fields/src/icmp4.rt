@@ -9,7 +9,7 @@ ghost use Rattle.packet_fields.specs.Prints.{Prints, PrintsSome};
 ghost use Rattle.icmp_fields.specs.Icmp4.{head_items, echo_items, typed_items, unread_items, message_items};
 ghost use Rattle.icmp_fields.specs.Icmp4.{refusal, behind_items, told_or_refused, told_items, told, is_told};
 ghost use Rattle.icmp_fields.specs.Icmp4.{gateway_items, told_in_rest, error_items, AreErrorItems};
-ghost use Rattle.icmp_fields.specs.Refusal.{has_fields};
+ghost use Rattle.icmp_fields.specs.private.Told.{has_fields};
 
 use crate::extensions::{quoted_of, show_extensions};
 use crate::icmp::{

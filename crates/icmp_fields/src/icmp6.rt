@@ -11,7 +11,7 @@ ghost use Rattle.packet_fields.specs.Prints.{Prints, PrintsSome};
 ghost use Rattle.icmp_fields.specs.Icmp6.{head_items, echo_items, typed_items, unread_items, message_items};
 ghost use Rattle.icmp_fields.specs.Icmp6.{refusal, behind_items, told_or_refused, told_items, told, is_told};
 ghost use Rattle.icmp_fields.specs.Icmp6.{told_in_rest, error_items, AreErrorItems};
-ghost use Rattle.icmp_fields.specs.Refusal.{has_fields};
+ghost use Rattle.icmp_fields.specs.private.Told.{has_fields};
 
 use crate::extensions::{quoted_of, show_extensions};
 use crate::icmp::{
