@@ -29,7 +29,7 @@ def message(octets, is_whole, types, head, items_of, others):
         if len(octets) < 8:
             raise Refused("short", "fewer than 8 bytes")
         if octets[0] in others:
-            items = others[octets[0]](octets)
+            items = others[octets[0]](octets, is_whole)
             return head(octets) + items, lacking(items)
         if octets[0] not in types:
             raise Refused("type", None)

@@ -80,8 +80,8 @@ def extended_numbers(octets):
     return [Field("ident", be(octets[4:6])), Field("seq_no", octets[6])]
 
 
-def extended_request(octets):
-    return extended_numbers(octets) + [Field("local", octets[7] % 2 == 1)] + structure(octets[8:])
+def extended_request(octets, is_whole):
+    return extended_numbers(octets) + [Field("local", octets[7] % 2 == 1)] + structure(octets[8:], is_whole)
 
 
 def extended_reply(octets):
@@ -91,15 +91,15 @@ def extended_reply(octets):
         Field("ipv6", state & 1 > 0)] + additional(octets[8:])
 
 
-def structure(octets):
+def structure(octets, is_whole):
     """The extension structure of a request, with an object that names an interface (RFC 8335 section 2.1)."""
-    why, items = interface(octets)
+    why, items = interface(octets, is_whole)
     return items if why is None else [Field("data", octets), Field("data_refused", why)]
 
 
-def interface(octets):
+def interface(octets, is_whole):
     """Why a structure names no interface, or None, and the items of the one that it names."""
-    why = unread(octets)
+    why = unread(octets, is_whole)
     if why:
         return why, []
     length, kind, form = be(octets[4:6]), octets[6], octets[7]
@@ -109,13 +109,14 @@ def interface(octets):
     return why, items + additional(octets[8 + told:])
 
 
-def unread(octets):
-    """Why a structure is not read, or its object (RFC 4884 sections 7 and 8), or None."""
+def unread(octets, is_whole):
+    """Why a structure is not read, or its object (RFC 4884 sections 7 and 8), or None. The checksum is that of all its
+    octets."""
     if len(octets) < 4:
         return "the header of the extensions is cut"
     if octets[0] >> 4 != 2:
         return "the extensions are of version %d" % (octets[0] >> 4)
-    if octets[2:4] != b"\0\0" and not is_good(octets):
+    if is_whole and octets[2:4] != b"\0\0" and not is_good(octets):
         return "the checksum of the extensions is wrong"
     if len(octets) < 8:
         return "the header of the object is cut"
@@ -191,10 +192,18 @@ def lived(octets, length):
     return Entry(("entry", "address"), ("addr", address(octets[4:])), Cell("ttl", seconds(be(octets[:4]))))
 
 
-# ---- by their types, of 8 octets or more
+# ---- by their types, of 8 octets or more, whole messages or cut ones
+
+def alike(items_of):
+    """A reader of messages for which it makes no difference whether they are whole."""
+    return lambda octets, is_whole: items_of(octets)
+
 
 QUERIES4 = {
-    9: advertisement, 10: fixed(8, lambda octets: []), 13: fixed(20, timestamp), 14: fixed(20, timestamp),
-    17: fixed(12, mask), 18: fixed(12, mask), 42: extended_request, 43: extended_reply,
+    9: alike(advertisement), 10: alike(fixed(8, lambda octets: [])), 13: alike(fixed(20, timestamp)),
+    14: alike(fixed(20, timestamp)), 17: alike(fixed(12, mask)), 18: alike(fixed(12, mask)), 42: extended_request,
+    43: alike(extended_reply),
 }
-QUERIES6 = {139: node(subject), 140: node(answer), 160: extended_request, 161: extended_reply}
+QUERIES6 = {
+    139: alike(node(subject)), 140: alike(node(answer)), 160: extended_request, 161: alike(extended_reply),
+}

@@ -14,6 +14,11 @@ def raw(*datagrams):
     return pcap(list(datagrams), 101)
 
 
+def cut(datagram, *missing):
+    """Records that lack so many octets at the end of a datagram."""
+    return pcap_header(101) + b"".join(pcap_record(datagram[:-count], original_len=len(datagram)) for count in missing)
+
+
 def asked(form, payload, kind=3, version=0x20):
     """The extension structure of a request about an interface, whose checksum is none (RFC 8335 section 2.1)."""
     length = 4 + len(payload)
@@ -72,6 +77,7 @@ QUERIES = {
         asked(3, hexed("0006 06 00 020000000001 0000 00")) + b"\5",
         asked(3, hexed("0001 04 00 c0000201 00")) + b"\6", asked(1, b"eth0") + b"\0\7"))),
     "extended_echo_with_a_checksum": about(summed(asked(2, hexed("00000007")))),
+    "extended_echo_that_is_cut": cut(icmp4(42, 0, NUMBERS, summed(asked(1, b"eth0")) + bytes(4)), 3, 5, 9),
     "extended_echoes_that_are_refused": raw(*(icmp4(42, 0, NUMBERS, octets) for octets in (
         b"", hexed("200000"), hexed("20000000"), hexed("20000000 0008 03"), hexed("2000dbf6 0008 0302 00000100"),
         asked(2, hexed("00000007"), version=0x10), hexed("20000000 0003 0301"), asked(1, b"eth0")[:11],
