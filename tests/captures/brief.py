@@ -18,7 +18,6 @@ import netbios  # noqa: E402
 import zones  # noqa: E402
 from dhcp import MESSAGE_TYPE  # noqa: E402
 from frames import Refused  # noqa: E402
-from ip import TCP, UDP  # noqa: E402
 from items import Field, line_value  # noqa: E402
 from registries import DHCP_MESSAGES  # noqa: E402
 from text import address, be  # noqa: E402
@@ -293,15 +292,15 @@ def told6(octets):
 
 
 def quoted(by_key):
-    """The ends and the protocol of a quoted datagram, whatever stands behind its header."""
-    return " quoted=%s>%s %s" % (quoted_end(by_key, "src"), quoted_end(by_key, "dst"),
-                                 called(by_key["quoted_next_header"], "protocol_"))
+    """The ends and the protocol of a quoted datagram: in IPv6 that behind the headers that extend it."""
+    return " quoted=%s>%s %s" % (quoted_end(by_key, "src"), quoted_end(by_key, "dst"), called(
+        by_key.get("quoted_protocol", by_key["quoted_next_header"]), "protocol_"))
 
 
 def quoted_end(by_key, side):
-    """An end of a quoted datagram, with its port where that is quoted directly behind its header."""
+    """An end of a quoted datagram, with its port where that is quoted."""
     its_address, port = by_key["quoted_%s_addr" % side].value, by_key["quoted_%s_port" % side].value
-    if port is None or by_key["quoted_next_header"].value not in (TCP, UDP):
+    if port is None:
         return its_address
     return ("[%s]:%d" if ":" in its_address else "%s:%d") % (its_address, port)
 

@@ -2,3 +2,4 @@ mod Endings
 mod NextEntries
 mod PartsInTurn
 mod Rooms
+mod Uppers

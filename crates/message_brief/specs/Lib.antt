@@ -5,5 +5,6 @@ pub mod Icmp
 pub mod Messages
 pub mod Neighbors
 pub mod Quote
+pub mod Upper
 pub mod Words
 pub mod private

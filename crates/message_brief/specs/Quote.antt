@@ -6,11 +6,14 @@ use Rattle.wirebase.specs.Ip.{protocol_number, protocol_of}
 use Rattle.wirebase.specs.Ipv4 as ipv4
 use Rattle.wirebase.specs.Ipv6 as ipv6
 use Rattle.wirebase.specs.declared.ip.IpProtocol.{IpProtocol}
+use Rattle.quote_wire.specs.Upper.{UpperValue, own_part}
 use Rattle.packet_fields.specs.Labels.{label_text}
 use Rattle.packet_fields.specs.Ports.{ports_in}
 use Rattle.packet_fields.specs.Texts.{address_text}
 use Rattle.icmp_fields.specs.Names.{name_in}
 use Rattle.icmp_fields.specs.ProtocolNames.{protocol_names}
+use Rattle.icmp_fields.specs.Quote.{own_payload, upper_ports}
+use Rattle.message_brief.specs.Upper.{upper_in}
 use Rattle.message_brief.specs.Words.{word}
 
 -- an address and its port, as `192.0.2.1:53` and `[2001:db8::1]:53` (RFC 5952 section 6)
@@ -44,10 +47,13 @@ quotes4 bytes = nat_le 20 (length bytes) && ((ipv4.version_in bytes == 4) && has
 abbrev pub protocol4 : List ℕ → IpProtocol
 protocol4 bytes = protocol_of (byte_of ipv4.protocol_field bytes)
 
+abbrev pub own4 : List ℕ → List ℕ
+own4 bytes =
+    own_payload (ipv4.total_len_in bytes) (ipv4.header_len_in bytes) (drop (ipv4.header_len_in bytes) bytes)
+
 -- a fragment that is not the first begins with no header
 abbrev pub ports4 : List ℕ → Option (ℕ × ℕ)
-ports4 bytes =
-    if ipv4.frag_offset_in bytes == 0 then ports_in (protocol4 bytes) (drop (ipv4.header_len_in bytes) bytes) else None
+ports4 bytes = if ipv4.frag_offset_in bytes == 0 then ports_in (protocol4 bytes) (own4 bytes) else None
 
 abbrev pub quote4_text : List ℕ → List ℕ
 quote4_text bytes =
@@ -61,11 +67,24 @@ quote4_text bytes =
 abbrev pub quotes6 : List ℕ → Bool
 quotes6 bytes = nat_le 40 (length bytes) && (ipv6.version_in bytes == 6)
 
+abbrev pub next_header6 : List ℕ → IpProtocol
+next_header6 bytes = protocol_of (byte_of ipv6.next_header_field bytes)
+
+-- what the extension headers of the packet lead to
+abbrev pub upper6 : List ℕ → Option UpperValue
+upper6 bytes =
+    upper_in (next_header6 bytes) (own_part (ipv6.payload_len_in bytes) (next_header6 bytes) (drop 40 bytes))
+
+-- the protocol that they lead to, and where they lead nowhere the first
+abbrev pub protocol_or : IpProtocol → Option UpperValue → IpProtocol
+protocol_or first None = first
+protocol_or first (Some upper) = upper.protocol
+
 abbrev pub protocol6 : List ℕ → IpProtocol
-protocol6 bytes = protocol_of (byte_of ipv6.next_header_field bytes)
+protocol6 bytes = protocol_or (next_header6 bytes) (upper6 bytes)
 
 abbrev pub ports6 : List ℕ → Option (ℕ × ℕ)
-ports6 bytes = ports_in (protocol6 bytes) (drop 40 bytes)
+ports6 bytes = upper_ports (upper6 bytes)
 
 abbrev pub quote6_text : List ℕ → List ℕ
 quote6_text bytes =

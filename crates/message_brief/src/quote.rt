@@ -6,15 +6,20 @@ unfolding(crate::specs::Quote::with_port, crate::specs::Quote::quoted_text))]
 ghost use Rattle.std.specs.Prelude.{◌≡◌, ◌≤◌, length};
 ghost use Rattle.wirebase.specs.Ipv4.{header_len_in};
 ghost use Rattle.wirebase.specs.Sink.{PutsText};
-ghost use Rattle.message_brief.specs.Quote.{path_text, ports4, ports6, protocol4, protocol6, quote4_text, quote6_text};
+ghost use Rattle.quote_wire.specs.Upper.{own_payload};
+ghost use Rattle.icmp_fields.specs.Quote.{upper_ports};
+ghost use Rattle.message_brief.specs.Quote.{path_text, ports4, protocol4, protocol_or, quote4_text, quote6_text};
 ghost use Rattle.message_brief.specs.Quote.{quoted_text, quotes4, quotes6, with_port};
+ghost use Rattle.message_brief.specs.Upper.{upper_in};
 
 use crate::words::put_word;
 use icmp_fields::protocol_names::protocol_name;
+use icmp_fields::quote::own_payload;
 use packet_fields::label::Label;
 use packet_fields::ports::ports_of;
 use packet_fields::texts::Address;
 use packet_fields::value::Text;
+use quote_wire::quote::Ipv6Quote;
 use wirebase::text::{Sink, put_number};
 use wirebase::{IpProtocol, Octets};
 
@@ -23,6 +28,8 @@ mod ipv4 {
     use wirebase::Field;
 
     pub const VERSION: usize = 0;
+
+    pub const TOTAL_LEN: Field = 2..4;
 
     pub const FRAGMENT: Field = 6..8;
 
@@ -40,8 +47,6 @@ mod ipv6 {
     use wirebase::Field;
 
     pub const VERSION: usize = 0;
-
-    pub const NEXT_HEADER: usize = 6;
 
     pub const SRC_ADDR: Field = 8..24;
 
@@ -105,26 +110,23 @@ fn ports4(octets: &[u8]) -> Option<(u16, u16)>
     if 8 * (octets.u16_at(ipv4::FRAGMENT) as usize % 0x2000) != 0 {
         return None;
     }
-    let (_, payload) = octets.split_at(header_len(octets));
-    ports_of(protocol4(octets), payload)
+    let header_len = header_len(octets);
+    let (_, payload) = octets.split_at(header_len);
+    let own = own_payload(octets.u16_at(ipv4::TOTAL_LEN), header_len, payload);
+    ports_of(protocol4(octets), own)
 }
 
 /// Puts what an error of ICMPv6 quotes, where it is the front of a packet.
 pub(crate) fn put_quote6<O, S: Sink<O>>(output: &mut O, octets: &[u8]) -> Result<(), S::Error>
     ensures { PutsText S.took output.old (quote6_text octets.now) result output.new }
 {
-    if !quotes6(octets) {
+    let Ok(quote) = Ipv6Quote::parse(octets) else {
         return Ok(());
-    }
+    };
     let source = octets.field(ipv6::SRC_ADDR);
     let destination = octets.field(ipv6::DST_ADDR);
-    put_quoted::<O, S>(
-        output,
-        source,
-        destination,
-        ports6(octets),
-        protocol6(octets),
-    )
+    let (protocol, ports) = upper6(&quote);
+    put_quoted::<O, S>(output, source, destination, ports, protocol)
 }
 
 /// Whether octets begin with a header of IPv6.
@@ -134,19 +136,16 @@ pub(crate) fn quotes6(octets: &[u8]) -> bool
     octets.len() >= ipv6::HEADER_LEN && octets[ipv6::VERSION] / 16 == 6
 }
 
-fn protocol6(octets: &[u8]) -> IpProtocol
-    requires { 40 ≤ length octets.now }
-    ensures { result ≡ protocol6 octets.now }
+// The protocol that the extension headers lead to, and its ports; where they lead nowhere, the first protocol alone.
+fn upper6(quote: &Ipv6Quote<'_>) -> (IpProtocol, Option<(u16, u16)>)
+    ensures protocol { result.0 ≡ protocol_or quote.now.next_header
+        (upper_in quote.now.next_header (own_payload quote.now)) }
+    ensures ports { result.1 ≡ upper_ports (upper_in quote.now.next_header (own_payload quote.now)) }
 {
-    IpProtocol::from(octets[ipv6::NEXT_HEADER])
-}
-
-fn ports6(octets: &[u8]) -> Option<(u16, u16)>
-    requires { 40 ≤ length octets.now }
-    ensures { result ≡ ports6 octets.now }
-{
-    let (_, payload) = octets.split_at(ipv6::HEADER_LEN);
-    ports_of(protocol6(octets), payload)
+    match quote.upper() {
+        Some(upper) => (upper.protocol, ports_of(upper.protocol, upper.octets)),
+        None => (quote.next_header, None),
+    }
 }
 
 // Puts what is quoted.

@@ -3,8 +3,10 @@
 
 use crate::words::put_word;
 use control_wire::inside::text::{Sink, put_number};
+use control_wire::quotes::quote::Ipv6Quote;
 use control_wire::{IpProtocol, Octets};
 use icmp_fields::protocol_names::protocol_name;
+use icmp_fields::quote::own_payload;
 use packet_fields::label::Label;
 use packet_fields::ports::ports_of;
 use packet_fields::texts::Address;
@@ -15,6 +17,8 @@ mod ipv4 {
     use control_wire::Field;
 
     pub const VERSION: usize = 0;
+
+    pub const TOTAL_LEN: Field = 2..4;
 
     pub const FRAGMENT: Field = 6..8;
 
@@ -32,8 +36,6 @@ mod ipv6 {
     use control_wire::Field;
 
     pub const VERSION: usize = 0;
-
-    pub const NEXT_HEADER: usize = 6;
 
     pub const SRC_ADDR: Field = 8..24;
 
@@ -83,24 +85,21 @@ fn ports4(octets: &[u8]) -> Option<(u16, u16)> {
     if 8 * (octets.u16_at(ipv4::FRAGMENT) as usize % 0x2000) != 0 {
         return None;
     }
-    let (_, payload) = octets.split_at(header_len(octets));
-    ports_of(protocol4(octets), payload)
+    let header_len = header_len(octets);
+    let (_, payload) = octets.split_at(header_len);
+    let own = own_payload(octets.u16_at(ipv4::TOTAL_LEN), header_len, payload);
+    ports_of(protocol4(octets), own)
 }
 
 /// Puts what an error of ICMPv6 quotes, where it is the front of a packet.
 pub(crate) fn put_quote6<O, S: Sink<O>>(output: &mut O, octets: &[u8]) -> Result<(), S::Error> {
-    if !quotes6(octets) {
+    let Ok(quote) = Ipv6Quote::parse(octets) else {
         return Ok(());
-    }
+    };
     let source = octets.field(ipv6::SRC_ADDR);
     let destination = octets.field(ipv6::DST_ADDR);
-    put_quoted::<O, S>(
-        output,
-        source,
-        destination,
-        ports6(octets),
-        protocol6(octets),
-    )
+    let (protocol, ports) = upper6(&quote);
+    put_quoted::<O, S>(output, source, destination, ports, protocol)
 }
 
 /// Whether octets begin with a header of IPv6.
@@ -108,13 +107,12 @@ pub(crate) fn quotes6(octets: &[u8]) -> bool {
     octets.len() >= ipv6::HEADER_LEN && octets[ipv6::VERSION] / 16 == 6
 }
 
-fn protocol6(octets: &[u8]) -> IpProtocol {
-    IpProtocol::from(octets[ipv6::NEXT_HEADER])
-}
-
-fn ports6(octets: &[u8]) -> Option<(u16, u16)> {
-    let (_, payload) = octets.split_at(ipv6::HEADER_LEN);
-    ports_of(protocol6(octets), payload)
+// The protocol that the extension headers lead to, and its ports; where they lead nowhere, the first protocol alone.
+fn upper6(quote: &Ipv6Quote<'_>) -> (IpProtocol, Option<(u16, u16)>) {
+    match quote.upper() {
+        Some(upper) => (upper.protocol, ports_of(upper.protocol, upper.octets)),
+        None => (quote.next_header, None),
+    }
 }
 
 // Puts what is quoted.

@@ -226,6 +226,47 @@ fn messages_of_captures() {
     }
 }
 
+// Quotes by the pictures of RFC 791 and RFC 8200: of UDP behind destination options, whole, with ports behind the
+// packet's own payload, and of a later fragment; of IPv4, with ports behind the datagram's own payload, and of a total
+// length that is too small for the header.
+const QUOTES: &[Row] = &[
+    (
+        Kind::Icmp6,
+        b"\x01\x04\0\0\0\0\0\0`\0\0\0\0\x10<@\x20\x01\x0d\xb8\0\0\0\0\0\0\0\0\0\0\0\x01\x20\x01\x0d\xb8\0\0\0\0\0\0\
+            \0\0\0\0\0\x02\x11\0\x01\x04\0\0\0\0\xc3P\x82\x9b\0\x08\0\0",
+        " destination_unreachable port_unreachable quoted=[2001:db8::1]:50000>[2001:db8::2]:33435 udp",
+    ),
+    (
+        Kind::Icmp6,
+        b"\x01\x04\0\0\0\0\0\0`\0\0\0\0\x0b<@\x20\x01\x0d\xb8\0\0\0\0\0\0\0\0\0\0\0\x01\x20\x01\x0d\xb8\0\0\0\0\0\0\
+            \0\0\0\0\0\x02\x11\0\x01\x04\0\0\0\0\xc3P\x82\x9b\0\x08\0\0",
+        " destination_unreachable port_unreachable quoted=2001:db8::1>2001:db8::2 udp",
+    ),
+    (
+        Kind::Icmp6,
+        b"\x01\x04\0\0\0\0\0\0`\0\0\0\0\x10,@\x20\x01\x0d\xb8\0\0\0\0\0\0\0\0\0\0\0\x01\x20\x01\x0d\xb8\0\0\0\0\0\0\
+            \0\0\0\0\0\x02\x11\0\0\x08\0\0\0\x01\xc3P\x82\x9b\0\x08\0\0",
+        " destination_unreachable port_unreachable quoted=2001:db8::1>2001:db8::2 ipv6_frag",
+    ),
+    (
+        Kind::Icmp4,
+        b"\x03\x03\0\0\0\0\0\0E\0\0\x17\0\0\0\0@\x11\0\0\xc0\0\x02\x01\xc0\0\x02\x02\xc3P\x82\x9b\0\x08\0\0",
+        " destination_unreachable port_unreachable quoted=192.0.2.1>192.0.2.2 udp",
+    ),
+    (
+        Kind::Icmp4,
+        b"\x03\x03\0\0\0\0\0\0E\0\0\x13\0\0\0\0@\x11\0\0\xc0\0\x02\x01\xc0\0\x02\x02\xc3P\x82\x9b\0\x08\0\0",
+        " destination_unreachable port_unreachable quoted=192.0.2.1:50000>192.0.2.2:33435 udp",
+    ),
+];
+
+#[test]
+fn protocol_and_ports_within_a_quoted_datagram() {
+    for &(kind, octets, line) in QUOTES {
+        says(kind, octets, line);
+    }
+}
+
 // The ping of mixed.pcap, up to its identifier and up to its data; a response of which the first answer is torn, and an
 // error whose quote is; a report that counts a record more than it has; a type without a name; the
 // answer of netbios-names.pcap without its address, a query of listeners of another code, and the lease of lease.pcap
