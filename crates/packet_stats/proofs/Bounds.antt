@@ -6,7 +6,9 @@ use Rattle.packet_stats.specs.Bounds.{HaveFewTimes, IsWithin, IsWithinBounds}
 use Rattle.packet_stats.specs.Row.{MentionValue, counted, first_row, row_of}
 use Rattle.packet_stats.specs.Stats.{nothing, state_of}
 use Rattle.packet_stats.specs.Table.{Counts, TableValue, again, first, overlooks, table_of}
-use Rattle.packet_stats.specs.Types.{Fault, Row, Stats, Table}
+use Rattle.packet_stats.specs.Types.{Fault, Row}
+use Rattle.packet_stats.specs.declared.stats.Stats.{Stats}
+use Rattle.packet_stats.specs.declared.table.Table.{Table}
 
 -- ---- a table
 

@@ -11,4 +11,5 @@ pub mod Records
 pub mod RowEntries
 pub mod Said
 pub mod Sorting
+pub mod Sums
 pub mod Turns

@@ -4,7 +4,7 @@ use Rattle.packet_stats.specs.Row.{MentionValue}
 use Rattle.packet_stats.specs.Subject.{SubjectValue, client, lease, member, neighbor, outcome, prefix, question, router}
 use Rattle.packet_stats.specs.Subject.{server, source}
 use Rattle.packet_stats.specs.Table.{Counts, Sorts, TableValue, table_of}
-use Rattle.packet_stats.specs.Types.{Stats}
+use Rattle.packet_stats.specs.declared.stats.Stats.{Stats}
 
 -- a table for each kind of subjects
 pub record State : Type 0 where

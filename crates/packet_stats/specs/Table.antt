@@ -3,7 +3,7 @@ use Rattle.std.specs.Prelude.{◌≡◌, ◌≢◌, ◌<◌, ◌≤◌, [], ◌�
 use Rattle.std.specs.List.Sorted.{IsPermutation, IsSorted}
 use Rattle.packet_stats.specs.Row.{MentionValue, RowValue, counted, first_row, one_more, row_cmp, row_of}
 use Rattle.packet_stats.specs.Subject.{SubjectValue}
-use Rattle.packet_stats.specs.Types.{Table}
+use Rattle.packet_stats.specs.declared.table.Table.{Table}
 
 -- the rows, and how many messages speak of subjects for which there was no row
 pub record TableValue : Type 0 where

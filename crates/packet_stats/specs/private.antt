@@ -1,3 +1,4 @@
 pub mod Mentions
 pub mod Places
+pub mod Sums
 pub mod Widths

@@ -15,6 +15,7 @@ mod row;
 mod show;
 mod stats;
 mod subject;
+mod sum;
 mod table;
 mod times;
 mod words;

@@ -3,6 +3,7 @@
 
 use crate::row::{Mention, Row};
 use crate::subject::Subject;
+use crate::sum::sum_again;
 #[allow(unused_imports)]
 use rattle_std::prelude::*;
 
@@ -22,6 +23,8 @@ pub enum Fault {
 // A table.
 pub(crate) struct Table {
     pub(crate) rows: Vec<Row>,
+    // The sums of their subjects, in the same order: a subject is compared only where the sum is the same.
+    sums: Vec<u32>,
     pub(crate) overlooked: u64,
 }
 
@@ -30,16 +33,32 @@ impl Table {
     pub(crate) fn new() -> Table {
         Table {
             rows: Vec::new(),
+            sums: Vec::new(),
             overlooked: 0,
         }
     }
 
     // Counts a message, where there is a row for it or room for one, of which there are so many at most.
     pub(crate) fn count(&mut self, most: usize, mention: Mention) -> Result<(), Fault> {
-        match find(&self.rows, &mention.subject) {
+        match self.find(&mention.subject) {
             Some(place) => self.rows[place].count_one(mention.after),
             None => self.begin(most, mention),
         }
+    }
+
+    // The place of the row of this subject. In a table that is full there is most often none, which `contains` says
+    // several times faster than the loop.
+    fn find(&self, subject: &Subject) -> Option<usize> {
+        let sum = subject.sum();
+        if !self.sums.contains(&sum) {
+            return None;
+        }
+        for (place, other) in self.sums.iter().enumerate() {
+            if *other == sum && self.rows[place].subject.is(subject) {
+                return Some(place);
+            }
+        }
+        None
     }
 
     // Counts the first message of its subject.
@@ -53,24 +72,20 @@ impl Table {
 
     // Keeps a row behind the others.
     fn append(&mut self, row: Row) -> Result<(), Fault> {
-        match self.rows.push(row) {
-            Ok(()) => Ok(()),
-            Err(_) => Err(Fault::Memory),
+        let sum = row.subject.sum();
+        if self.sums.try_reserve(1).is_err() {
+            return Err(Fault::Memory);
         }
+        if self.rows.push(row).is_err() {
+            return Err(Fault::Memory);
+        }
+        let _pushed = self.sums.push(sum);
+        Ok(())
     }
 
     // Puts the rows into the order of a page.
     pub(crate) fn sort(&mut self) {
         self.rows.sort_unstable_by(|row, other| row.order(other));
+        sum_again(&self.rows, &mut self.sums);
     }
-}
-
-// The place of the row of this subject.
-fn find(rows: &[Row], subject: &Subject) -> Option<usize> {
-    for place in 0..rows.len() {
-        if rows[place].subject.is(subject) {
-            return Some(place);
-        }
-    }
-    None
 }

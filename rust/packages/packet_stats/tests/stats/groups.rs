@@ -141,3 +141,32 @@ fn sources_of_records_that_are_cut() {
         group=232.1.1.1 member=192.0.2.50 source=192.0.2.9 count=1\n",
     );
 }
+
+// Three sources in descending order, of which the first two have the same sum in a table.
+const ONE_SUM: &[u8] = &[
+    0x8f, 0x00, 0x00, 0x00, 0x00, 0x00, 0x00, 0x01, 0x01, 0x00, 0x00, 0x03, 0xff, 0x15, 0x00, 0x00,
+    0x00, 0x00, 0x00, 0x00, 0x00, 0x00, 0x00, 0x00, 0x00, 0x01, 0x00, 0x03, 0x20, 0x01, 0x0d, 0xb8,
+    0x00, 0x00, 0x00, 0x00, 0x00, 0x00, 0x00, 0x00, 0x07, 0x99, 0x31, 0x37, 0x20, 0x01, 0x0d, 0xb8,
+    0x00, 0x00, 0x00, 0x00, 0x00, 0x00, 0x00, 0x00, 0x00, 0x00, 0x64, 0x64, 0x20, 0x01, 0x0d, 0xb8,
+    0x00, 0x00, 0x00, 0x00, 0x00, 0x00, 0x00, 0x00, 0x00, 0x00, 0x00, 0x05,
+];
+
+// Each has its row, also behind a page, which puts them into ascending order.
+#[test]
+fn sources_of_one_sum() {
+    let mut stats = Stats::new();
+    let message = listener(host6(), ONE_SUM);
+    for text in [
+        "  group=ff15::1:3 member=fe80::ff:fe00:7 count=1\n  \
+        group=ff15::1:3 member=fe80::ff:fe00:7 source=2001:db8::5 count=1\n  \
+        group=ff15::1:3 member=fe80::ff:fe00:7 source=2001:db8::6464 count=1\n  \
+        group=ff15::1:3 member=fe80::ff:fe00:7 source=2001:db8::799:3137 count=1\n",
+        "  group=ff15::1:3 member=fe80::ff:fe00:7 count=2\n  \
+        group=ff15::1:3 member=fe80::ff:fe00:7 source=2001:db8::5 count=2\n  \
+        group=ff15::1:3 member=fe80::ff:fe00:7 source=2001:db8::6464 count=2\n  \
+        group=ff15::1:3 member=fe80::ff:fe00:7 source=2001:db8::799:3137 count=2\n",
+    ] {
+        counts(&mut stats, &message, &to_server(), None);
+        shows(Form::Lines, &mut stats, text);
+    }
+}
