@@ -4,6 +4,7 @@ pub mod Listeners
 pub mod Memberships
 pub mod NameCases
 pub mod Neighbors
+pub mod Reporters
 pub mod ResolverSearch
 pub mod RouterLists
 pub mod Routers

@@ -1,5 +1,5 @@
 -- Lists of entries, one entry after another.
-use Rattle.std.proofs.Common.{◌≡◌, ◌<◌, ◌++◌, ◌∙◌, ◌||◌, ℕ, zero, suc, Bool, true, false, cond, Some, List, [], ◌∷◌}
+use Rattle.std.proofs.Common.{◌≡◌, ◌<◌, ◌++◌, ◌∙◌, ◌||◌, ℕ, zero, suc, Bool, true, false, cond, None, Some, List, [], ◌∷◌}
 use Rattle.std.proofs.Common.{length, take, get_or, set, refl, ap, sym, arith}
 use Rattle.std.proofs.lemmas.Bool.{lt-ltb, or_parts, or_right}
 use Rattle.std.proofs.lemmas.List.{length-set, take-append-le, take_all}
@@ -73,3 +73,10 @@ module _ {T : Type 0} where
   find_has test (x ∷ xs) entry is =
       elim (test x) as (λ b. cond b (Some x) (find test xs) ≡ Some entry → (b || has test xs) ≡ true)
       [ true ↦ λ here. refl | false ↦ λ behind. find_has test xs entry behind ] is
+
+  -- where nothing is found, nothing is there
+  pub find_none : (test : T → Bool) (entries : List T) → find test entries ≡ None → has test entries ≡ false
+  find_none test [] is = refl
+  find_none test (x ∷ xs) is =
+      elim (test x) as (λ b. cond b (Some x) (find test xs) ≡ None → (b || has test xs) ≡ false)
+      [ true ↦ λ here. cc | false ↦ λ behind. find_none test xs behind ] is

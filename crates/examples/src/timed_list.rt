@@ -3,7 +3,7 @@
 
 ghost use Rattle.std.specs.Prelude.{◌≡◌, ◌<◌, ◌↔◌, ℕ, Bool, true, false, Option, IsTrue, IfSome};
 ghost use Rattle.std.specs.Prelude.{length, take, slice_index_or};
-ghost use Rattle.std.specs.List.{filter_map, find};
+ghost use Rattle.std.specs.List.{filter, filter_map, find};
 ghost use Rattle.examples.specs.TimedList.{IsKept, renewed, without, has};
 
 use arrayvec::ArrayVec;
@@ -55,6 +55,22 @@ pub fn renew<T: Entry, const N: usize>(entries: &mut ArrayVec<T, N>, key: &T::Ke
     }
     entries.push(entry);
     true
+}
+
+/// The entries of a key.
+pub fn entries_of<T: Entry, const N: usize>(
+    entries: &ArrayVec<T, N>,
+    key: &T::Key,
+) -> ArrayVec<T, N>
+    ensures { result.items ≡ filter (T.is_of key.now) entries.now.items }
+{
+    let mut found = ArrayVec::new();
+    for entry in entries.as_slice() {
+        if entry.is_of(key) {
+            found.push(*entry);
+        }
+    }
+    found
 }
 
 /// Removes the entries of a key.

@@ -1,6 +1,6 @@
 //! What some host of a link wants: an entry of the list of a querier.
 
-ghost use Rattle.std.specs.Prelude.{◌≡◌, ◌≤◌, Bool, length, replicate};
+ghost use Rattle.std.specs.Prelude.{◌≡◌, ◌≤◌, ◌↔◌, Bool, IsTrue, length, replicate};
 ghost use Rattle.std.specs.List.{find};
 ghost use Rattle.group_wire.specs.Family.{width};
 ghost use Rattle.group_wire.specs.Sources.{octets_in};
@@ -24,6 +24,10 @@ pub trait RouterAddress: Address + PartialEq {
     fn unspecified() -> Self
         ensures { Self.bytes result ≡ replicate (width Self.family) 0 };
 
+    /// Whether it is that address.
+    fn is_unspecified(&self) -> bool
+        ensures { IsTrue result ↔ (Self.bytes self.now ≡ replicate (width Self.family) 0) };
+
     /// Writes the address over the front of the octets, and gives it as the source of a query. Requires as many as an
     /// address has.
     fn as_source<'a>(&self, octets: &'a mut [u8]) -> Sources<'a, Self>
@@ -44,6 +48,10 @@ impl RouterAddress for Ipv4Address {
 
     fn unspecified() -> Ipv4Address {
         Ipv4Address::UNSPECIFIED
+    }
+
+    fn is_unspecified(&self) -> bool {
+        Ipv4Address::is_unspecified(self)
     }
 
     fn as_source<'a>(&self, octets: &'a mut [u8]) -> Sources<'a, Ipv4Address> {
@@ -67,6 +75,10 @@ impl RouterAddress for Ipv6Address {
 
     fn unspecified() -> Ipv6Address {
         Ipv6Address::UNSPECIFIED
+    }
+
+    fn is_unspecified(&self) -> bool {
+        Ipv6Address::is_unspecified(self)
     }
 
     fn as_source<'a>(&self, octets: &'a mut [u8]) -> Sources<'a, Ipv6Address> {

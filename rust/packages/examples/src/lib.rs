@@ -13,6 +13,7 @@ pub mod neighbor_cache;
 pub mod ping;
 pub mod querier;
 pub mod ranked;
+pub mod reporter;
 pub mod resolver;
 pub mod router;
 pub mod router_list;

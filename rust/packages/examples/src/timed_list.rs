@@ -44,6 +44,20 @@ pub fn renew<T: Entry, const N: usize>(
     true
 }
 
+/// The entries of a key.
+pub fn entries_of<T: Entry, const N: usize>(
+    entries: &ArrayVec<T, N>,
+    key: &T::Key,
+) -> ArrayVec<T, N> {
+    let mut found = ArrayVec::new();
+    for entry in entries.as_slice() {
+        if entry.is_of(key) {
+            found.push(*entry);
+        }
+    }
+    found
+}
+
 /// Removes the entries of a key.
 pub fn remove<T: Entry, const N: usize>(entries: &mut ArrayVec<T, N>, key: &T::Key) {
     let mut kept = ArrayVec::new();

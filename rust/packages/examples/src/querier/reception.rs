@@ -14,6 +14,9 @@ pub trait RouterAddress: Address + PartialEq {
     /// The address `0.0.0.0` or `::`.
     fn unspecified() -> Self;
 
+    /// Whether it is that address.
+    fn is_unspecified(&self) -> bool;
+
     /// Writes the address over the front of the octets, and gives it as the source of a query. Requires as many as an
     /// address has.
     fn as_source<'a>(&self, octets: &'a mut [u8]) -> Sources<'a, Self>;
@@ -26,6 +29,10 @@ impl RouterAddress for Ipv4Address {
 
     fn unspecified() -> Ipv4Address {
         Ipv4Address::UNSPECIFIED
+    }
+
+    fn is_unspecified(&self) -> bool {
+        Ipv4Address::is_unspecified(self)
     }
 
     fn as_source<'a>(&self, octets: &'a mut [u8]) -> Sources<'a, Ipv4Address> {
@@ -43,6 +50,10 @@ impl RouterAddress for Ipv6Address {
 
     fn unspecified() -> Ipv6Address {
         Ipv6Address::UNSPECIFIED
+    }
+
+    fn is_unspecified(&self) -> bool {
+        Ipv6Address::is_unspecified(self)
     }
 
     fn as_source<'a>(&self, octets: &'a mut [u8]) -> Sources<'a, Ipv6Address> {

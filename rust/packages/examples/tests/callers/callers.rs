@@ -10,6 +10,7 @@ mod neighbor;
 mod neighbor_cache;
 mod ping;
 mod querier;
+mod reporter;
 mod resolver;
 mod router;
 mod router_list;
