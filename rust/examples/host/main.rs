@@ -21,8 +21,9 @@ use examples::addresses::{self, State};
 use examples::link_parameters::LinkParameters;
 use examples::neighbor;
 use examples::neighbor_cache::NeighborCache;
+use examples::reporter::Reporter;
 use examples::router_list::{RouterList, entries::Lifetime};
-use groups::{Groups, by_chance};
+use groups::by_chance;
 use link::{mapped, unmapped, written};
 use reassembly::Reassembly;
 use std::error::Error;
@@ -36,35 +37,32 @@ const DEFAULTS: &str = "tap0 02:00:00:00:00:02 192.0.2.2 fe80::ff:fe00:2 233.252
 /// How many milliseconds pass until the host looks again what is to be done.
 const TICK: u32 = 10;
 
-/// How many tasks wait at most for queries to be answered: a flood takes no more memory.
-const MOST_TASKS: usize = 256;
-
 struct Host {
     device: File,
     hardware: EthernetAddress,
     v4: Ipv4Address,
     link_local: Ipv6Address,
     addresses: addresses::Addresses,
-    /// Those of IPv4 are kept by the addresses of IPv6 to which theirs are mapped (RFC 4291 section
-    /// 2.5.5.2).
+    /// Those of IPv4 are kept by the addresses of IPv6 to which theirs are mapped
+    /// (RFC 4291 section 2.5.5.2).
     neighbors: NeighborCache,
     /// Packets, each with the neighbor that it goes to.
     waiting: Vec<(Ipv6Address, Vec<u8>)>,
     routers: RouterList,
     link: LinkParameters,
-    igmp: Groups<Ipv4Address>,
-    mld: Groups<Ipv6Address>,
+    /// The groups that it is a member of until it is told to leave.
+    wanted: Option<(Ipv4Address, Ipv6Address)>,
+    igmp: Reporter<Ipv4Address>,
+    mld: Reporter<Ipv6Address>,
     reassembly: Reassembly,
     ident: u32,
     /// How many errors were sent in this second.
     errors: u32,
     /// Whether the device takes frames.
     is_up: bool,
-    /// What is to be done later, and when.
-    tasks: Vec<(Instant, Task)>,
+    /// For how many milliseconds it still solicits routers.
+    soliciting: u32,
 }
-
-type Task = Box<dyn FnOnce(&mut Host)>;
 
 impl Host {
     /// Takes what comes, and does what is to be done at its time.
@@ -75,7 +73,7 @@ impl Host {
             match events.recv_timeout(tick) {
                 Ok(Event::Frame(frame)) => drop(self.receive(&frame)),
                 Ok(Event::Line(line)) if line == "leave" => {
-                    (self.igmp.wanted, self.mld.wanted) = (None, None);
+                    self.wanted = None;
                     println!("left");
                 }
                 Ok(Event::Line(_)) | Err(RecvTimeoutError::Timeout) => {}
@@ -90,16 +88,12 @@ impl Host {
         }
     }
 
-    /// Has a task wait for so many milliseconds.
-    fn later(&mut self, milliseconds: u32, task: impl FnOnce(&mut Host) + 'static) {
-        let time = Instant::now() + Duration::from_millis(milliseconds.into());
-        self.tasks.push((time, Box::new(task)));
-    }
-
     /// Lets a tick pass, and perhaps a second with it.
     fn pass(&mut self, is_second: bool) {
         self.addresses.wait(TICK);
         self.neighbors.pass(TICK);
+        self.igmp.pass(TICK);
+        self.mld.pass(TICK);
         if is_second {
             self.addresses.pass(1);
             self.routers.pass(1);
@@ -111,13 +105,9 @@ impl Host {
             self.addresses.add(&self.link_local, forever, forever);
         }
         if self.is_up {
-            self.join_all();
+            self.report_all();
             self.detect();
-        }
-        let now = Instant::now();
-        while let Some(due) = self.tasks.iter().position(|(time, _)| *time <= now) {
-            let (_, task) = self.tasks.remove(due);
-            task(self);
+            self.solicit_routers();
         }
         self.ask();
     }
@@ -143,13 +133,14 @@ fn main() -> Result<(), Box<dyn Error>> {
         waiting: Vec::new(),
         routers: RouterList::new(),
         link: LinkParameters::new(),
-        igmp: Groups::new(words[4].parse()?),
-        mld: Groups::new(words[5].parse()?),
+        wanted: Some((words[4].parse()?, words[5].parse()?)),
+        igmp: Reporter::new(),
+        mld: Reporter::new(),
         reassembly: Reassembly::new(),
-        ident: by_chance(u32::MAX),
+        ident: by_chance(),
         errors: 0,
         is_up: false,
-        tasks: Vec::new(),
+        soliciting: 0,
     };
     println!("host {}", words[..3].join(" "));
     host.run(&events)

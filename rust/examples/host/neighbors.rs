@@ -73,9 +73,11 @@ impl Host {
             println!("address {}", own.address);
             if own.address == self.link_local {
                 // It reports its groups again, from this address.
-                self.mld.joined.clear();
-                self.join_all();
-                self.solicit_routers(3);
+                for entry in self.mld.groups().to_vec() {
+                    self.mld.leave(&entry.group);
+                    self.mld.join(&entry.group);
+                }
+                self.soliciting = 12_000;
             }
         }
     }
@@ -87,16 +89,17 @@ impl Host {
         }
     }
 
-    /// Solicits routers each four seconds, so many times, until one answers (RFC 4861 section
-    /// 6.3.7).
-    fn solicit_routers(&mut self, times: u32) {
-        if times > 0 && self.routers.routers.is_empty() {
+    /// Solicits routers each four seconds, three times, until one answers
+    /// (RFC 4861 section 6.3.7).
+    pub fn solicit_routers(&mut self) {
+        let is_due = self.soliciting > 0 && self.soliciting % 4_000 == 0;
+        if is_due && self.routers.routers.is_empty() {
             println!("solicits routers");
             let (own, mut out) = (self.link_local, [0; 16]);
             let len = router::solicit(&own, self.hardware, &mut out).unwrap_or(0);
             self.send_ndisc(own, IPV6_LINK_LOCAL_ALL_ROUTERS, &out[..len]);
-            self.later(4_000, move |host| host.solicit_routers(times - 1));
         }
+        self.soliciting = self.soliciting.saturating_sub(TICK);
     }
 
     fn send_ndisc(&mut self, own: Ipv6Address, to: Ipv6Address, message: &[u8]) {

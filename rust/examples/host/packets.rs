@@ -31,7 +31,7 @@ impl Host {
     fn receive_v4(&mut self, packet: &[u8], to_many: bool) -> Option<()> {
         let (header, _) = Header::parse(packet).ok()?;
         let (from, to) = (header.src_addr, header.dst_addr);
-        let is_ours = (to_many && self.igmp.has(&to)) || (!to_many && to == self.v4);
+        let is_ours = (to_many && self.is_in(&to)) || (!to_many && to == self.v4);
         if !is_ours || from.is_multicast() || from.is_broadcast() {
             return None;
         }
@@ -72,7 +72,7 @@ impl Host {
         let (from, to) = (header.src_addr, header.dst_addr);
         let own = self.addresses.look_up(&to);
         let is_own = own.is_some_and(|own| own.state == State::Assigned);
-        let is_ours = (to_many && self.mld.has(&to)) || (!to_many && is_own);
+        let is_ours = (to_many && self.is_in(&to)) || (!to_many && is_own);
         if !is_ours || from.is_multicast() {
             return None;
         }
@@ -95,7 +95,7 @@ impl Host {
         let len = match (datagram.protocol, payload.first()?) {
             // One that is to be passed on is not for a host (RFC 8200 section 4.4).
             _ if datagram.addresses != Addresses::V6(from, to) => return None,
-            (IpProtocol::Icmpv6, 130) => return self.receive_mld(&datagram),
+            (IpProtocol::Icmpv6, 130 | 131) => return self.receive_mld(&datagram),
             (IpProtocol::Icmpv6, 134..=136) => return self.receive_ndisc(&datagram),
             // Nobody is there to be answered (RFC 4443 section 2.4).
             _ if from.is_unspecified() => return None,
