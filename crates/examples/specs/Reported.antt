@@ -10,11 +10,6 @@ use Rattle.examples.specs.declared.reporter.reported.Reported.{Reported}
 abbrev pub by_chance : ℕ → ℕ → ℕ
 by_chance chance most = chance % (most + 1)
 
--- the time until a message is answered, by the most that it says
-abbrev pub delay_in : ℕ → Option ℕ → ℕ
-delay_in chance None = 0
-delay_in chance (Some most) = by_chance chance most
-
 -- ---- groups
 
 abbrev pub is_group : {A : Type 0} → (A → A → Bool) → A → Reported A → Bool

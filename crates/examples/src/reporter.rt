@@ -10,13 +10,14 @@ ghost use Rattle.group_wire.specs.Membership.{value_of};
 ghost use Rattle.group_wire.specs.Sources.{octets_in};
 ghost use Rattle.group_wire.specs.Times.{max_resp_millis};
 ghost use Rattle.examples.specs.Membership.{Speaks};
-ghost use Rattle.examples.specs.Reported.{by_chance, delay_in, is_due, is_group};
+ghost use Rattle.examples.specs.Reported.{by_chance, is_due, is_group};
 ghost use Rattle.examples.specs.Reporter.{after_older, found, initial, is_member_of, later};
 ghost use Rattle.examples.specs.Reporter.{state_of, time_after, told_of, unanswered, with_joined, with_left};
 ghost use Rattle.examples.specs.Reporter.{with_silenced, with_time, with_told};
 ghost use Rattle.examples.specs.Reporter.{Hears, HearsQuery};
 ghost use Rattle.examples.specs.ReportMessages.{told_in};
 ghost use Rattle.examples.specs.TimedList.{IsKept};
+ghost use Rattle.examples.specs.private.Delays.{delay_in};
 
 pub mod report;
 pub mod reported;
