@@ -56,10 +56,7 @@ fn is_whole_due<A: RouterAddress>(asked: &Asked<A>, group: &A, answer: Option<u3
 fn is_asked<A: RouterAddress>(asked: &Asked<A>, group: &A) -> bool
     ensures { result ≡ has (is_asked A.eq (group_key group.now)) asked.now.items }
 {
-    match look_up(asked.as_slice(), &AskedKey::of_group(group)) {
-        Some(_) => true,
-        None => false,
-    }
+    look_up(asked.as_slice(), &AskedKey::of_group(group)).is_some()
 }
 
 // Keeps these sources, or where there is no room none of the group.

@@ -39,10 +39,7 @@ fn is_whole_due<A: RouterAddress>(asked: &Asked<A>, group: &A, answer: Option<u3
 
 // Whether sources of the group are asked about.
 fn is_asked<A: RouterAddress>(asked: &Asked<A>, group: &A) -> bool {
-    match look_up(asked.as_slice(), &AskedKey::of_group(group)) {
-        Some(_) => true,
-        None => false,
-    }
+    look_up(asked.as_slice(), &AskedKey::of_group(group)).is_some()
 }
 
 // Keeps these sources, or where there is no room none of the group.
