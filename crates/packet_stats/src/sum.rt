@@ -1,7 +1,6 @@
 //! The sums of subjects: subjects that are equal have the same sum, and most others have another.
 
-ghost use Rattle.std.specs.Prelude.{◌≡◌, ◌≤◌, length, map};
-ghost use Rattle.std.specs.List.{fold};
+ghost use Rattle.std.specs.Prelude.{◌≡◌, length, map};
 ghost use Rattle.packet_stats.specs.Subject.{subject_of};
 ghost use Rattle.packet_stats.specs.private.Sums.{mix, sum_in, sum_of};
 
