@@ -50,12 +50,12 @@ impl<'a> Ipv6Quote<'a> {
         lead(self.next_header, self.own_payload())
     }
 
-    // The quoted part of the packet's own payload.
+    // The quoted part of the packet's own payload. Most quotes end within it, and that is asked first.
     fn own_payload(&self) -> &'a [u8] {
-        if self.payload_len == 0 && self.next_header == IpProtocol::HopByHop {
+        let len = self.payload_len as usize;
+        if len >= self.payload.len() || len == 0 && self.next_header == IpProtocol::HopByHop {
             return self.payload;
         }
-        let len = (self.payload_len as usize).min(self.payload.len());
         &self.payload[..len]
     }
 }
