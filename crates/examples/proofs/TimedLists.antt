@@ -1,9 +1,10 @@
 -- Lists of entries, one entry after another.
-use Rattle.std.proofs.Common.{◌≡◌, ◌<◌, ◌++◌, ◌∙◌, ◌||◌, ℕ, zero, suc, Bool, true, false, cond, None, Some, List, [], ◌∷◌}
+use Rattle.std.proofs.Common.{◌≡◌, ◌<◌, ◌++◌, ◌∙◌, ◌||◌, ℕ, zero, suc, Bool, true, false, cond, Some, List, [], ◌∷◌}
 use Rattle.std.proofs.Common.{length, take, get_or, set, refl, ap, sym, arith}
 use Rattle.std.proofs.lemmas.Bool.{lt-ltb, or_parts, or_right}
 use Rattle.std.proofs.lemmas.List.{length-set, take-append-le, take_all}
 use Rattle.std.specs.List.{find, refill}
+use Rattle.std.specs.Option.{is_some}
 use Rattle.examples.specs.TimedList.{has, put, renewed}
 
 -- a list that is borrowed whole, and overwritten by another of its length, is that one
@@ -74,9 +75,9 @@ module _ {T : Type 0} where
       elim (test x) as (λ b. cond b (Some x) (find test xs) ≡ Some entry → (b || has test xs) ≡ true)
       [ true ↦ λ here. refl | false ↦ λ behind. find_has test xs entry behind ] is
 
-  -- where nothing is found, nothing is there
-  pub find_none : (test : T → Bool) (entries : List T) → find test entries ≡ None → has test entries ≡ false
-  find_none test [] is = refl
-  find_none test (x ∷ xs) is =
-      elim (test x) as (λ b. cond b (Some x) (find test xs) ≡ None → (b || has test xs) ≡ false)
-      [ true ↦ λ here. cc | false ↦ λ behind. find_none test xs behind ] is
+  -- where one is found, one is there
+  pub found_has : (test : T → Bool) (entries : List T) → has test entries ≡ is_some (find test entries)
+  found_has test [] = refl
+  found_has test (x ∷ xs) =
+      elim (test x) as (λ b. (b || has test xs) ≡ is_some (cond b (Some x) (find test xs)))
+      [ true ↦ refl | false ↦ found_has test xs ]

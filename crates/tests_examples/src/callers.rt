@@ -9,6 +9,7 @@ mod neighbor;
 mod neighbor_cache;
 mod ping;
 mod querier;
+mod report_messages;
 mod reporter;
 mod resolver;
 mod router;

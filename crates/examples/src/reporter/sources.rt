@@ -52,7 +52,7 @@ fn is_whole_due<A: RouterAddress>(asked: &Asked<A>, group: &A, answer: Option<u3
 }
 
 // Whether sources of the group are asked about.
-#[tactic(auto, using(crate::proofs::TimedLists::find_has, crate::proofs::TimedLists::find_none))]
+#[tactic(auto, using(crate::proofs::TimedLists::found_has))]
 fn is_asked<A: RouterAddress>(asked: &Asked<A>, group: &A) -> bool
     ensures { result ≡ has (is_asked A.eq (group_key group.now)) asked.now.items }
 {
