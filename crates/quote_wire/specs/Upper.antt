@@ -9,7 +9,7 @@ use Rattle.quote_wire.specs.declared.quote.Ipv6Quote.{Ipv6Quote}
 use Rattle.quote_wire.specs.declared.quote.upper.Upper.{Upper}
 
 -- what is quoted of the packet's own payload: zeros may fill the quote up behind it (RFC 4884 section 4). A length of 0
--- before hop-by-hop options is that of a jumbogram, which is longer than any quote (RFC 2675 section 2).
+-- before hop-by-hop options is taken for that of a jumbogram, which is longer than any quote (RFC 2675 section 2).
 abbrev pub own_part : ℕ → IpProtocol → List ℕ → List ℕ
 own_part zero IpProtocol.HopByHop payload = payload
 own_part len next_header payload = take len payload

@@ -29,8 +29,9 @@ impl<'a> Ipv6Quote<'a> {
     /// What the packet has behind its extension headers: the hop-by-hop and destination options, the routing headers
     /// and the header of a first fragment are passed. None where one of these is cut, and behind the header of a later
     /// fragment, which begins within the payload. Of `payload` at most `payload_len` bytes are read: those behind them
-    /// are not the packet's, such as the zeros that fill a quote up to 128 bytes (RFC 4884 section 4). All are read
-    /// where it is 0 before hop-by-hop options, since a jumbogram is longer than any quote (RFC 2675 section 2).
+    /// are not the packet's, such as the zeros that fill a quote up to 128 bytes (RFC 4884 section 4). A length of 0
+    /// before hop-by-hop options is taken for that of a jumbogram (RFC 2675 section 2), whether or not they have its
+    /// option: then all bytes are read.
     ///
     /// ```
     /// use quote_wire::quote::Ipv6Quote;
