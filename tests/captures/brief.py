@@ -245,7 +245,7 @@ def wished(by_key, options):
 def says_of_icmp4(_, by_key, octets):
     yield type_of(by_key)
     yield code_of(by_key)
-    yield from behind_code(octets, icmp.ECHOES4, icmp.ERRORS4, icmp.told4, icmp.header4)
+    yield from behind_code(octets, icmp.ECHOES4, icmp.ERRORS4, icmp.told4, icmp.divided4, icmp.header4)
 
 
 def says_of_icmp6(_, by_key, octets):
@@ -257,7 +257,7 @@ def says_of_icmp6(_, by_key, octets):
     if octets[0] in NEIGHBORS:
         yield from NEIGHBORS[octets[0]](by_key, octets)
     else:
-        yield from behind_code(octets, icmp.ECHOES6, icmp.ERRORS6, told6, icmp.quote6)
+        yield from behind_code(octets, icmp.ECHOES6, icmp.ERRORS6, told6, icmp.divided6, icmp.quote6)
 
 
 def type_of(by_key):
@@ -272,8 +272,8 @@ def code_of(by_key):
     return " " + name if name else " code=%d" % code if code else ""
 
 
-def behind_code(octets, echoes, errors, told, header):
-    """What the header of a message says, and of an error the header that it quotes."""
+def behind_code(octets, echoes, errors, told, divided, header):
+    """What the header of a message says, and of an error the header that it quotes, without the extensions behind."""
     wanted(len(octets) >= 8)
     if octets[0] in echoes:
         yield " %d %d len=%d" % (be(octets[4:6]), be(octets[6:8]), len(octets) - 8)
@@ -282,7 +282,7 @@ def behind_code(octets, echoes, errors, told, header):
             # An MTU of 0 is none.
             if item.value or item.key == "pointer":
                 yield " %s=%s" % (item.key.removeprefix("next_hop_"), item.value)
-        yield quoted({item.key: item for item in header(octets[8:])})
+        yield quoted({item.key: item for item in header(divided(octets)[0])})
 
 
 def told6(octets):

@@ -58,9 +58,13 @@ def items4(octets, is_whole):
         if octets[1]:
             raise Refused("malformed", "an echo of code %d is not read" % octets[1])
         return echo(octets)
-    # What is quoted is counted in words of 4 octets (RFC 4884 section 4).
-    quote, behind = divided(octets[8:], octets[5] if octets[0] in (3, 11, 12) else 0, 4, is_whole)
+    quote, behind = divided4(octets, is_whole)
     return told4(octets) + quote4(quote) + behind
+
+
+def divided4(octets, is_whole=False):
+    """What is quoted, which is counted in words of 4 octets (RFC 4884 section 4), and the items behind that."""
+    return divided(octets[8:], octets[5] if octets[0] in (3, 11, 12) else 0, 4, is_whole)
 
 
 def told4(octets):
@@ -119,9 +123,13 @@ def items6(octets, is_whole):
             raise Refused("malformed", "code %d is not read" % octets[1])
         return echo(octets)
     number = {2: "mtu", 4: "pointer"}.get(octets[0])
-    # What is quoted is counted in words of 8 octets (RFC 4884 section 4).
-    quote, behind = divided(octets[8:], octets[4] if octets[0] in (1, 3) else 0, 8, is_whole)
+    quote, behind = divided6(octets, is_whole)
     return ([Field(number, be(octets[4:8]))] if number else []) + quote6(quote) + behind
+
+
+def divided6(octets, is_whole=False):
+    """What is quoted, which is counted in words of 8 octets (RFC 4884 section 4), and the items behind that."""
+    return divided(octets[8:], octets[4] if octets[0] in (1, 3) else 0, 8, is_whole)
 
 
 def quote6(quote):

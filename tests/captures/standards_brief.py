@@ -1,6 +1,6 @@
 """Captures of messages of which brief lines tell something that no other capture here has, of raw IP."""
-from building import (GROUP4, HOST4, HOST6, NOON, SERVER4, UDP, dhcp, hexed, icmp4, igmp, ip4, ip6, ip6_icmp6,
-                      message, pcap, pcap_header, pcap_record, pointer, question, record, udp4, v4)
+from building import (GROUP4, HOST4, HOST6, LINK_A, LINK_B, NOON, SERVER4, UDP, dhcp, hexed, icmp4, igmp, ip4, ip6,
+                      ip6_icmp6, message, pcap, pcap_header, pcap_record, pointer, question, record, udp4, v4)
 from standards_dns import (A, ANSWER, ANY, CNAME, EXAMPLE, FRED, NAPTR, NB, NBSTAT, OWNER, QUERY, SIG, SIGNED, TXT,
                            answer, answers, asks, multicast, names, opt)
 from standards_messages import (ADVERT, ECHO, EVERYONE, GROUP6, MTU, PREFIX, SOURCE_LINK, TARGET, TARGET_LINK,
@@ -96,6 +96,9 @@ ICMP = {
                                   ip6_icmp6(3, 0, ZERO, ip6(b"", 99)), ip6_icmp6(138, 255, ZERO)),
     "brief_icmp6_of_another_quote": raw(ip6_icmp6(2, 0, hexed("00000500"), QUOTE6[:39]),
                                         ip6_icmp6(4, 1, hexed("00000028"), b"\x40" + QUOTE6[1:])),
+    # The options of the quote end where it ends: what follows is no UDP, but an extension structure (RFC 4884).
+    "brief_icmp6_of_extensions_behind_a_quote": raw(ip6_icmp6(1, 0, hexed("10000000"), ip6(
+        hexed("110a0154") + b"\0" * 84, 60, LINK_A, LINK_B, 255, length=96) + hexed("20001a30 00080101 61626364"))),
     "brief_icmp6_that_ends": raw(*(ip6(ip6_icmp6(kind, 1, ECHO)[40:40 + length], 58) for kind in (1, 128, 133, 155)
                                    for length in (0, 3, 4, 7))),
 }

@@ -3,12 +3,13 @@ use Rattle.std.specs.Prelude.{◌==◌, ◌&&◌, ◌||◌, ◌-◌, ◌++◌, [
 use Rattle.std.specs.Prelude.{if◌then◌else◌, length, nat_le, nat_lt, not}
 use Rattle.wirebase.specs.Bytes.{byte_of, bytes_of, field as at, number_of}
 use Rattle.wirebase.specs.Icmp.{data_in, ident_field, seq_no_field}
+use Rattle.extension_wire.specs.declared.family.Family.{Family}
 use Rattle.packet_fields.specs.Labels.{label_text}
 use Rattle.packet_fields.specs.Texts.{address_text}
 use Rattle.icmp_fields.specs.IcmpNames.{icmp4_code_name, icmp4_types, icmp6_code_name, icmp6_types}
 use Rattle.icmp_fields.specs.Names.{name_in}
 use Rattle.neighbor_fields.specs.Messages.{code_in, type_in}
-use Rattle.message_brief.specs.Quote.{quote4_text, quote6_text, quotes4, quotes6}
+use Rattle.message_brief.specs.Quote.{quote4_text, quote6_text, quoted_part, quotes4, quotes6}
 use Rattle.message_brief.specs.Words.{keyed, word}
 
 -- ---- what both versions have
@@ -55,10 +56,18 @@ told4 bytes =
     else if type_in bytes == 12 then keyed (codes "pointer") (decimal (byte_of (at 4 5) bytes))
     else []
 
+-- the length of what an error quotes (RFC 4884 section 4), 0 in types that have none
+abbrev pub length4 : List ℕ → ℕ
+length4 bytes =
+    if (type_in bytes == 3) || ((type_in bytes == 11) || (type_in bytes == 12)) then byte_of (at 5 6) bytes else 0
+
+abbrev pub quoted4 : List ℕ → List ℕ
+quoted4 bytes = quoted_part Family.V4 (length4 bytes) (data_in bytes)
+
 abbrev pub body4_text : List ℕ → List ℕ
 body4_text bytes =
     if is_echo4 (type_in bytes) then echo_text bytes
-    else if is_error4 (type_in bytes) then told4 bytes ++ quote4_text (data_in bytes)
+    else if is_error4 (type_in bytes) then told4 bytes ++ quote4_text (quoted4 bytes)
     else []
 
 -- as far as the octets go: the first 4 have the type and the code, and 8 all that is told of the header
@@ -71,7 +80,7 @@ icmp4_text bytes =
 
 -- whether all of that is there, and an error quotes the front of a datagram
 abbrev pub is_whole4 : List ℕ → Bool
-is_whole4 bytes = nat_le 8 (length bytes) && (not (is_error4 (type_in bytes)) || quotes4 (data_in bytes))
+is_whole4 bytes = nat_le 8 (length bytes) && (not (is_error4 (type_in bytes)) || quotes4 (quoted4 bytes))
 
 -- ---- ICMPv6
 
@@ -93,10 +102,16 @@ told6 bytes =
     else if type_in bytes == 4 then keyed (codes "pointer") (decimal (number_of (at 4 8) bytes))
     else []
 
+abbrev pub length6 : List ℕ → ℕ
+length6 bytes = if (type_in bytes == 1) || (type_in bytes == 3) then byte_of (at 4 5) bytes else 0
+
+abbrev pub quoted6 : List ℕ → List ℕ
+quoted6 bytes = quoted_part Family.V6 (length6 bytes) (data_in bytes)
+
 abbrev pub body6_text : List ℕ → List ℕ
 body6_text bytes =
     if is_echo6 (type_in bytes) then echo_text bytes
-    else if is_error6 (type_in bytes) then told6 bytes ++ quote6_text (data_in bytes)
+    else if is_error6 (type_in bytes) then told6 bytes ++ quote6_text (quoted6 bytes)
     else []
 
 abbrev pub behind6_text : List ℕ → List ℕ
@@ -107,4 +122,4 @@ icmp6_text bytes =
     if nat_lt (length bytes) 4 then [] else head6_text (type_in bytes) (code_in bytes) ++ behind6_text bytes
 
 abbrev pub is_whole6 : List ℕ → Bool
-is_whole6 bytes = nat_le 8 (length bytes) && (not (is_error6 (type_in bytes)) || quotes6 (data_in bytes))
+is_whole6 bytes = nat_le 8 (length bytes) && (not (is_error6 (type_in bytes)) || quotes6 (quoted6 bytes))

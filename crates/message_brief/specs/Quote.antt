@@ -1,11 +1,13 @@
 -- What ICMP errors quote of a datagram: from where it came and to where it went, and its protocol.
-use Rattle.std.specs.Prelude.{◌==◌, ◌&&◌, ◌++◌, [], Bool, List, None, Option, Some, ℕ, codes, decimal, drop}
-use Rattle.std.specs.Prelude.{if◌then◌else◌, length, nat_le}
+use Rattle.std.specs.Prelude.{◌==◌, ◌&&◌, ◌*◌, ◌++◌, [], Bool, List, None, Option, Some, ℕ, codes, decimal, drop}
+use Rattle.std.specs.Prelude.{if◌then◌else◌, length, nat_le, take}
 use Rattle.wirebase.specs.Bytes.{byte_of, bytes_of}
 use Rattle.wirebase.specs.Ip.{protocol_number, protocol_of}
 use Rattle.wirebase.specs.Ipv4 as ipv4
 use Rattle.wirebase.specs.Ipv6 as ipv6
 use Rattle.wirebase.specs.declared.ip.IpProtocol.{IpProtocol}
+use Rattle.extension_wire.specs.Split.{unit}
+use Rattle.extension_wire.specs.declared.family.Family.{Family}
 use Rattle.quote_wire.specs.Upper.{UpperValue, own_part}
 use Rattle.packet_fields.specs.Labels.{label_text}
 use Rattle.packet_fields.specs.Ports.{ports_in}
@@ -34,6 +36,16 @@ protocol_text protocol =
 unfoldable pub quoted_text : List ℕ → List ℕ → Option (ℕ × ℕ) → IpProtocol → List ℕ
 quoted_text source destination ports protocol =
     codes " quoted=" ++ (path_text source destination ports ++ word (protocol_text protocol))
+
+-- ---- what is quoted, without extensions (RFC 4884 section 3)
+
+-- The length of an error counts words of 4 octets, or of 8 in ICMPv6. It tells where the quoted part ends where these
+-- are 128 octets or more, and all there.
+abbrev pub tells_end : Family → ℕ → List ℕ → Bool
+tells_end f n bytes = nat_le 128 (unit f * n) && nat_le (unit f * n) (length bytes)
+
+abbrev pub quoted_part : Family → ℕ → List ℕ → List ℕ
+quoted_part f n bytes = if tells_end f n bytes then take (unit f * n) bytes else bytes
 
 -- ---- IPv4 (RFC 791 section 3.1)
 

@@ -9,11 +9,12 @@ ghost use Rattle.wirebase.specs.Sink.{PutsText};
 ghost use Rattle.message_brief.specs.Words.{keyed};
 ghost use Rattle.message_brief.specs.Icmp.{behind4_text, behind6_text, body4_text, body6_text, code_text, echo_text};
 ghost use Rattle.message_brief.specs.Icmp.{head4_text, head6_text, head_text, icmp4_text, icmp6_text, is_echo4, is_echo6};
-ghost use Rattle.message_brief.specs.Icmp.{is_error4, is_error6, is_whole4, is_whole6, mtu_text, told4, told6};
-ghost use Rattle.message_brief.specs.Icmp.{type6_text, type_text};
+ghost use Rattle.message_brief.specs.Icmp.{is_error4, is_error6, is_whole4, is_whole6, length4, length6, mtu_text};
+ghost use Rattle.message_brief.specs.Icmp.{quoted4, quoted6, told4, told6, type6_text, type_text};
 
-use crate::quote::{put_quote4, put_quote6, quotes4, quotes6};
+use crate::quote::{put_quote4, put_quote6, quoted_part, quotes4, quotes6};
 use crate::words::{Number, put_keyed, put_word};
+use extension_wire::Family;
 use icmp_fields::icmp_names::{icmp4_code_name, icmp4_type_name, icmp6_code_name, icmp6_type_name};
 use packet_fields::label::Label;
 use packet_fields::texts::Address;
@@ -37,6 +38,10 @@ mod place {
     pub const GATEWAY: Field = 4..8;
 
     pub const POINTER4: usize = 4;
+
+    pub const LENGTH6: usize = 4;
+
+    pub const LENGTH4: usize = 5;
 
     pub const MTU4: Field = 6..8;
 
@@ -77,8 +82,7 @@ pub(crate) fn is_whole4(octets: &[u8]) -> bool
     if octets.len() < place::HEADER_LEN {
         return false;
     }
-    let (_, quoted) = octets.split_at(place::HEADER_LEN);
-    !is_error4(octets[place::TYPE]) || quotes4(quoted)
+    !is_error4(octets[place::TYPE]) || quotes4(quoted4(octets))
 }
 
 #[tactic(auto, using(wirebase::proofs::Sinks::puts), unfolding(crate::specs::Icmp::head4_text))]
@@ -109,9 +113,8 @@ fn put_body4<O, S: Sink<O>>(output: &mut O, octets: &[u8]) -> Result<(), S::Erro
     if !is_error4(octets[place::TYPE]) {
         return Ok(());
     }
-    let (_, quoted) = octets.split_at(place::HEADER_LEN);
     put_told4::<O, S>(output, octets)?;
-    put_quote4::<O, S>(output, quoted)
+    put_quote4::<O, S>(output, quoted4(octets))
 }
 
 fn is_echo4(type_: u8) -> bool
@@ -124,6 +127,26 @@ fn is_error4(type_: u8) -> bool
     ensures { result ≡ is_error4 type_ }
 {
     matches!(type_, 3 | 4 | 5 | 11 | 12)
+}
+
+// What an ICMPv4 error quotes, without its extensions.
+fn quoted4(octets: &[u8]) -> &[u8]
+    requires { 8 ≤ length octets.now }
+    ensures { result.now ≡ quoted4 octets.now }
+{
+    let (_, data) = octets.split_at(place::HEADER_LEN);
+    quoted_part(data, length4(octets), Family::V4)
+}
+
+// The length of what it quotes (RFC 4884 section 4), 0 in types that have none.
+fn length4(octets: &[u8]) -> u8
+    requires { 8 ≤ length octets.now }
+    ensures { result ≡ length4 octets.now }
+{
+    match octets[place::TYPE] {
+        3 | 11 | 12 => octets[place::LENGTH4],
+        _ => 0,
+    }
 }
 
 // Puts what the header of an ICMPv4 error tells behind its checksum.
@@ -159,8 +182,7 @@ pub(crate) fn is_whole6(octets: &[u8]) -> bool
     if octets.len() < place::HEADER_LEN {
         return false;
     }
-    let (_, quoted) = octets.split_at(place::HEADER_LEN);
-    !is_error6(octets[place::TYPE]) || quotes6(quoted)
+    !is_error6(octets[place::TYPE]) || quotes6(quoted6(octets))
 }
 
 /// Puts the name of a type of ICMPv6.
@@ -200,9 +222,8 @@ fn put_body6<O, S: Sink<O>>(output: &mut O, octets: &[u8]) -> Result<(), S::Erro
     if !is_error6(octets[place::TYPE]) {
         return Ok(());
     }
-    let (_, quoted) = octets.split_at(place::HEADER_LEN);
     put_told6::<O, S>(output, octets)?;
-    put_quote6::<O, S>(output, quoted)
+    put_quote6::<O, S>(output, quoted6(octets))
 }
 
 fn is_echo6(type_: u8) -> bool
@@ -215,6 +236,26 @@ fn is_error6(type_: u8) -> bool
     ensures { result ≡ is_error6 type_ }
 {
     matches!(type_, 1..=4)
+}
+
+// What an ICMPv6 error quotes, without its extensions.
+fn quoted6(octets: &[u8]) -> &[u8]
+    requires { 8 ≤ length octets.now }
+    ensures { result.now ≡ quoted6 octets.now }
+{
+    let (_, data) = octets.split_at(place::HEADER_LEN);
+    quoted_part(data, length6(octets), Family::V6)
+}
+
+// The length of what it quotes (RFC 4884 section 4), 0 in types that have none.
+fn length6(octets: &[u8]) -> u8
+    requires { 8 ≤ length octets.now }
+    ensures { result ≡ length6 octets.now }
+{
+    match octets[place::TYPE] {
+        1 | 3 => octets[place::LENGTH6],
+        _ => 0,
+    }
 }
 
 // Puts what the header of an ICMPv6 error tells behind its checksum.

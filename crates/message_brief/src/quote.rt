@@ -9,10 +9,11 @@ ghost use Rattle.wirebase.specs.Sink.{PutsText};
 ghost use Rattle.quote_wire.specs.Upper.{own_payload};
 ghost use Rattle.icmp_fields.specs.Quote.{upper_ports};
 ghost use Rattle.message_brief.specs.Quote.{path_text, ports4, protocol4, protocol_or, quote4_text, quote6_text};
-ghost use Rattle.message_brief.specs.Quote.{quoted_text, quotes4, quotes6, with_port};
+ghost use Rattle.message_brief.specs.Quote.{quoted_part, quoted_text, quotes4, quotes6, with_port};
 ghost use Rattle.message_brief.specs.Upper.{upper_in};
 
 use crate::words::put_word;
+use extension_wire::{Family, Parts};
 use icmp_fields::protocol_names::protocol_name;
 use icmp_fields::quote::own_payload;
 use packet_fields::label::Label;
@@ -57,6 +58,17 @@ mod ipv6 {
 
 // The octets of an IPv6 address.
 const V6_LEN: usize = 16;
+
+/// What an error quotes, of the octets behind its header: those that its length counts, without the extensions behind
+/// them (RFC 4884 section 3), or all where it counts none, fewer than 128, or more than there are.
+pub(crate) fn quoted_part(octets: &[u8], length: u8, family: Family) -> &[u8]
+    ensures { result.now ≡ quoted_part family length octets.now }
+{
+    match Parts::split(octets, length, family) {
+        Ok(parts) => parts.quoted,
+        Err(_) => octets,
+    }
+}
 
 /// Puts what an error of ICMPv4 quotes, where it is the front of a datagram.
 pub(crate) fn put_quote4<O, S: Sink<O>>(output: &mut O, octets: &[u8]) -> Result<(), S::Error>

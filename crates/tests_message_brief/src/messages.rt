@@ -225,9 +225,10 @@ fn messages_of_captures(rt: HostRuntime) {
     }
 }
 
-// Quotes by the pictures of RFC 791 and RFC 8200: of UDP behind destination options, whole, with ports behind the
-// packet's own payload, and of a later fragment; of IPv4, with ports behind the datagram's own payload, and of a total
-// length that is too small for the header.
+// Quotes by the pictures of RFC 791, RFC 8200 and RFC 4884: of UDP behind destination options, whole, with ports behind
+// the packet's own payload, of a later fragment, and with the end of the options where 16 words of 8 octets and the
+// quote end, behind which an extension structure has an object; of IPv4, with ports behind the datagram's own payload,
+// and of a total length that is too small for the header.
 const QUOTES: &[Row] = &[
     (
         Kind::Icmp6,
@@ -246,6 +247,14 @@ const QUOTES: &[Row] = &[
         b"\x01\x04\0\0\0\0\0\0`\0\0\0\0\x10,@\x20\x01\x0d\xb8\0\0\0\0\0\0\0\0\0\0\0\x01\x20\x01\x0d\xb8\0\0\0\0\0\0\
             \0\0\0\0\0\x02\x11\0\0\x08\0\0\0\x01\xc3P\x82\x9b\0\x08\0\0",
         " destination_unreachable port_unreachable quoted=2001:db8::1>2001:db8::2 ipv6_frag",
+    ),
+    (
+        Kind::Icmp6,
+        b"\x01\0\x44\x6a\x10\0\0\0`\0\0\0\0`<\xff\xfe\x80\0\0\0\0\0\0\0\0\0\0\0\0\0\x01\xfe\x80\0\0\0\0\0\0\
+            \0\0\0\0\0\0\0\x02\x11\x0a\x01T\0\0\0\0\0\0\0\0\0\0\0\0\0\0\0\0\0\0\0\0\0\0\0\0\0\0\0\0\0\0\0\0\
+            \0\0\0\0\0\0\0\0\0\0\0\0\0\0\0\0\0\0\0\0\0\0\0\0\0\0\0\0\0\0\0\0\0\0\0\0\0\0\0\0\0\0\0\0\0\0\0\0\
+            \0\0\0\0\x20\0\x1a0\0\x08\x01\x01abcd",
+        " destination_unreachable no_route_to_destination quoted=fe80::1>fe80::2 udp",
     ),
     (
         Kind::Icmp4,

@@ -1,9 +1,10 @@
 // Made from crates/message_brief/src/icmp.rt by rust/erase.
 //! Brief lines of ICMPv4 (RFC 792) and ICMPv6 (RFC 4443).
 
-use crate::quote::{put_quote4, put_quote6, quotes4, quotes6};
+use crate::quote::{put_quote4, put_quote6, quoted_part, quotes4, quotes6};
 use crate::words::{Number, put_keyed, put_word};
 use control_wire::Octets;
+use control_wire::extensions::Family;
 use control_wire::inside::text::Sink;
 use icmp_fields::icmp_names::{icmp4_code_name, icmp4_type_name, icmp6_code_name, icmp6_type_name};
 use packet_fields::label::Label;
@@ -26,6 +27,10 @@ mod place {
     pub const GATEWAY: Field = 4..8;
 
     pub const POINTER4: usize = 4;
+
+    pub const LENGTH6: usize = 4;
+
+    pub const LENGTH4: usize = 5;
 
     pub const MTU4: Field = 6..8;
 
@@ -62,8 +67,7 @@ pub(crate) fn is_whole4(octets: &[u8]) -> bool {
     if octets.len() < place::HEADER_LEN {
         return false;
     }
-    let (_, quoted) = octets.split_at(place::HEADER_LEN);
-    !is_error4(octets[place::TYPE]) || quotes4(quoted)
+    !is_error4(octets[place::TYPE]) || quotes4(quoted4(octets))
 }
 
 fn put_head4<O, S: Sink<O>>(output: &mut O, type_: u8, code: u8) -> Result<(), S::Error> {
@@ -85,9 +89,8 @@ fn put_body4<O, S: Sink<O>>(output: &mut O, octets: &[u8]) -> Result<(), S::Erro
     if !is_error4(octets[place::TYPE]) {
         return Ok(());
     }
-    let (_, quoted) = octets.split_at(place::HEADER_LEN);
     put_told4::<O, S>(output, octets)?;
-    put_quote4::<O, S>(output, quoted)
+    put_quote4::<O, S>(output, quoted4(octets))
 }
 
 fn is_echo4(type_: u8) -> bool {
@@ -96,6 +99,20 @@ fn is_echo4(type_: u8) -> bool {
 
 fn is_error4(type_: u8) -> bool {
     matches!(type_, 3 | 4 | 5 | 11 | 12)
+}
+
+// What an ICMPv4 error quotes, without its extensions.
+fn quoted4(octets: &[u8]) -> &[u8] {
+    let (_, data) = octets.split_at(place::HEADER_LEN);
+    quoted_part(data, length4(octets), Family::V4)
+}
+
+// The length of what it quotes (RFC 4884 section 4), 0 in types that have none.
+fn length4(octets: &[u8]) -> u8 {
+    match octets[place::TYPE] {
+        3 | 11 | 12 => octets[place::LENGTH4],
+        _ => 0,
+    }
 }
 
 // Puts what the header of an ICMPv4 error tells behind its checksum.
@@ -124,8 +141,7 @@ pub(crate) fn is_whole6(octets: &[u8]) -> bool {
     if octets.len() < place::HEADER_LEN {
         return false;
     }
-    let (_, quoted) = octets.split_at(place::HEADER_LEN);
-    !is_error6(octets[place::TYPE]) || quotes6(quoted)
+    !is_error6(octets[place::TYPE]) || quotes6(quoted6(octets))
 }
 
 /// Puts the name of a type of ICMPv6.
@@ -157,9 +173,8 @@ fn put_body6<O, S: Sink<O>>(output: &mut O, octets: &[u8]) -> Result<(), S::Erro
     if !is_error6(octets[place::TYPE]) {
         return Ok(());
     }
-    let (_, quoted) = octets.split_at(place::HEADER_LEN);
     put_told6::<O, S>(output, octets)?;
-    put_quote6::<O, S>(output, quoted)
+    put_quote6::<O, S>(output, quoted6(octets))
 }
 
 fn is_echo6(type_: u8) -> bool {
@@ -168,6 +183,20 @@ fn is_echo6(type_: u8) -> bool {
 
 fn is_error6(type_: u8) -> bool {
     matches!(type_, 1..=4)
+}
+
+// What an ICMPv6 error quotes, without its extensions.
+fn quoted6(octets: &[u8]) -> &[u8] {
+    let (_, data) = octets.split_at(place::HEADER_LEN);
+    quoted_part(data, length6(octets), Family::V6)
+}
+
+// The length of what it quotes (RFC 4884 section 4), 0 in types that have none.
+fn length6(octets: &[u8]) -> u8 {
+    match octets[place::TYPE] {
+        1 | 3 => octets[place::LENGTH6],
+        _ => 0,
+    }
 }
 
 // Puts what the header of an ICMPv6 error tells behind its checksum.

@@ -2,6 +2,7 @@
 //! What ICMP errors quote of a datagram: from where it came and to where it went, and its protocol.
 
 use crate::words::put_word;
+use control_wire::extensions::{Family, Parts};
 use control_wire::inside::text::{Sink, put_number};
 use control_wire::quotes::quote::Ipv6Quote;
 use control_wire::{IpProtocol, Octets};
@@ -46,6 +47,15 @@ mod ipv6 {
 
 // The octets of an IPv6 address.
 const V6_LEN: usize = 16;
+
+/// What an error quotes, of the octets behind its header: those that its length counts, without the extensions behind
+/// them (RFC 4884 section 3), or all where it counts none, fewer than 128, or more than there are.
+pub(crate) fn quoted_part(octets: &[u8], length: u8, family: Family) -> &[u8] {
+    match Parts::split(octets, length, family) {
+        Ok(parts) => parts.quoted,
+        Err(_) => octets,
+    }
+}
 
 /// Puts what an error of ICMPv4 quotes, where it is the front of a datagram.
 pub(crate) fn put_quote4<O, S: Sink<O>>(output: &mut O, octets: &[u8]) -> Result<(), S::Error> {
