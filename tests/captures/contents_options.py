@@ -108,7 +108,7 @@ def portal(values, _):
 def uri_character(character):
     if character == "\ufffd":
         return r"\\x[0-9a-f]{2}"
-    if character.isascii():
+    if "!" <= character <= "~":
         return re.escape("\\" * (character in '\\"') + character)
     return re.escape("".join("\\x%02x" % octet for octet in character.encode()))
 

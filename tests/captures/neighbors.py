@@ -1,9 +1,8 @@
 """Hop-by-hop options, neighbor discovery, multicast listeners and groups, as items, however much of them is there."""
-from dhcp import characters
 from frames import Refused
 from items import HIDDEN, Cell, Entries, Entry, Field, Named, Time, labelled, named, seconds
 from registries import (ALERTS, HOP_OPTIONS, ICMP6_TYPES, IGMP_TYPES, NEIGHBOR_OPTIONS, PREFERENCES, RECORDS)
-from text import address, be, colons, dotted, mac
+from text import address, be, colons, dotted, mac, name_text
 from zones import label
 
 CUT_OPTION = "fewer bytes than the option counts"
@@ -267,8 +266,8 @@ def names_in(octets):
 
 
 def portal(octets):
-    """RFC 8910 section 2.3."""
-    return (("uri", characters(octets[2:].rstrip(b"\0"))),)
+    """RFC 8910 section 2.3. A space is no character of a URI (RFC 3986 section 2), and is told by its digits."""
+    return (("uri", name_text(octets[2:])),)
 
 
 # The bits of the prefix of a NAT64 by their code.

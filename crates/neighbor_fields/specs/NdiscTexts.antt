@@ -79,12 +79,12 @@ unfoldable pub without_zeros : List ℕ → List ℕ
 without_zeros [] = []
 without_zeros (b ∷ bs) = before_zeros b (without_zeros bs)
 
--- an octet of a URI: `"` and `\` after a backslash, other visible ones and a space as themselves, and any other by two
--- digits
+-- an octet of a URI: `"` and `\` after a backslash, other visible ones as themselves, and any other by two digits, also
+-- a space, which no URI has (RFC 3986 section 2)
 abbrev pub uri_character : ℕ → List ℕ
 uri_character b =
     if b == 34 || b == 92 then codes "\\" ++ b ∷ []
-    else if nat_le 32 b && nat_le b 126 then b ∷ []
+    else if nat_le 33 b && nat_le b 126 then b ∷ []
     else codes "\\x" ++ encode_lower (b ∷ [])
 
 unfoldable pub uri_text : List ℕ → List ℕ

@@ -68,6 +68,14 @@ const OPTIONS: &[(&[u8], &str)] = &[
         ],
         "  captive_portal=https://a.b\n",
     ),
+    // A space is no character of a URI (RFC 3986 section 2), so that no URI reads as another field.
+    (
+        &[
+            133, 0, 0, 0, 0, 0, 0, 0, 37, 2, b'u', b':', b'!', b'~', b' ', b'a', b'=', 0x7f, b'b',
+            b' ', 0, 0, 0, 0,
+        ],
+        "  captive_portal=u:!~\\x20a=\\x7fb\\x20\n",
+    ),
     (
         &[
             133, 0, 0, 0, 0, 0, 0, 0, 38, 2, 0x07, 0x08, 0, 0x64, 0xff, 0x9b, 0, 0, 0, 0, 0, 0, 0,
@@ -214,6 +222,6 @@ fn members_of_options_of_other_standards(rt: HostRuntime) {
         {\"option\":\"route_information\",\"prefix\":\"::/0\",\"preference\":\"high\",\"lifetime\":60000,\
         \"type\":24},{\"option\":\"recursive_dns_server\",\"servers\":[\"2001:db8::1\",\"2001:db8::2\"],\
         \"lifetime\":60000,\"type\":25},{\"option\":\"dns_search_list\",\"names\":[],\"lifetime\":60000,\
-        \"type\":31},{\"option\":\"captive_portal\",\"uri\":\"\\\\\\\" \\\\xe9\\\\\\\\\",\"type\":37}]";
+        \"type\":31},{\"option\":\"captive_portal\",\"uri\":\"\\\\\\\"\\\\x20\\\\xe9\\\\\\\\\",\"type\":37}]";
     members_are(&rt, rt.alloc(), Kind::Ndisc, octets, json);
 }

@@ -165,7 +165,7 @@ fn put_uri_character<O, S: Sink<O>>(output: &mut O, octet: u8) -> Result<(), S::
 {
     match octet {
         b'"' | b'\\' => S::put(output, &[b'\\', octet]),
-        b' '..=b'~' => S::put(output, &[octet]),
+        b'!'..=b'~' => S::put(output, &[octet]),
         _ => put_hidden::<O, S>(output, octet),
     }
 }

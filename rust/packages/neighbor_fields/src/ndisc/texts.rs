@@ -131,7 +131,7 @@ fn put_uri_characters<O, S: Sink<O>>(output: &mut O, octets: &[u8]) -> Result<()
 fn put_uri_character<O, S: Sink<O>>(output: &mut O, octet: u8) -> Result<(), S::Error> {
     match octet {
         b'"' | b'\\' => S::put(output, &[b'\\', octet]),
-        b' '..=b'~' => S::put(output, &[octet]),
+        b'!'..=b'~' => S::put(output, &[octet]),
         _ => put_hidden::<O, S>(output, octet),
     }
 }
