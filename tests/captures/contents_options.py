@@ -39,10 +39,13 @@ def prefix(values, _):
     def number(name):
         return values.number("icmpv6.opt.prefix." + name)
 
-    return {"prefix": f'{values.text("icmpv6.opt.prefix")}/{number("length")}',
+    bits = number("length")
+    told = {"prefix": f'{values.text("icmpv6.opt.prefix")}/{bits}',
             "flags": flags(number("flag"), "on_link", "autonomous", "router_address"),
             "valid_lifetime": 1000 * number("valid_lifetime"),
             "preferred_lifetime": 1000 * number("preferred_lifetime")}
+    # An address has 128 bits.
+    return told if bits <= 128 else None
 
 
 def redirected(packet):

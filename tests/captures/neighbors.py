@@ -167,7 +167,9 @@ def neighbor_option(octets, is_whole):
     if kind in (1, 2):
         return told(("addr", mac(octets[2:])))
     if kind == 3:
-        return told(*prefix(octets)) if len(octets) == 32 else plain("not 32 bytes")
+        if len(octets) != 32:
+            return plain("not 32 bytes")
+        return told(*prefix(octets)) if octets[2] <= 128 else plain("too many bits for the prefix")
     if kind == 4:
         if len(octets) < 48:
             return plain("fewer than 48 bytes")

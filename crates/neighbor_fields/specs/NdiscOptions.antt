@@ -60,6 +60,13 @@ option_len bytes =
     else if nat_lt (length bytes) (8 * units_in bytes) then length bytes
     else 8 * units_in bytes
 
+-- why a prefix is refused, where it is (RFC 4861 section 4.6.2): an address has 128 bits
+abbrev pub wrong_prefix : List ℕ → Option (List ℕ)
+wrong_prefix bytes =
+    if length bytes == 32 then (if nat_lt 128 (byte_of (at 2 3) bytes) then Some (codes "too many bits for the prefix")
+    else None)
+    else Some (codes "not 32 bytes")
+
 -- why a redirected packet is refused, where it is: it has no room for an IPv6 header, or its version is another
 abbrev pub wrong_quote : List ℕ → Option (List ℕ)
 wrong_quote bytes =
@@ -113,7 +120,7 @@ wrong_other bytes =
 
 abbrev pub wrong_form : List ℕ → Option (List ℕ)
 wrong_form bytes =
-    if type_in bytes == 3 then (if length bytes == 32 then None else Some (codes "not 32 bytes"))
+    if type_in bytes == 3 then wrong_prefix bytes
     else if type_in bytes == 4 then wrong_quote bytes
     else if type_in bytes == 5 then (if length bytes == 8 then None else Some (codes "not 8 bytes"))
     else wrong_other bytes

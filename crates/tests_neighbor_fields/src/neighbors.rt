@@ -209,6 +209,35 @@ fn options_by_their_octets(rt: HostRuntime) {
     }
 }
 
+// A prefix has at most the 128 bits of an address (RFC 4861 section 4.6.2).
+#[test]
+fn longest_prefix(rt: HostRuntime) {
+    let rows: &[(u8, &str)] = &[
+        (
+            128,
+            "  prefix_information=2001:db8::/128 flags=on_link valid_lifetime=1s preferred_lifetime=0s\n",
+        ),
+        (
+            129,
+            "  prefix_information=81800000000100000000\
+                0000000020010db8000000000000000000000000 refused=too many bits for the prefix\n",
+        ),
+        (
+            255,
+            "  prefix_information=ff800000000100000000\
+                0000000020010db8000000000000000000000000 refused=too many bits for the prefix\n",
+        ),
+    ];
+    let mut octets = [
+        133, 0, 0, 0, 0, 0, 0, 0, 3, 4, 0, 0x80, 0, 0, 0, 1, 0, 0, 0, 0, 0, 0, 0, 0, 0x20, 0x01,
+        0x0d, 0xb8, 0, 0, 0, 0, 0, 0, 0, 0, 0, 0, 0, 0,
+    ];
+    for &(len, line) in rows {
+        octets[10] = len;
+        ends_with_line(&rt, rt.alloc(), Kind::Ndisc, &octets, line);
+    }
+}
+
 // A redirected header is of IPv6 (RFC 4861 section 4.6.3); one of version 4 is none.
 #[test]
 fn redirected_header_of_another_version(rt: HostRuntime) {

@@ -1,14 +1,17 @@
 //! Why options of neighbor discovery are refused by their types.
 
-ghost use Rattle.std.specs.Prelude.{◌==◌, ◌≡◌, ◌≤◌, None, Some, if◌then◌else◌, length};
+ghost use Rattle.std.specs.Prelude.{◌≡◌, ◌≤◌, length};
 ghost use Rattle.std.specs.Option.{option_map};
 ghost use Rattle.neighbor_fields.specs.NdiscOptions.{wrong_form, wrong_nat64, wrong_other, wrong_quote};
-ghost use Rattle.neighbor_fields.specs.NdiscOptions.{wrong_route, wrong_search_list, wrong_servers};
+ghost use Rattle.neighbor_fields.specs.NdiscOptions.{wrong_prefix, wrong_route, wrong_search_list, wrong_servers};
 
 use super::options::{MTU, PREFIX_INFORMATION, REDIRECTED_HEADER, place};
 use super::others::{DNS_SEARCH_LIST, PREF64, RECURSIVE_DNS_SERVER, ROUTE_INFORMATION, field};
 use super::texts::wrong_names;
 use wirebase::Octets;
+
+// The bits of an address.
+const MOST_PREFIX: u8 = 128;
 
 // Why an option of the length that it counts is refused by its type, where it is.
 pub(super) fn wrong_form(option: &[u8]) -> Option<&'static str>
@@ -16,22 +19,25 @@ pub(super) fn wrong_form(option: &[u8]) -> Option<&'static str>
     ensures { option_map (λ why. why.now) result ≡ wrong_form option.now }
 {
     match option[0] {
-        PREFIX_INFORMATION => wrong_len(option, place::PREFIX_END, "not 32 bytes"),
+        PREFIX_INFORMATION => wrong_prefix(option),
         REDIRECTED_HEADER => wrong_quote(option),
-        MTU => wrong_len(option, place::MTU_END, "not 8 bytes"),
+        MTU if option.len() != place::MTU_END => Some("not 8 bytes"),
+        MTU => None,
         _ => wrong_other(option),
     }
 }
 
-// That an option has another length than this, where it has.
-fn wrong_len(option: &[u8], len: usize, why: &'static str) -> Option<&'static str>
-    ensures { option_map (λ why. why.now) result
-        ≡ (if length option.now == len then None else Some why.now) }
+// Why a prefix is refused, where it is (RFC 4861 section 4.6.2).
+fn wrong_prefix(option: &[u8]) -> Option<&'static str>
+    ensures { option_map (λ why. why.now) result ≡ wrong_prefix option.now }
 {
-    if option.len() == len {
-        return None;
+    if option.len() != place::PREFIX_END {
+        return Some("not 32 bytes");
     }
-    Some(why)
+    if option.u8_at(place::PREFIX_LEN) > MOST_PREFIX {
+        return Some("too many bits for the prefix");
+    }
+    None
 }
 
 // Why a redirected packet is refused, where it is.

@@ -6,22 +6,29 @@ use super::others::{DNS_SEARCH_LIST, PREF64, RECURSIVE_DNS_SERVER, ROUTE_INFORMA
 use super::texts::wrong_names;
 use control_wire::Octets;
 
+// The bits of an address.
+const MOST_PREFIX: u8 = 128;
+
 // Why an option of the length that it counts is refused by its type, where it is.
 pub(super) fn wrong_form(option: &[u8]) -> Option<&'static str> {
     match option[0] {
-        PREFIX_INFORMATION => wrong_len(option, place::PREFIX_END, "not 32 bytes"),
+        PREFIX_INFORMATION => wrong_prefix(option),
         REDIRECTED_HEADER => wrong_quote(option),
-        MTU => wrong_len(option, place::MTU_END, "not 8 bytes"),
+        MTU if option.len() != place::MTU_END => Some("not 8 bytes"),
+        MTU => None,
         _ => wrong_other(option),
     }
 }
 
-// That an option has another length than this, where it has.
-fn wrong_len(option: &[u8], len: usize, why: &'static str) -> Option<&'static str> {
-    if option.len() == len {
-        return None;
+// Why a prefix is refused, where it is (RFC 4861 section 4.6.2).
+fn wrong_prefix(option: &[u8]) -> Option<&'static str> {
+    if option.len() != place::PREFIX_END {
+        return Some("not 32 bytes");
     }
-    Some(why)
+    if option.u8_at(place::PREFIX_LEN) > MOST_PREFIX {
+        return Some("too many bits for the prefix");
+    }
+    None
 }
 
 // Why a redirected packet is refused, where it is.
