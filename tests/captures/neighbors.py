@@ -379,17 +379,19 @@ def floating(code, digits):
 
 
 def addresses(octets, width):
-    """Addresses, of which the last may be cut."""
+    """Addresses, all of which are whole."""
     return [address(octets[at:at + width]) for at in range(0, len(octets), width)]
 
 
 def sources(octets, width):
     """What a query has behind its group, from the flags of its querier on."""
-    end = 4 + width * be(octets[2:4])
+    count = be(octets[2:4])
+    whole = min(count, (len(octets) - 4) // width)
+    end = 4 + width * whole
     items = [Field("s_flag", octets[0] & 8 > 0), Field("qrv", octets[0] & 7), Field("qqic", octets[1]),
              Field("querier_query_interval", seconds(floating(octets[1], 4))),
              Field("sources", addresses(octets[4:end], width))]
-    refused = [Field("refused", "fewer sources than the query counts")] if len(octets) < end else []
+    refused = [Field("refused", "fewer sources than the query counts")] if whole < count else []
     return items + refused + additional(octets[end:])
 
 

@@ -6,7 +6,7 @@
 -- +---------------+---------------+-------------------------------+
 -- | group address, sources, auxiliary data in words of 4 octets
 -- +- - - -
-use Rattle.std.specs.Prelude.{zero, suc, ◌==◌, ◌||◌, ◌*◌, ◌/◌, ◌%◌, ◌+◌, ◌^◌, [], ◌∷◌, ◌++◌, Bool, List, None, Option}
+use Rattle.std.specs.Prelude.{zero, suc, ◌==◌, ◌||◌, ◌*◌, ◌/◌, ◌%◌, ◌+◌, ◌-◌, ◌^◌, [], ◌∷◌, ◌++◌, Bool, List, None, Option}
 use Rattle.std.specs.Prelude.{Some, ℕ, codes, drop}
 use Rattle.std.specs.Prelude.{if◌then◌else◌, length, map, nat_lt, take}
 use Rattle.wirebase.specs.Bytes.{byte_of, bytes_of, field as at, number_of}
@@ -93,15 +93,20 @@ records_items width count bytes =
     (entries (codes "records") (map (record_entry width) (parts (record_len width) count bytes)) ∷ [])
     ++ lack_items (records_lack width count bytes) ++ additional_items (behind (record_len width) count bytes)
 
--- ---- `count` sources of a query, that fewer of them are whole, where that is so, and what stands behind them
+-- ---- the whole ones of `count` sources of a query, that they are fewer, where that is so, and what stands behind them
 
 abbrev pub sources_lack : ℕ → ℕ → List ℕ → Option Lack
 sources_lack width count bytes = if nat_lt (length bytes) (width * count) then Some Lack.Sources else None
 
+-- the octets of those that are whole
+abbrev pub whole_len : ℕ → ℕ → List ℕ → ℕ
+whole_len width count bytes =
+    if nat_lt (length bytes) (width * count) then length bytes - length bytes % width else width * count
+
 abbrev pub sources_items : ℕ → ℕ → List ℕ → List Item
 sources_items width count bytes =
-    (field (codes "sources") (texts (addresses width (take (width * count) bytes))) ∷ [])
-    ++ lack_items (sources_lack width count bytes) ++ additional_items (drop (width * count) bytes)
+    (field (codes "sources") (texts (addresses width (take (whole_len width count bytes) bytes))) ∷ [])
+    ++ lack_items (sources_lack width count bytes) ++ additional_items (drop (whole_len width count bytes) bytes)
 
 -- ---- codes
 

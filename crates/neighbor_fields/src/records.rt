@@ -14,7 +14,7 @@ ghost use Rattle.neighbor_fields.specs.Messages.{additional_items};
 ghost use Rattle.neighbor_fields.specs.Records.{aux_cells, code_number, counted_len, cut_entry, is_cut, label_of};
 ghost use Rattle.neighbor_fields.specs.Records.{long_code_number, querier_items, record_entry, record_len};
 ghost use Rattle.neighbor_fields.specs.Records.{records_items, records_lack, sources_end, sources_items, sources_lack};
-ghost use Rattle.neighbor_fields.specs.Records.{whole_entry};
+ghost use Rattle.neighbor_fields.specs.Records.{whole_entry, whole_len};
 
 use crate::lack::Lack;
 use crate::messages::{show_additional, show_lack};
@@ -273,7 +273,7 @@ fn show_aux_data<W: Write>(output: &mut W, form: Form, data: &[u8]) -> io::Resul
     keyed_cell(output, form, "aux_data", data)
 }
 
-// Prints `count` sources of a query and what stands behind them, and returns whether fewer are whole.
+// Prints the whole ones of `count` sources of a query and what stands behind them, and returns whether they are fewer.
 pub(crate) fn show_sources<W: Write>(
     output: &mut W,
     form: Form,
@@ -288,8 +288,7 @@ pub(crate) fn show_sources<W: Write>(
     ensures lack { IfOk result (λ lack. lack ≡ sources_lack width count octets.now) }
 {
     let lack = sources_lack(width, count, octets);
-    let len = octets.len().min(width * count as usize);
-    let (octets, behind) = octets.split_at(len);
+    let (octets, behind) = octets.split_at(whole_len(width, count, octets));
     field(output, form, "sources", Addresses { width, octets })?;
     show_lack(output, form, lack)?;
     show_additional(output, form, behind)?;
@@ -305,6 +304,20 @@ fn sources_lack(width: usize, count: u16, octets: &[u8]) -> Option<Lack>
         return Some(Lack::Sources);
     }
     None
+}
+
+// The octets of those of `count` sources that are whole.
+fn whole_len(width: usize, count: u16, octets: &[u8]) -> usize
+    requires wide { 1 ≤ width }
+    requires small { width ≤ 16 }
+    ensures value { result ≡ whole_len width count octets.now }
+    ensures within { result ≤ length octets.now }
+{
+    let counted = width * count as usize;
+    if octets.len() < counted {
+        return octets.len() - octets.len() % width;
+    }
+    counted
 }
 
 // Prints what a query says of its querier.

@@ -144,8 +144,9 @@ fn igmp(rt: HostRuntime) {
   qrv=2
   qqic=125
   querier_query_interval=125s
-  sources=192.0.2.1,c000
+  sources=192.0.2.1
   refused=fewer sources than the query counts
+  additional_data=c000
 ",
         ),
         (
@@ -259,6 +260,28 @@ fn mld(rt: HostRuntime) {
   qqic=125
   querier_query_interval=125s
   sources=-
+",
+        ),
+        // A part of a source of IPv6 that has as many octets as an address of IPv4.
+        (
+            &[
+                0x82, 0x00, 0x13, 0xcd, 0x00, 0x00, 0x00, 0x00, 0xff, 0x02, 0x00, 0x00, 0x00, 0x00,
+                0x00, 0x00, 0x00, 0x00, 0x00, 0x00, 0x00, 0x00, 0xab, 0xcd, 0x00, 0x00, 0x00, 0x01,
+                0xc0, 0x00, 0x02, 0x01,
+            ],
+            "  type=130 (multicast_listener_query)
+  code=0
+  version=2
+  max_resp_code=0
+  max_resp_delay=0s
+  mcast_addr=ff02::abcd
+  s_flag=false
+  qrv=0
+  qqic=0
+  querier_query_interval=0s
+  sources=-
+  refused=fewer sources than the query counts
+  additional_data=c0000201
 ",
         ),
         (

@@ -195,7 +195,7 @@ fn show_aux_data<W: Write>(output: &mut W, form: Form, data: &[u8]) -> io::Resul
     keyed_cell(output, form, "aux_data", data)
 }
 
-// Prints `count` sources of a query and what stands behind them, and returns whether fewer are whole.
+// Prints the whole ones of `count` sources of a query and what stands behind them, and returns whether they are fewer.
 pub(crate) fn show_sources<W: Write>(
     output: &mut W,
     form: Form,
@@ -204,8 +204,7 @@ pub(crate) fn show_sources<W: Write>(
     octets: &[u8],
 ) -> io::Result<Option<Lack>> {
     let lack = sources_lack(width, count, octets);
-    let len = octets.len().min(width * count as usize);
-    let (octets, behind) = octets.split_at(len);
+    let (octets, behind) = octets.split_at(whole_len(width, count, octets));
     field(output, form, "sources", Addresses { width, octets })?;
     show_lack(output, form, lack)?;
     show_additional(output, form, behind)?;
@@ -218,6 +217,15 @@ fn sources_lack(width: usize, count: u16, octets: &[u8]) -> Option<Lack> {
         return Some(Lack::Sources);
     }
     None
+}
+
+// The octets of those of `count` sources that are whole.
+fn whole_len(width: usize, count: u16, octets: &[u8]) -> usize {
+    let counted = width * count as usize;
+    if octets.len() < counted {
+        return octets.len() - octets.len() % width;
+    }
+    counted
 }
 
 // Prints what a query says of its querier.
