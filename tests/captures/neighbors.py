@@ -246,8 +246,8 @@ MOST_NAME = 255
 
 
 def names_in(octets):
-    """Names up to the end, or to a zero in the place of a name (RFC 1035 section 3.1); or why they are none. A comma of
-    a label is told by its number, since commas stand between names."""
+    """Names (RFC 1035 section 3.1) up to the end, or to zeros that fill the option up (RFC 8106 section 5.2); or why
+    they are none. A comma of a label is told by its number, since commas stand between names."""
     names = []
     while octets and octets[0]:
         text, room = "", MOST_NAME
@@ -264,7 +264,7 @@ def names_in(octets):
             return "the octets end before the name does"
         octets = octets[1:]
         names.append(text)
-    return names
+    return "other bytes than zeros behind the names" if any(octets) else names
 
 
 def portal(octets):

@@ -5,7 +5,7 @@ use Rattle.std.proofs.lemmas.Bool.{lt-ltb, le-ltb, ne_eqb}
 use Rattle.std.proofs.lemmas.List.{length-drop}
 use Rattle.std.specs.Prelude.{if◌then◌else◌, map, slice_index}
 use Rattle.neighbor_fields.specs.NdiscTexts.{label_character, len_within, name_len, name_text, names_in, names_up_to}
-use Rattle.neighbor_fields.specs.NdiscTexts.{text_within, wrong_within}
+use Rattle.neighbor_fields.specs.NdiscTexts.{text_within, wrong_padding, wrong_within}
 
 -- ---- an octet of a label, the length of a label, and the empty label
 
@@ -23,6 +23,13 @@ pub wrong_empty : (taken left b : ℕ) (rest : List ℕ) → left ≤ 0 → b �
 wrong_empty taken zero zero rest none also begun = rw (ne_eqb taken 0 begun) refl
 wrong_empty taken (suc left) b rest none also begun = absurd (omega (arith, none))
 wrong_empty taken zero (suc b) rest none also begun = absurd (omega (arith, also))
+
+pub wrong_ended : (taken left b : ℕ) (rest : List ℕ) → left ≤ 0 → b ≡ 0 → taken ≡ 0
+    → wrong_within taken left (b ∷ rest) ≡ wrong_padding rest
+wrong_ended zero zero zero rest none also begun = refl
+wrong_ended (suc taken) left b rest none also begun = absurd (omega (arith, begun))
+wrong_ended taken (suc left) b rest none also begun = absurd (omega (arith, none))
+wrong_ended taken left (suc b) rest none also begun = absurd (omega (arith, also))
 
 pub len_octet : (left b : ℕ) (rest : List ℕ) → 0 < left
     → len_within left (b ∷ rest) ≡ suc (len_within (left - 1) rest)

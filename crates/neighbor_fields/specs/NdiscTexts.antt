@@ -5,8 +5,24 @@ use Rattle.std.specs.Prelude.{drop, flat_map, if◌then◌else◌, length, map, 
 use Rattle.wirebase.specs.Duration.{three_digits}
 use Rattle.wirebase.specs.Hexadecimal.{encode_lower}
 
+-- ---- zeros
+
+-- the octets without the zeros at their end
+abbrev pub before_zeros : ℕ → List ℕ → List ℕ
+before_zeros b [] = if b == 0 then [] else b ∷ []
+before_zeros b (next ∷ rest) = b ∷ next ∷ rest
+
+unfoldable pub without_zeros : List ℕ → List ℕ
+without_zeros [] = []
+without_zeros (b ∷ bs) = before_zeros b (without_zeros bs)
+
 -- ---- names, one after another up to the end or to a zero in the place of a name, which is padding: each is labels
 -- behind their lengths, and an empty label at its end (RFC 1035 section 3.1)
+
+-- why the octets behind a zero in the place of a name are no padding, where one of them is no zero
+abbrev pub wrong_padding : List ℕ → Option (List ℕ)
+wrong_padding bytes =
+    if length (without_zeros bytes) == 0 then None else Some (codes "other bytes than zeros behind the names")
 
 -- Why octets are no such names, where a name has `taken` octets up to the end of a label, of which `left` are to come:
 -- none before its first label, and at most 255 with its empty one (RFC 1035 section 2.3.4).
@@ -14,7 +30,7 @@ abbrev pub wrong_within : ℕ → ℕ → List ℕ → Option (List ℕ)
 wrong_within taken left [] = if taken == 0 then None else Some (codes "the octets end before the name does")
 wrong_within taken left (b ∷ rest) =
     if nat_lt 0 left then wrong_within taken (left - 1) rest
-    else if b == 0 then (if taken == 0 then None else wrong_within 0 0 rest)
+    else if b == 0 then (if taken == 0 then wrong_padding rest else wrong_within 0 0 rest)
     else if nat_lt 63 b then Some (codes "a label of more than 63 bytes")
     else if nat_lt 255 (taken + 1 + b + 1) then Some (codes "a name of more than 255 bytes")
     else wrong_within (taken + 1 + b) b rest
@@ -69,15 +85,6 @@ abbrev pub names_in : List ℕ → List (List ℕ)
 names_in bytes = map name_text (names_up_to (length bytes) bytes)
 
 -- ---- URIs
-
--- the octets without the zeros at their end
-abbrev pub before_zeros : ℕ → List ℕ → List ℕ
-before_zeros b [] = if b == 0 then [] else b ∷ []
-before_zeros b (next ∷ rest) = b ∷ next ∷ rest
-
-unfoldable pub without_zeros : List ℕ → List ℕ
-without_zeros [] = []
-without_zeros (b ∷ bs) = before_zeros b (without_zeros bs)
 
 -- an octet of a URI: `"` and `\` after a backslash, other visible ones as themselves, and any other by two digits, also
 -- a space, which no URI has (RFC 3986 section 2)

@@ -10,6 +10,7 @@ ghost use Rattle.wirebase.specs.Sink.{PutsText};
 ghost use Rattle.packet_fields.specs.Fields.{text};
 ghost use Rattle.neighbor_fields.specs.NdiscTexts.{label_character, name_len, name_text, text_within};
 ghost use Rattle.neighbor_fields.specs.NdiscTexts.{uri_character, uri_text, without_zeros, wrong_names};
+ghost use Rattle.neighbor_fields.specs.NdiscTexts.{wrong_padding};
 
 use packet_fields::Form;
 use packet_fields::value::{Text, Value, put_text};
@@ -28,13 +29,14 @@ pub(super) fn wrong_names(octets: &[u8]) -> Option<&'static str>
 {
     let mut taken = 0;
     let mut left = 0;
-    for octet in octets {
+    for (place, octet) in octets.iter().enumerate() {
         let end = taken + 1 + *octet as u16;
         if left > 0 {
             left -= 1;
         } else if *octet == 0 {
             if taken == 0 {
-                return None;
+                let (_, padding) = octets.split_at(place + 1);
+                return wrong_padding(padding);
             }
             taken = 0;
         } else if *octet > MOST_LABEL {
@@ -50,6 +52,16 @@ pub(super) fn wrong_names(octets: &[u8]) -> Option<&'static str>
         return None;
     }
     Some("the octets end before the name does")
+}
+
+// Why octets behind the names are no padding (RFC 8106 section 5.2), where they are none.
+fn wrong_padding(octets: &[u8]) -> Option<&'static str>
+    ensures { option_map (λ why. why.now) result ≡ wrong_padding octets.now }
+{
+    if without_zeros(octets).is_empty() {
+        return None;
+    }
+    Some("other bytes than zeros behind the names")
 }
 
 // The octets up to the end of the first name.

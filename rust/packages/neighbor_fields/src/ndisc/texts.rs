@@ -16,13 +16,14 @@ const MOST_NAME: u16 = 255;
 pub(super) fn wrong_names(octets: &[u8]) -> Option<&'static str> {
     let mut taken = 0;
     let mut left = 0;
-    for octet in octets {
+    for (place, octet) in octets.iter().enumerate() {
         let end = taken + 1 + *octet as u16;
         if left > 0 {
             left -= 1;
         } else if *octet == 0 {
             if taken == 0 {
-                return None;
+                let (_, padding) = octets.split_at(place + 1);
+                return wrong_padding(padding);
             }
             taken = 0;
         } else if *octet > MOST_LABEL {
@@ -38,6 +39,14 @@ pub(super) fn wrong_names(octets: &[u8]) -> Option<&'static str> {
         return None;
     }
     Some("the octets end before the name does")
+}
+
+// Why octets behind the names are no padding (RFC 8106 section 5.2), where they are none.
+fn wrong_padding(octets: &[u8]) -> Option<&'static str> {
+    if without_zeros(octets).is_empty() {
+        return None;
+    }
+    Some("other bytes than zeros behind the names")
 }
 
 // The octets up to the end of the first name.

@@ -93,7 +93,8 @@ fn options_of_other_standards() {
     }
 }
 
-// The units that a type allows, the bits and the code of a prefix, and names that end or that have too long a label.
+// The units that a type allows, the bits and the code of a prefix, and names that end, that have too long a label, or
+// that have other bytes than padding behind them.
 const REFUSED: &[(&[u8], &str)] = &[
     (
         &[
@@ -137,6 +138,18 @@ const REFUSED: &[(&[u8], &str)] = &[
             133, 0, 0, 0, 0, 0, 0, 0, 31, 2, 0, 0, 0, 0, 0, 1, 1, b'a', 0, 0xc0, 0, 0, 0, 0,
         ],
         "  dns_search_list=000000000001016100c000000000 refused=a label of more than 63 bytes\n",
+    ),
+    (
+        &[
+            133, 0, 0, 0, 0, 0, 0, 0, 31, 2, 0, 0, 0, 0, 0x07, 0x08, 1, b'a', 0, 0, 1, b'b', 0, 0,
+        ],
+        "  dns_search_list=0000000007080161000001620000 refused=other bytes than zeros behind the names\n",
+    ),
+    (
+        &[
+            133, 0, 0, 0, 0, 0, 0, 0, 31, 2, 0, 0, 0, 0, 0x07, 0x08, 0, 0, 0, 0, 0, 0, 0, 1,
+        ],
+        "  dns_search_list=0000000007080000000000000001 refused=other bytes than zeros behind the names\n",
     ),
     (
         &[
