@@ -50,9 +50,10 @@ def mask(octets):
 
 
 def advertisement(octets):
-    """Routers, in entries of some words of 4 octets (RFC 1256 section 3)."""
+    """Routers, in entries of some words of 4 octets (RFC 1256 section 3). Code 16 is that of a mobility agent that
+    routes no common traffic (RFC 5944 section 2.1)."""
     code, count, words, lifetime = octets[1], octets[4], octets[5], be(octets[6:8])
-    if code:
+    if code not in (0, 16):
         raise Refused("malformed", "code %d is not 0" % code)
     if not count:
         raise Refused("malformed", "an advertisement of no routers")

@@ -8,6 +8,8 @@ TIMES = hexed("02932e00 02932e01 80000001")
 ROUTERS = v4("224.0.0.2"), v4("224.0.0.1")
 # Routers with a preference level of 0, of -1, and as none by default (RFC 1256 section 2.3).
 ENTRIES = v4("192.0.2.1") + hexed("00000000"), v4("192.0.2.2") + hexed("ffffffff"), v4("192.0.2.3") + hexed("80000000")
+# What a mobility agent has behind its routers: a foreign agent and its care-of address (RFC 5944 section 2.1.1).
+AGENT = hexed("10 0a 0001 0708 9000") + v4("192.0.2.1")
 
 
 def raw(*datagrams):
@@ -60,6 +62,10 @@ QUERIES = {
     "icmp4_routers_that_are_missing": raw(
         icmp4(9, 0, hexed("01 02 0708")), icmp4(9, 0, hexed("03 02 0708"), ENTRIES[0] + ENTRIES[1]),
         icmp4(9, 0, hexed("01 03 0708"), ENTRIES[0])),
+    "icmp4_routers_that_route_no_common_traffic": raw(
+        icmp4(9, 16, hexed("02 02 0708"), ENTRIES[0] + ENTRIES[1] + AGENT, destination=ROUTERS[1], ttl=1),
+        icmp4(9, 16, hexed("02 02 0708"), ENTRIES[0] + ENTRIES[1][:7]), icmp4(9, 16, hexed("00 02 0708")),
+        icmp4(9, 17, hexed("01 02 0708"), ENTRIES[0])),
     "icmp4_security_failures": raw(*(icmp4(40, code, hexed("0000 0000"), hexed("00000100")) for code in range(7))),
     "extended_echo_by_name": about(asked(1, b"eth0")),
     "extended_echo_by_a_padded_name": about(asked(1, b'a"b\\c\xc3\n\0')),

@@ -54,9 +54,12 @@ wrong_routers bytes =
     else if nat_lt (length bytes) (routers_end bytes) then Some refusal.Cut
     else None
 
+-- its code is 0, or 16 where a mobility agent routes no common traffic (RFC 5944 section 2.1)
 abbrev pub wrong_advertisement : List ℕ → Option Refusal
 wrong_advertisement bytes =
-    if code_in bytes == 0 then wrong_routers bytes else Some (refusal.Code (code_in bytes))
+    if code_in bytes == 0 then wrong_routers bytes
+    else if code_in bytes == 16 then wrong_routers bytes
+    else Some (refusal.Code (code_in bytes))
 
 -- ---- fields; the times of a timestamp are milliseconds since midnight, universal time, unless the highest bit is set
 

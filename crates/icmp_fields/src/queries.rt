@@ -1,5 +1,5 @@
 //! Messages of ICMPv4 beside echoes and errors: timestamps (RFC 792), address masks (RFC 950), and the solicitations
-//! and advertisements of routers (RFC 1256).
+//! and advertisements of routers (RFC 1256), among these the advertisements of mobility agents (RFC 5944).
 
 #![tactic(auto, using(packet_fields::proofs::Fields::prints_both))]
 
@@ -67,6 +67,12 @@ const WORD: usize = 4;
 
 const ROUTER_WORDS: u8 = 2;
 
+// The codes of an advertisement: that of any router, and that of a mobility agent that routes no common traffic
+// (RFC 5944 section 2.1).
+const NORMAL: u8 = 0;
+
+const NO_COMMON_TRAFFIC: u8 = 16;
+
 // Why a message of so many bytes is refused, where it is.
 pub(crate) fn wrong_fixed(len: usize, message: &[u8]) -> Option<Refusal>
     requires { 8 ≤ length message.now }
@@ -87,11 +93,10 @@ pub(crate) fn wrong_advertisement(message: &[u8]) -> Option<Refusal>
     requires { 8 ≤ length message.now }
     ensures { result ≡ wrong_advertisement message.now }
 {
-    let code = message[place::CODE];
-    if code != 0 {
-        return Some(Refusal::Code(code));
+    match message[place::CODE] {
+        NORMAL | NO_COMMON_TRAFFIC => wrong_routers(message),
+        code => Some(Refusal::Code(code)),
     }
-    wrong_routers(message)
 }
 
 fn wrong_routers(message: &[u8]) -> Option<Refusal>

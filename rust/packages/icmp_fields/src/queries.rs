@@ -1,6 +1,6 @@
 // Made from crates/icmp_fields/src/queries.rt by rust/erase.
 //! Messages of ICMPv4 beside echoes and errors: timestamps (RFC 792), address masks (RFC 950), and the solicitations
-//! and advertisements of routers (RFC 1256).
+//! and advertisements of routers (RFC 1256), among these the advertisements of mobility agents (RFC 5944).
 
 use crate::icmp::{HEADER_END, show_additional, show_cut_entry, show_ids};
 use crate::refusal::Refusal;
@@ -57,6 +57,12 @@ const WORD: usize = 4;
 
 const ROUTER_WORDS: u8 = 2;
 
+// The codes of an advertisement: that of any router, and that of a mobility agent that routes no common traffic
+// (RFC 5944 section 2.1).
+const NORMAL: u8 = 0;
+
+const NO_COMMON_TRAFFIC: u8 = 16;
+
 // Why a message of so many bytes is refused, where it is.
 pub(crate) fn wrong_fixed(len: usize, message: &[u8]) -> Option<Refusal> {
     let code = message[place::CODE];
@@ -71,11 +77,10 @@ pub(crate) fn wrong_fixed(len: usize, message: &[u8]) -> Option<Refusal> {
 
 // Why an advertisement is refused, where it is.
 pub(crate) fn wrong_advertisement(message: &[u8]) -> Option<Refusal> {
-    let code = message[place::CODE];
-    if code != 0 {
-        return Some(Refusal::Code(code));
+    match message[place::CODE] {
+        NORMAL | NO_COMMON_TRAFFIC => wrong_routers(message),
+        code => Some(Refusal::Code(code)),
     }
-    wrong_routers(message)
 }
 
 fn wrong_routers(message: &[u8]) -> Option<Refusal> {

@@ -11,7 +11,8 @@ use rattle_std::{fmt, io};
 /// not looked at.
 #[derive(Debug, PartialEq, Eq, Clone, Copy)]
 pub enum Refusal {
-    /// The code is not 0, in a message of ICMPv4 of another kind than an extended echo: this is its number.
+    /// The code is not 0, in a message of ICMPv4 of another kind than an extended echo, nor 16 in an advertisement
+    /// (RFC 5944 section 2.1): this is its number.
     Code(u8),
     /// Fewer bytes than a message of this type has.
     Length,

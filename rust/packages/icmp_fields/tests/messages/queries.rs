@@ -261,8 +261,19 @@ fn what_follows_the_code() {
         ),
         (
             false,
-            &[9, 16, 0, 0, 1, 2, 0, 60],
-            "  code=16 (no_common_traffic)\n  rest=0102003c\n  refused=code 16 is not 0\n",
+            &[9, 1, 0, 0, 1, 2, 0, 60, 192, 0, 2, 1, 0, 0, 0, 0],
+            "  code=1\n  rest=0102003cc000020100000000\n  refused=code 1 is not 0\n",
+        ),
+        // A mobility agent that routes no common traffic (RFC 5944 section 2.1).
+        (
+            false,
+            &[9, 16, 0, 0, 1, 2, 0, 60, 192, 0, 2, 1, 0, 0, 0, 0],
+            "  code=16 (no_common_traffic)\n  lifetime=60s\n  router=192.0.2.1 preference_level=0\n",
+        ),
+        (
+            false,
+            &[9, 16, 0, 0, 0, 2, 0, 60],
+            "  code=16 (no_common_traffic)\n  rest=0002003c\n  refused=an advertisement of no routers\n",
         ),
         // A router that is missing, and one of three words that ends behind the second.
         (
@@ -316,6 +327,9 @@ fn why_messages_are_refused() {
         (&[13, 3, 0, 0, 0, 0, 0, 0], Some(Refusal::Code(3))),
         (&[14, 0, 0, 0, 0, 0, 0, 0], Some(Refusal::Length)),
         (&[10, 0, 0, 0, 0, 0, 0, 0], None),
+        (&[9, 15, 0, 0, 1, 2, 0, 0], Some(Refusal::Code(15))),
+        (&[9, 16, 0, 0, 1, 2, 0, 0], Some(Refusal::Cut)),
+        (&[9, 17, 0, 0, 1, 2, 0, 0], Some(Refusal::Code(17))),
         (&[9, 0, 0, 0, 0, 0, 0, 0], Some(Refusal::NoRouters)),
         (&[9, 0, 0, 0, 1, 0, 0, 0], Some(Refusal::EntrySize(0))),
         (&[9, 0, 0, 0, 1, 2, 0, 0], Some(Refusal::Cut)),
