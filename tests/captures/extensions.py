@@ -31,7 +31,8 @@ def refused(why):
 
 
 def structure(octets, is_whole):
-    """An extension structure (RFC 4884 section 7), whose checksum is that of all its octets."""
+    """An extension structure (RFC 4884 section 7), whose checksum is that of all its octets, with one or more objects,
+    which may be what a cut one lacks."""
     why = None
     if len(octets) < 4:
         why = "the header of the extensions is cut"
@@ -39,6 +40,8 @@ def structure(octets, is_whole):
         why = "the extensions are of version %d" % (octets[0] >> 4)
     elif is_whole and octets[2:4] != b"\0\0" and not is_good(octets):
         why = "the checksum of the extensions is wrong"
+    elif is_whole and len(octets) == 4:
+        why = "the extensions have no object"
     return refused(why) + [Field("extensions_octets", octets)] if why else [Entries("extensions", objects(octets[4:]))]
 
 

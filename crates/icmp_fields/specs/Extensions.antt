@@ -1,6 +1,6 @@
 -- Extensions of ICMP errors (RFC 4884), as fields.
 use Rattle.std.specs.Prelude.{◌≡◌, ◌≢◌, ◌≤◌, ◌%◌, ◌++◌, ◌∷◌, [], List, None, Option, Some, ℕ, codes, length, map}
-use Rattle.std.specs.Prelude.{Bool, false, true, drop, Result, Ok, Err}
+use Rattle.std.specs.Prelude.{Bool, IsTrue, false, true, drop, Result, Ok, Err}
 use Rattle.std.specs.Option.{option_map}
 use Rattle.wirebase.specs.Checks.{Check, Fails, Passes, check}
 use Rattle.extension_wire.specs.ExtensionDisplay.{interface_refusal_display, label_refusal_display}
@@ -158,10 +158,20 @@ header_checks false bytes =
     ∷ check (version_in bytes ≡ 2) (StructureRefusal.Version (version_in bytes))
     ∷ []
 
+-- A structure that ends behind its header: it has one or more objects (RFC 4884 section 7). Where the capture cut the
+-- message they may be what is lacking.
+abbrev pub LacksObjects : Bool → List ℕ → Type 0
+LacksObjects is_whole bytes = IsTrue is_whole × (drop 4 bytes ≡ [])
+
+abbrev pub no_object_text : List ℕ
+no_object_text = codes "the extensions have no object"
+
 -- a structure by its objects, or one that is refused
 pub data AreStructureItems (is_whole : Bool) (bytes : List ℕ) (items : List Item) : Type 0 where
-  objects : Passes (header_checks is_whole bytes) → AreObjectsItems (drop 4 bytes) items
-      → AreStructureItems is_whole bytes items
+  objects : Passes (header_checks is_whole bytes) → (LacksObjects is_whole bytes → ⊥)
+      → AreObjectsItems (drop 4 bytes) items → AreStructureItems is_whole bytes items
+  no_objects : Passes (header_checks is_whole bytes) → LacksObjects is_whole bytes
+      → items ≡ refused_structure_items no_object_text bytes → AreStructureItems is_whole bytes items
   refused : (why : StructureRefusal) → Fails (header_checks is_whole bytes) why
       → items ≡ refused_structure_items (structure_refusal_display why) bytes
       → AreStructureItems is_whole bytes items

@@ -2,11 +2,11 @@
 
 #![tactic(auto, using(packet_fields::proofs::Fields::prints_both))]
 
-ghost use Rattle.std.specs.Prelude.{◌≡◌, OnOk};
+ghost use Rattle.std.specs.Prelude.{◌≡◌, ◌≤◌, ◌↔◌, IsTrue, OnOk, length};
 ghost use Rattle.std.specs.Option.{option_map};
 ghost use Rattle.packet_fields.specs.Prints.{Prints, PrintsSome};
 ghost use Rattle.icmp_fields.specs.Extensions.{quoted_in, AreBehind, AreExtensions, AreStructureItems};
-ghost use Rattle.icmp_fields.specs.Extensions.{refused_items, refused_structure_items, AreObjectsItems};
+ghost use Rattle.icmp_fields.specs.Extensions.{refused_items, refused_structure_items, AreObjectsItems, LacksObjects};
 ghost use Rattle.icmp_fields.specs.private.Reasons.{HeaderTold, division_of, why_text};
 
 mod objects;
@@ -89,8 +89,19 @@ fn show_structure<W: Write>(
     if let Some(refusal) = wrong_header(octets, is_whole) {
         return show_refused_structure(output, form, Why::Structure(refusal), octets);
     }
+    if lacks_objects(octets, is_whole) {
+        return show_refused_structure(output, form, Why::NoObject, octets);
+    }
     let (_, inside) = octets.split_at(HEADER_LEN);
     show_list(output, form, inside)
+}
+
+// Whether a structure ends behind its header, and the capture did not cut it there.
+fn lacks_objects(octets: &[u8], is_whole: bool) -> bool
+    requires { 4 ≤ length octets.now }
+    ensures { IsTrue result ↔ LacksObjects is_whole octets.now }
+{
+    is_whole && octets.len() == HEADER_LEN
 }
 
 /// Why a structure is refused, where it is; for its checksum only where the message is whole.

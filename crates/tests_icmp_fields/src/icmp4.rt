@@ -293,7 +293,11 @@ fn extensions_behind_a_quote(rt: HostRuntime) {
             &[0x10, 0, 0, 0],
             "00\n  extensions_refused=the extensions are of version 1\n  extensions_octets=10000000\n",
         ),
-        (32, &[0x20, 0, 0, 0], "00\n"),
+        (
+            32,
+            &[0x20, 0, 0xdf, 0xff],
+            "00\n  extensions_refused=the extensions have no object\n  extensions_octets=2000dfff\n",
+        ),
         (
             33,
             &[],
@@ -325,6 +329,8 @@ fn extensions_that_the_capture_cut(rt: HostRuntime) {
             &[0x20, 0, 0x12, 0x34, 0, 6, 247, 9, 1, 2, 0, 8, 247, 9, 3],
             "00\n  object_247=0102 c_type=9\n  object=0008f70903 refused=the object is cut\n",
         ),
+        // The objects may be what is lacking.
+        (32, &[0x20, 0, 0x12, 0x34], "00\n"),
         (
             32,
             &[0x10, 0, 0x12, 0x34, 0, 6],

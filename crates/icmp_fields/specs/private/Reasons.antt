@@ -8,13 +8,14 @@ use Rattle.extension_wire.specs.Split as split
 use Rattle.extension_wire.specs.declared.refusal.SplitRefusal.{SplitRefusal}
 use Rattle.extension_wire.specs.declared.refusal.StructureRefusal.{StructureRefusal}
 use Rattle.extension_wire.specs.declared.split.Parts.{Parts}
-use Rattle.icmp_fields.specs.Extensions.{Division, header_checks}
+use Rattle.icmp_fields.specs.Extensions.{Division, header_checks, no_object_text}
 use Rattle.icmp_fields.specs.declared.extensions.words.Why.{Why}
 
--- why extensions are refused, or one of them, in the words of the library
+-- why extensions are refused, or one of them
 abbrev pub why_text : Why → List ℕ
 why_text (Why.Split why) = split_refusal_display why
 why_text (Why.Structure why) = structure_refusal_display why
+why_text Why.NoObject = no_object_text
 why_text (Why.Object why) = object_refusal_display why
 why_text (Why.Labels why) = label_refusal_display why
 why_text (Why.Interface why) = interface_refusal_display why

@@ -26,6 +26,8 @@ pub enum Why {
     Split(SplitRefusal),
     /// The structure is refused.
     Structure(StructureRefusal),
+    /// The structure has no object.
+    NoObject,
     /// No object begins.
     Object(ObjectRefusal),
     /// An object has no stack of labels.
@@ -53,6 +55,7 @@ impl Text for Why {
             Why::Structure(StructureRefusal::Checksum) => {
                 S::put_str(output, "the checksum of the extensions is wrong")
             }
+            Why::NoObject => S::put_str(output, "the extensions have no object"),
             Why::Object(ObjectRefusal::Short) => {
                 S::put_str(output, "the header of the object is cut")
             }

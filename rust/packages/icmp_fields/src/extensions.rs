@@ -66,8 +66,16 @@ fn show_structure<W: Write>(
     if let Some(refusal) = wrong_header(octets, is_whole) {
         return show_refused_structure(output, form, Why::Structure(refusal), octets);
     }
+    if lacks_objects(octets, is_whole) {
+        return show_refused_structure(output, form, Why::NoObject, octets);
+    }
     let (_, inside) = octets.split_at(HEADER_LEN);
     show_list(output, form, inside)
+}
+
+// Whether a structure ends behind its header, and the capture did not cut it there.
+fn lacks_objects(octets: &[u8], is_whole: bool) -> bool {
+    is_whole && octets.len() == HEADER_LEN
 }
 
 /// Why a structure is refused, where it is; for its checksum only where the message is whole.
