@@ -81,8 +81,9 @@ pub fn show_message<W: Write>(
 
 /// Prints a message of any type, which need not be known: its type, its code, and of a timestamp (RFC 792), an address
 /// mask (RFC 950), a router solicitation or advertisement (RFC 1256) and an extended echo (RFC 8335) its fields; of
-/// others, and of those that are refused, the octets behind the checksum. Of an advertisement that ends within its
-/// routers what there is. All octets where they are fewer than 4.
+/// others, and of those that are refused, the octets behind the checksum. An advertisement that ends before all of its
+/// routers has those that are there, and why it is refused. Of fewer than 4 octets, all. Of a message that is not whole
+/// the checksum of an extended echo's structure is not verified.
 pub fn show_unread<W: Write>(
     output: &mut W,
     form: Form,

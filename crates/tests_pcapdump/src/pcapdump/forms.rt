@@ -60,7 +60,7 @@ const OBJECTS: &[(usize, &str)] = &[
             \"hop_limit\":64,\"flags\":[\"managed\",\"other\"],\"preference\":0,\
             \"preference_name\":\"medium\",\"router_lifetime\":1800000,\"reachable_time\":1000,\
             \"retrans_time\":100,\"options\":[{\"option\":\"source_link_layer_address\",\
-            \"address\":\"02:00:00:00:00:01\",\"type\":1},{\"option\":\"mtu\",\"mtu\":1500,\"type\":5},\
+            \"addr\":\"02:00:00:00:00:01\",\"type\":1},{\"option\":\"mtu\",\"mtu\":1500,\"type\":5},\
             {\"option\":\"prefix_information\",\"prefix\":\"2001:db8::/64\",\"flags\":[\"on_link\",\
             \"autonomous\"],\"valid_lifetime\":900000,\"preferred_lifetime\":1000000,\"type\":3}]}\n",
     ),

@@ -57,8 +57,9 @@ pub fn show_message<W: Write>(
 }
 
 /// Prints a message of any type, which need not be known: its type, its code, and of node information (RFC 4620) and of
-/// an extended echo (RFC 8335) its fields; of others, and of those that are refused, the octets behind the checksum.
-/// Of an answer that ends within an address what there is. All octets where they are fewer than 4.
+/// an extended echo (RFC 8335) its fields; of others, and of those that are refused, the octets behind the checksum. An
+/// answer that ends within an address has the addresses that are there, and why it is refused. Of fewer than 4 octets,
+/// all. Of a message that is not whole the checksum of an extended echo's structure is not verified.
 pub fn show_unread<W: Write>(
     output: &mut W,
     form: Form,

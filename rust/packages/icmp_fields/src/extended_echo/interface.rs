@@ -43,7 +43,7 @@ const BY_INDEX: u8 = 2;
 
 const BY_ADDRESS: u8 = 3;
 
-// The families whose addresses are not printed by their octets.
+// The families whose addresses are printed as addresses.
 const IPV4: u16 = 1;
 
 const IPV6: u16 = 2;
