@@ -61,8 +61,8 @@ structure_right bytes (long, (two, (inr good, u))) =
     )
     (either (number_of checksum_field bytes == 0) None)
 
-pub header_wrong : (is_whole : Bool) (bytes : List ℕ) (why : StructureRefusal) → Fails (header_checks is_whole bytes) why
-    → structure_refusal is_whole bytes ≡ Some why
+pub header_wrong : (is_whole : Bool) (bytes : List ℕ) (why : StructureRefusal)
+    → Fails (header_checks is_whole bytes) why → structure_refusal is_whole bytes ≡ Some why
 header_wrong true bytes why fails = structure_wrong bytes why fails
 header_wrong false bytes why (inl (short, is)) =
     rw (lt-ltb (length bytes) 4 (omega (arith, short))) (ap (λ (w : StructureRefusal). Some w) (sym is))

@@ -8,9 +8,9 @@ ghost use Rattle.packet_fields.specs.Texts.{address_text};
 ghost use Rattle.wirebase.specs.Sink.{PutsText};
 ghost use Rattle.message_brief.specs.Words.{keyed};
 ghost use Rattle.message_brief.specs.Icmp.{behind4_text, behind6_text, body4_text, body6_text, code_text, echo_text};
-ghost use Rattle.message_brief.specs.Icmp.{head4_text, head6_text, head_text, icmp4_text, icmp6_text, is_echo4, is_echo6};
-ghost use Rattle.message_brief.specs.Icmp.{is_error4, is_error6, is_whole4, is_whole6, length4, length6, mtu_text};
-ghost use Rattle.message_brief.specs.Icmp.{quoted4, quoted6, told4, told6, type6_text, type_text};
+ghost use Rattle.message_brief.specs.Icmp.{head4_text, head6_text, head_text, icmp4_text, icmp6_text, is_echo4};
+ghost use Rattle.message_brief.specs.Icmp.{is_echo6, is_error4, is_error6, is_whole4, is_whole6, length4, length6};
+ghost use Rattle.message_brief.specs.Icmp.{mtu_text, quoted4, quoted6, told4, told6, type6_text, type_text};
 
 use crate::quote::{put_quote4, put_quote6, quoted_part, quotes4, quotes6};
 use crate::words::{Number, put_keyed, put_word};

@@ -4,7 +4,8 @@
 
 ghost use Rattle.std.specs.Prelude.{◌≡◌, IfOk, OnOk};
 ghost use Rattle.packet_fields.specs.Prints.{Prints, PrintsSome};
-ghost use Rattle.message_fields.specs.Icmp.{Icmp4Is, Icmp6Is, IgmpIs, IgmpTold, NdiscTold, NeighborIs, OthersAre, unless_short, group_items, if_group_items, mistake_items, unless_version_3};
+ghost use Rattle.message_fields.specs.Icmp.{Icmp4Is, Icmp6Is, IgmpIs, IgmpTold, NdiscTold, NeighborIs, OthersAre};
+ghost use Rattle.message_fields.specs.Icmp.{unless_short, group_items, if_group_items, mistake_items, unless_version_3};
 ghost use Rattle.message_fields.specs.Icmp.{has_mld_type, has_ndisc_type, refusal_of, unless_told};
 
 use crate::refusal::Refusal;

@@ -6,8 +6,8 @@
 -- +---------------+---------------+-------------------------------+
 -- | group address, sources, auxiliary data in words of 4 octets
 -- +- - - -
-use Rattle.std.specs.Prelude.{zero, suc, ◌==◌, ◌||◌, ◌*◌, ◌/◌, ◌%◌, ◌+◌, ◌-◌, ◌^◌, [], ◌∷◌, ◌++◌, Bool, List, None, Option}
-use Rattle.std.specs.Prelude.{Some, ℕ, codes, drop}
+use Rattle.std.specs.Prelude.{zero, suc, ◌==◌, ◌||◌, ◌*◌, ◌/◌, ◌%◌, ◌+◌, ◌-◌, ◌^◌, [], ◌∷◌, ◌++◌, Bool, List, None}
+use Rattle.std.specs.Prelude.{Option, Some, ℕ, codes, drop}
 use Rattle.std.specs.Prelude.{if◌then◌else◌, length, map, nat_lt, take}
 use Rattle.wirebase.specs.Bytes.{byte_of, bytes_of, field as at, number_of}
 use Rattle.packet_fields.specs.Entries.{hidden_value, keyed_value, octets_entry}

@@ -1,6 +1,7 @@
 -- Rows and the sums of their subjects.
 use Rattle.std.proofs.Common.{◌≡◌, ◌≢◌, ◌+◌, ◌<◌, ◌==◌, ◌∙◌, [], ◌∷◌, Err, List, None, Ok, OnErr, OnOk, Option, Result}
-use Rattle.std.proofs.Common.{Some, ap, arith, false, get_or, length, map, rules, set, subst, suc, sym, take, true, zero}
+use Rattle.std.proofs.Common.{Some, ap, arith, false, get_or, length, map, rules, set, subst, suc, sym, take, true}
+use Rattle.std.proofs.Common.{zero}
 use Rattle.std.proofs.Common.{ℕ}
 use Rattle.std.proofs.lemmas.Bool.{or_parts}
 use Rattle.std.proofs.lemmas.List.{length-map, map-set, set-get_or}

@@ -5,9 +5,9 @@ use crate::testing::same_of;
 use neighbor_fields::ndisc::options::refusal;
 
 // Router solicitations with an option: RFC 3971 section 5.3.2, RFC 4191 section 2.3, RFC 8106 sections 5.1 and 5.2,
-// RFC 8910 sections 2.3 and 2, RFC 8781 section 4 with the prefix of RFC 6052 section 2.1. The routes are of 3, 2, 1 and
-// 2 units and of each preference; the lifetime of the second is infinite, and the last has bits beyond its length, which
-// are no part of its prefix. A comma in a label is told by its number (RFC 1035 section 5.1).
+// RFC 8910 sections 2.3 and 2, RFC 8781 section 4 with the prefix of RFC 6052 section 2.1. The routes are of 3, 2, 1
+// and 2 units and of each preference; the lifetime of the second is infinite, and the last has bits beyond its length,
+// which are no part of its prefix. A comma in a label is told by its number (RFC 1035 section 5.1).
 const OPTIONS: &[(&[u8], &str)] = &[
     (
         &[
@@ -172,8 +172,8 @@ fn options_of_another_form(rt: HostRuntime) {
     }
 }
 
-// The codes of the lengths of prefixes (RFC 8781 section 4), each with a lifetime of 65528 seconds; bits beyond a length
-// are no part of its prefix.
+// The codes of the lengths of prefixes (RFC 8781 section 4), each with a lifetime of 65528 seconds; bits beyond a
+// length are no part of its prefix.
 #[test]
 fn lengths_of_nat64_prefixes(rt: HostRuntime) {
     let rows: &[(u8, &str)] = &[

@@ -78,7 +78,7 @@ impl<A: RouterAddress> Reporter<A> {
     }
 
     /// Is a member of a group from now on, which is reported twice if it was none (RFC 3376 section 5.1,
-    /// RFC 3810 section 6.1). False exactly where the group is new and as many are kept as can be; then nothing changes.
+    /// RFC 3810 section 6.1). False exactly where the group is new and as many are kept as can be: nothing changes.
     pub fn join(&mut self, group: &A) -> bool {
         let before = look_up(self.groups.as_slice(), group);
         let entry = joined(group, before);
@@ -109,8 +109,8 @@ impl<A: RouterAddress> Reporter<A> {
 
     /// Takes a message that came from the link. A query is answered after a time by chance, up to the one that it says,
     /// or with an earlier one (RFC 3376 section 5.2, RFC 3810 section 6.2); a number by chance is to be given. One of
-    /// an older version has the host speak that one for a while. A group that another host reports by an older version is
-    /// not to be reported in answer (RFC 2236 section 3, RFC 2710 section 4). Other messages change nothing.
+    /// an older version has the host speak that one for a while. A group that another host reports by an older version
+    /// is not to be reported in answer (RFC 2236 section 3, RFC 2710 section 4). Other messages change nothing.
     pub fn hear(&mut self, message: &Membership<'_, A>, chance: u32) {
         let delay = delay_in(message, chance);
         match message {
