@@ -73,7 +73,7 @@ def head(octets):
 
 
 def cut(octets):
-    return [Field("refused", CUT_FIELDS), Field("data", octets)], Refused("short", CUT_FIELDS)
+    return [Field("data", octets), Field("refused", CUT_FIELDS)], Refused("short", CUT_FIELDS)
 
 
 def lacking(items):

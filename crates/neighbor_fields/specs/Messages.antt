@@ -32,7 +32,7 @@ head_items bytes =
 
 -- octets that are cut within fields
 abbrev pub cut_items : List ℕ → List Item
-cut_items d = field (codes "refused") (text (lack_text Lack.Fields)) ∷ field (codes "data") (octets d) ∷ []
+cut_items d = field (codes "data") (octets d) ∷ field (codes "refused") (text (lack_text Lack.Fields)) ∷ []
 
 -- octets behind all that is counted, where there are any
 abbrev pub additional_items : List ℕ → List Item

@@ -37,8 +37,8 @@ pub(crate) fn show_cut<W: Write>(output: &mut W, form: Form, octets: &[u8]) -> i
     ensures { OnOk result (Prints form (W.contents output.old) (W.contents output.new)
         (cut_items octets.now)) }
 {
-    field(output, form, "refused", Lack::Fields.phrase())?;
-    field(output, form, "data", octets)
+    field(output, form, "data", octets)?;
+    field(output, form, "refused", Lack::Fields.phrase())
 }
 
 // Prints of what there is less than is counted, where that is so.

@@ -21,8 +21,8 @@ pub(crate) fn show_head<W: Write>(output: &mut W, form: Form, message: &[u8]) ->
 
 // Prints octets that are cut within fields.
 pub(crate) fn show_cut<W: Write>(output: &mut W, form: Form, octets: &[u8]) -> io::Result<()> {
-    field(output, form, "refused", Lack::Fields.phrase())?;
-    field(output, form, "data", octets)
+    field(output, form, "data", octets)?;
+    field(output, form, "refused", Lack::Fields.phrase())
 }
 
 // Prints of what there is less than is counted, where that is so.

@@ -126,8 +126,8 @@ fn igmp() {
         (
             &[0x11, 0x64, 0x00, 0x00, 0x00, 0x00, 0x00, 0x00, 0x02, 0x7d],
             "  type=17 (membership_query)
-  refused=fewer bytes than the fields take
   data=00000000027d
+  refused=fewer bytes than the fields take
 ",
         ),
         (
@@ -166,8 +166,8 @@ fn igmp() {
         ),
         (
             &[0x16, 0x00, 0xf8],
-            "  refused=fewer bytes than the fields take
-  data=1600f8
+            "  data=1600f8
+  refused=fewer bytes than the fields take
 ",
         ),
     ];
@@ -313,16 +313,16 @@ fn mld() {
             &[0x83, 0x00, 0x00, 0x00, 0x00, 0x00],
             "  type=131 (multicast_listener_report)
   code=0
-  refused=fewer bytes than the fields take
   data=0000
+  refused=fewer bytes than the fields take
 ",
         ),
         (
             &[0x8f, 0x00, 0x00, 0x00, 0x00],
             "  type=143 (version_2_multicast_listener_report)
   code=0
-  refused=fewer bytes than the fields take
   data=00
+  refused=fewer bytes than the fields take
 ",
         ),
         (

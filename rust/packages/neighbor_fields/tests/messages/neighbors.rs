@@ -247,14 +247,14 @@ fn messages_that_are_cut() {
     let rows: &[(&[u8], &str)] = &[
         (
             &[135, 0],
-            "  refused=fewer bytes than the fields take\n  data=8700\n",
+            "  data=8700\n  refused=fewer bytes than the fields take\n",
         ),
         (
             &[133, 0, 0, 0, 0, 0],
             "  type=133 (router_solicitation)
   code=0
-  refused=fewer bytes than the fields take
   data=0000
+  refused=fewer bytes than the fields take
 ",
         ),
         (
