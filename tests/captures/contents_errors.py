@@ -126,15 +126,17 @@ class Division:
         self.quoted = self.told if self.told and not self.is_refused else self.there
 
     def extensions(self):
-        """The members behind those of what is quoted. A structure with a wrong checksum is refused, which tshark
-        reads; and so is an object that ends behind it."""
+        """The members behind those of what is quoted. A structure with a wrong checksum or without objects is refused,
+        which tshark reads; and so is an object that ends behind it."""
         if self.is_refused:
             return {"extensions_refused": re.compile(".+")}
-        if self.quoted == self.there:
+        room = self.there - self.quoted
+        if room == 0:
             return {}
-        if self.packet.text("icmp.ext.checksum.status") == "0" or self.packet.number("icmp.ext.version") != 2:
-            return {"extensions_refused": re.compile(".+"), "extensions_octets": octets(self.there - self.quoted)}
-        return {"extensions": list(objects(self.packet, self.there - self.quoted - 4))}
+        if (self.packet.text("icmp.ext.checksum.status") == "0" or self.packet.number("icmp.ext.version") != 2
+                or room == 4):
+            return {"extensions_refused": re.compile(".+"), "extensions_octets": octets(room)}
+        return {"extensions": list(objects(self.packet, room - 4))}
 
 
 def objects(packet, room):

@@ -14,12 +14,13 @@ def refusal(packet, kind, number):
 
 
 def unread(packet, kind, number):
-    """Why a message is not told by its fields, or None: it is short, its code is not 0, or it has wrong routers."""
+    """Why a message is not told by its fields, or None: it is short, its code is wrong, or it has wrong routers. By code
+    16 a mobility agent that routes no common traffic advertises itself (RFC 5944 section 2.1)."""
     if payload_length(packet) < LEAST.get((kind, number), 8):
         return "short"
     if kind == "icmp6" or number in (42, 43):
         return None
-    if packet.number("icmp.code") != 0:
+    if packet.number("icmp.code") not in ((0, 16) if number == 9 else (0,)):
         return "malformed"
     return wrong_routers(packet) if number == 9 else None
 
