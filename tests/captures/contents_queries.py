@@ -14,8 +14,8 @@ def refusal(packet, kind, number):
 
 
 def unread(packet, kind, number):
-    """Why a message is not told by its fields, or None: it is short, its code is wrong, or it has wrong routers. By code
-    16 a mobility agent that routes no common traffic advertises itself (RFC 5944 section 2.1)."""
+    """Why a message is not told by its fields, or None: it is short, its code is wrong, or it has wrong routers. Code
+    16 is that of a mobility agent that routes no common traffic (RFC 5944 section 2.1)."""
     if payload_length(packet) < LEAST.get((kind, number), 8):
         return "short"
     if kind == "icmp6" or number in (42, 43):
