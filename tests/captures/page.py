@@ -249,7 +249,7 @@ def count_neighbor(page, shown, _, octets, __):
     if kind == 134:
         page.routers.add(source, address(source))
         for option in options:
-            if option[0] == PREFIX and len(option) == 32:
+            if option[0] == PREFIX and len(option) == 32 and option[2] <= 128:
                 page.prefixes.add(option[16:32] + option[2:3] + source,
                                   "%s/%d" % (colons(option[16:32]), option[2]), Cell("router", address(source)))
 

@@ -7,7 +7,7 @@ use Rattle.std.specs.Prelude.{◌==◌, find}
 use Rattle.wirebase.specs.Bytes.{byte_of, bytes_of, field as at}
 use Rattle.packet_fields.proofs.PartsInTurn.{enough, first_part}
 use Rattle.neighbor_fields.specs.Ndisc.{option_len}
-use Rattle.packet_stats.specs.Neighbors.{is_of, link_said, options_in, prefix_said}
+use Rattle.packet_stats.specs.Neighbors.{has_prefix, link_said, options_in, prefix_said}
 use Rattle.packet_stats.specs.Row.{said_of}
 use Rattle.packet_stats.specs.Subject.{neighbor, prefix}
 
@@ -45,7 +45,7 @@ pub link_is : (address link option : List ℕ) (found : Option (List ℕ)) → S
 link_is address link option found is same =
     ap (λ (l : List ℕ). said_of (neighbor address l) ∷ []) same ∙ ap (link_said address) is
 
-pub prefix_is : (source option address : List ℕ) (len : ℕ) → is_of 3 4 option ≡ true
+pub prefix_is : (source option address : List ℕ) (len : ℕ) → has_prefix option ≡ true
     → address ≡ bytes_of (at 16 32) option → len ≡ byte_of (at 2 3) option
     → said_of (prefix address len source) ∷ [] ≡ prefix_said source option
 prefix_is source option address len is address_is len_is =

@@ -1,6 +1,6 @@
 -- What messages of neighbor discovery say (RFC 4861 section 4): neighbors, and routers with their prefixes.
 use Rattle.std.specs.Prelude.{◌==◌, ◌&&◌, ◌||◌, ◌*◌, [], ◌∷◌, ◌++◌, Bool, List, None, Option, Some, ℕ, drop, find}
-use Rattle.std.specs.Prelude.{flat_map, if◌then◌else◌, length, nat_lt}
+use Rattle.std.specs.Prelude.{flat_map, if◌then◌else◌, length, nat_le, nat_lt}
 use Rattle.std.specs.List.{list_all}
 use Rattle.wirebase.specs.Bytes.{byte_of, bytes_of, field as at}
 use Rattle.packet_fields.specs.Parts.{parts}
@@ -40,10 +40,13 @@ source_said source options = if is_unspecified source then [] else neighbor_said
 
 -- ---- routers
 
--- an option with a prefix of a router
+-- an option with a prefix of a router (RFC 4861 section 4.6.2), of at most the bits of an address
+abbrev pub has_prefix : List ℕ → Bool
+has_prefix option = is_of 3 4 option && nat_le (byte_of (at 2 3) option) 128
+
 abbrev pub prefix_said : List ℕ → List ℕ → List MentionValue
 prefix_said source option =
-    if is_of 3 4 option
+    if has_prefix option
     then said_of (prefix (bytes_of (at 16 32) option) (byte_of (at 2 3) option) source) ∷ []
     else []
 

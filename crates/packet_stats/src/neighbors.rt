@@ -6,7 +6,7 @@ ghost use Rattle.wirebase.specs.Bytes.{bytes_of, field};
 ghost use Rattle.wirebase.specs.Ipv6Address.{octets_of};
 ghost use Rattle.neighbor_fields.specs.Messages.{type_in};
 ghost use Rattle.neighbor_fields.specs.Ndisc.{header_len};
-ghost use Rattle.packet_stats.specs.Neighbors.{fields_said, is_of, is_unspecified, neighbor_said};
+ghost use Rattle.packet_stats.specs.Neighbors.{fields_said, has_prefix, is_of, is_unspecified, neighbor_said};
 ghost use Rattle.packet_stats.specs.Neighbors.{neighbors_said, options_in, prefix_said, prefixes_said, router_said};
 ghost use Rattle.packet_stats.specs.Neighbors.{source_said};
 ghost use Rattle.packet_stats.specs.Stats.{CountsAll, CountsSome, state_of};
@@ -43,6 +43,9 @@ const UNIT: usize = 8;
 const LINK_ADDRESS_UNITS: u8 = 1;
 
 const PREFIX_UNITS: u8 = 4;
+
+// The bits of an address.
+const MOST_PREFIX: u8 = 128;
 
 // The fields of messages and of options (RFC 4861 sections 4.4 and 4.6).
 mod place {
@@ -198,13 +201,22 @@ impl Stats {
         ensures fault { OnErr result (CountsSome (state_of self.old)
             (prefix_said (octets_of source) option.now) (state_of self.new)) }
     {
-        if is_of(PREFIX_INFORMATION, PREFIX_UNITS, option) {
+        if has_prefix(option) {
             let prefix = v6_of(option.field(place::PREFIX));
             let len = option.u8_at(place::PREFIX_LEN);
             return self.count_subject(alloc, Subject::Prefix(prefix, len, source));
         }
         Ok(())
     }
+}
+
+// Whether an option has a prefix (RFC 4861 section 4.6.2), of at most the bits of an address.
+fn has_prefix(option: &[u8]) -> bool
+    ensures value { result ≡ has_prefix option.now }
+    ensures long { IsTrue result → length option.now ≡ 32 }
+{
+    is_of(PREFIX_INFORMATION, PREFIX_UNITS, option)
+        && option.u8_at(place::PREFIX_LEN) <= MOST_PREFIX
 }
 
 // Whether these octets of an address are all 0.

@@ -33,6 +33,9 @@ const LINK_ADDRESS_UNITS: u8 = 1;
 
 const PREFIX_UNITS: u8 = 4;
 
+// The bits of an address.
+const MOST_PREFIX: u8 = 128;
+
 // The fields of messages and of options (RFC 4861 sections 4.4 and 4.6).
 mod place {
     use control_wire::Field;
@@ -123,13 +126,19 @@ impl Stats {
 
     // Counts the prefix in an option, where it has one.
     fn count_prefix(&mut self, source: Ipv6Address, option: &[u8]) -> Result<(), Fault> {
-        if is_of(PREFIX_INFORMATION, PREFIX_UNITS, option) {
+        if has_prefix(option) {
             let prefix = v6_of(option.field(place::PREFIX));
             let len = option.u8_at(place::PREFIX_LEN);
             return self.count_subject(Subject::Prefix(prefix, len, source));
         }
         Ok(())
     }
+}
+
+// Whether an option has a prefix (RFC 4861 section 4.6.2), of at most the bits of an address.
+fn has_prefix(option: &[u8]) -> bool {
+    is_of(PREFIX_INFORMATION, PREFIX_UNITS, option)
+        && option.u8_at(place::PREFIX_LEN) <= MOST_PREFIX
 }
 
 // Whether these octets of an address are all 0.
