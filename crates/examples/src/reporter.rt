@@ -1,6 +1,6 @@
-//! A host that reports which multicast groups it is a member of, from all sources: when it reports a group, and what of
-//! it, by IGMP, versions 1 to 3 (RFC 1112 appendix I, RFC 2236 section 3, RFC 3376 section 5), over IPv4, and by MLD,
-//! versions 1 and 2 (RFC 2710 section 4, RFC 3810 section 6), over IPv6.
+//! A host that reports which multicast groups it is a member of, from all sources: when it reports a group, and by
+//! which message: by IGMP, versions 1 to 3 (RFC 1112 appendix I, RFC 2236 section 3, RFC 3376 section 5), over IPv4,
+//! and by MLD, versions 1 and 2 (RFC 2710 section 4, RFC 3810 section 6), over IPv6.
 //!
 //! The caller brings the queries that came from the link, the time, and numbers by chance, and sends the reports.
 
@@ -39,7 +39,8 @@ use sources::{ask, take_asked};
 /// The most groups that are kept.
 pub const MOST_GROUPS: usize = 32;
 
-/// The most sources that are kept: where queries ask about more, whole groups are reported.
+/// The most sources that are kept, of all groups together. Where queries ask about more of a group than there is room
+/// for, the whole group is reported.
 pub const MOST_SOURCES: usize = 89;
 
 // A change is reported again within a second (RFC 3376 section 8.11, RFC 3810 section 9.11).
@@ -49,8 +50,8 @@ const UNSOLICITED_REPORT_INTERVAL: u64 = 1_000;
 // RFC 3376 section 8.12.
 const OLDER_QUERIER_TIME: u64 = 260_000;
 
-/// The groups that a host is a member of on a link, and the reports that it owes. The group of all hosts, which nobody
-/// reports (RFC 3376 section 5, RFC 3810 section 6), is not to be among them.
+/// The groups that a host is a member of on a link, and the reports that it owes. Groups that nobody reports are not to
+/// be among them: that of all hosts (RFC 3376 section 5), and those of IPv6 whose scope is 0 or 1 (RFC 3810 section 6).
 #[derive(Drop)]
 pub struct Reporter<A> {
     older: OlderQueriers,
@@ -92,7 +93,7 @@ impl<A: RouterAddress> Reporter<A> {
         }
     }
 
-    /// The version that is spoken now: the lowest of those of which a query came in the last time
+    /// The version that is spoken now: the lowest whose time after a query is not over, or else the newest
     /// (RFC 3376 section 7.2.1, RFC 3810 section 8.2.1).
     pub fn version(&self) -> u8
         ensures { Speaks A.family (state_of self.now).older result }
@@ -128,7 +129,7 @@ impl<A: RouterAddress> Reporter<A> {
         remove(&mut self.asked, &AskedKey::of_group(group));
     }
 
-    /// Lets so many milliseconds pass. A group that was left is dropped when that is reported.
+    /// Lets so many milliseconds pass. A group that was left is dropped by the first call after its last report.
     pub fn pass(&mut self, milliseconds: u32)
         ensures { state_of self.new ≡ later milliseconds (state_of self.old) }
     {

@@ -55,7 +55,7 @@ pub struct Report<A> {
     pub is_member: bool,
     /// Whether that has changed. If not, it answers queries.
     pub is_change: bool,
-    /// The sources that queries asked about. None where they asked about the group.
+    /// The sources that queries asked about: empty where they asked about the group, and of a change.
     pub asked: ArrayVec<AskedSource<A>, MOST_SOURCES>,
 }
 
@@ -86,8 +86,8 @@ impl<A: MemberAddress> Report<A> {
         }
     }
 
-    /// The message of this version, which in the newest has these records. None where the version has none: who leaves
-    /// a group tells nobody by version 1 of IGMP.
+    /// The message of this version, which in the newest has these records. None where the version has none: version 1
+    /// of IGMP has no message of a host that leaves.
     pub fn message<'a>(&self, version: u8, records: Records<'a, A>) -> Option<Membership<'a, A>>
         ensures { option_map (value_of A.bytes) result ≡ message_of A.bytes A.family version
             (count_in records.entry) (octets_in records.entry) (told_in self.now) }

@@ -20,7 +20,7 @@ const ROBUSTNESS: u8 = 2;
 pub struct Reported<A> {
     /// The group.
     pub group: A,
-    /// Whether the host is a member of it; one that it has left is kept until that is reported.
+    /// Whether the host is a member of it; one that it has left is kept until time passes after its last report.
     pub is_member: bool,
     /// How many reports of this are left.
     pub changes: u8,

@@ -46,7 +46,7 @@ pub struct Report<A> {
     pub is_member: bool,
     /// Whether that has changed. If not, it answers queries.
     pub is_change: bool,
-    /// The sources that queries asked about. None where they asked about the group.
+    /// The sources that queries asked about: empty where they asked about the group, and of a change.
     pub asked: ArrayVec<AskedSource<A>, MOST_SOURCES>,
 }
 
@@ -73,8 +73,8 @@ impl<A: MemberAddress> Report<A> {
         }
     }
 
-    /// The message of this version, which in the newest has these records. None where the version has none: who leaves
-    /// a group tells nobody by version 1 of IGMP.
+    /// The message of this version, which in the newest has these records. None where the version has none: version 1
+    /// of IGMP has no message of a host that leaves.
     pub fn message<'a>(&self, version: u8, records: Records<'a, A>) -> Option<Membership<'a, A>> {
         let group = self.group;
         if is_newest::<A>(version) {
