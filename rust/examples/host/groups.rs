@@ -46,8 +46,9 @@ impl Group for Ipv6Address {
     }
 
     fn send(host: &mut Host, to: Self, message: &Membership<'_, Self>) {
-        // It comes from `::` as long as there is no other address (RFC 3590 section 4).
+        // It comes from `::` as long as there is no link-local address (RFC 3590 section 4).
         let own = host.addresses.source(&host.link_local);
+        let own = own.filter(Ipv6Address::is_link_local);
         let (own, len) = (own.unwrap_or(Self::UNSPECIFIED), message.buffer_len());
         let message = written(len, |it| message.emit_mld(it, &own, &to), &[]);
         let payload = written(8, listener::router_alert, &message);

@@ -73,7 +73,8 @@ impl Host {
             println!("address {}", own.address);
             if own.address == self.link_local {
                 // It reports its groups again, from this address.
-                for entry in self.mld.groups().to_vec() {
+                let groups = self.mld.groups().to_vec();
+                for entry in groups.iter().filter(|it| it.is_member) {
                     self.mld.leave(&entry.group);
                     self.mld.join(&entry.group);
                 }

@@ -54,7 +54,10 @@ impl Host {
         let datagram = Datagram::parse_v4(packet).ok()?;
         let (payload, mut out) = (datagram.payload, vec![0; packet.len().max(600)]);
         let len = match datagram.protocol {
-            IpProtocol::Igmp => return self.hear(&Membership::parse_igmp(payload).ok()?),
+            // It comes from the link (RFC 3376 section 4).
+            IpProtocol::Igmp if datagram.hop_limit == 1 => {
+                return self.hear(&Membership::parse_igmp(payload).ok()?);
+            }
             // Nobody is there to be answered, or all hosts would answer (RFC 1122 section 3.2.2).
             _ if from.is_unspecified() || to == Ipv4Address::HOSTS => return None,
             IpProtocol::Icmp => ping::answer(payload, &mut out)?,
